@@ -1,0 +1,4 @@
+pub mod FiniteMap
+pub mod FiniteSet
+pub mod Code
+pub mod Laws
