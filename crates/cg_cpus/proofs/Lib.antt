@@ -1,0 +1,10 @@
+pub mod Bits
+pub mod Trimmed
+pub mod Ranges
+pub mod Runs
+pub mod Grammar
+pub mod Members
+pub mod Writing
+pub mod Canonical
+pub mod Equal
+pub mod Intersection

@@ -1,0 +1,185 @@
+//! Sets of CPU numbers.
+ghost use Rattle.std.specs.Prelude.{◌≡◌, ◌∷◌, [], not, ◌++◌, ◌+◌, ◌<◌, ◌≤◌, ◌↔◌, ◌⊎◌, IsTrue, IfOk, IfErr, IfNone, IfSome, OnOk, OnErr, ℕ};
+ghost use Rattle.std.proofs.Common.{nat_eq, rules};
+ghost use Rattle.std.specs.Cmp.Lexicographic.{pointwise};
+ghost use Rattle.std.specs.Cmp.Rules.{comparing};
+ghost use Rattle.std.specs.Result.{IsErrOf};
+ghost use Rattle.cg_maps.specs.FiniteSet.{FiniteSet, has, in_common, is_empty_set, members, no_members, with_member};
+ghost use Rattle.cg_name.specs.declared.refusal.Refusal.TheVariants.{Memory, Syntax};
+ghost use Rattle.cg_cpus.specs.Ascending.{runs_from};
+ghost use Rattle.cg_cpus.specs.CpuList.{cpus_text, SpellsCpus};
+
+use crate::list;
+use cg_name::refusal::Refusal;
+use std::marker::Model;
+
+/// A set of CPU numbers, each from 0 to 1,023.
+#[derive(Clone, Copy, Debug)]
+pub struct CpuSet {
+    words: [u64; 16],
+}
+
+impl Model for CpuSet {
+    ghost use Rattle.cg_maps.specs.FiniteSet.{FiniteSet};
+    ghost use Rattle.cg_maps.specs.Code.{set_code};
+    ghost use Rattle.cg_cpus.specs.Words.{AreWords, set_in, words_of};
+    ghost use Rattle.cg_cpus.specs.WordsBack.{words_back};
+
+    ghost Value = { FiniteSet };
+
+    ghost coded = { set_code };
+
+    ghost view = { λ s. set_in s.words };
+
+    ghost invariant = { λ s. AreWords s.words };
+
+    ghost inverse = { λ s. record { words = words_of s } };
+
+    ghost inverse_ok = { λ s h i. record { words = words_back s.words h i } };
+}
+
+impl PartialEq for CpuSet {
+    ghost eq = { λ s t. pointwise nat_eq (members s) (members t) };
+
+    ghost laws = { Prim.search (comparing, rules) };
+
+    fn eq(&self, other: &CpuSet) -> bool {
+        self.words == other.words
+    }
+}
+
+impl Eq for CpuSet {
+    ghost laws = { Prim.search (comparing, rules) };
+}
+
+impl CpuSet {
+    /// One more than the greatest number that a set can have.
+    pub const LIMIT: u16 = 1024;
+
+    /// The set of no number.
+    pub fn empty() -> CpuSet
+        ensures { result ≡ no_members }
+    {
+        CpuSet { words: [0; 16] }
+    }
+
+    /// Whether the number is in the set; no number from 1,024 on is.
+    pub fn contains(&self, cpu: u16) -> bool
+        ensures member { result ≡ has self.now cpu }
+        ensures below { (n : ℕ) → IsTrue (has self.now n) → n < 1024 }
+    {
+        cpu < CpuSet::LIMIT && self.words[usize::from(cpu / 64)] >> (cpu % 64) & 1 == 1
+    }
+
+    /// Whether the set has no number.
+    pub fn is_empty(&self) -> bool
+        ensures { result ≡ is_empty_set self.now }
+    {
+        self.words.iter().all(|word| *word == 0)
+    }
+
+    /// Puts the number in.
+    pub fn insert(&mut self, cpu: u16)
+        requires { cpu < 1024 }
+        ensures { self.new ≡ with_member self.old cpu }
+    {
+        self.words[usize::from(cpu / 64)] |= 1 << (cpu % 64);
+    }
+
+    /// Puts in every number from the first to the last.
+    pub(crate) fn insert_range(&mut self, first: u16, last: u16)
+        requires order { first ≤ last }
+        requires below { last < 1024 }
+        ensures { (n : ℕ) → IsTrue (has self.new n) ↔ (IsTrue (has self.old n) ⊎ ((first ≤ n) × (n ≤ last))) }
+    {
+        for cpu in first..last + 1 {
+            self.insert(cpu);
+        }
+    }
+
+    /// The greatest number of the set; `None` where it is empty.
+    pub fn last(&self) -> Option<u16>
+        ensures member { IfSome result (λ cpu. IsTrue (has self.now cpu)) }
+        ensures greatest { IfSome result (λ cpu. (n : ℕ) → IsTrue (has self.now n) → n ≤ cpu) }
+        ensures none { IfNone result (self.now ≡ no_members) }
+        ensures below { (n : ℕ) → IsTrue (has self.now n) → n < 1024 }
+    {
+        // What is known of the words bounds the numbers.
+        let _ = &self.words;
+        let mut end = CpuSet::LIMIT;
+        while end > 0 {
+            end -= 1;
+            if self.contains(end) {
+                return Some(end);
+            }
+        }
+        None
+    }
+
+    /// What is in both sets.
+    pub fn intersect(self, other: CpuSet) -> CpuSet
+        ensures { result ≡ in_common self other }
+    {
+        let mut words = self.words;
+        for i in 0..words.len() {
+            words[i] &= other.words[i];
+        }
+        CpuSet { words }
+    }
+
+    // The first number from `from` on that is in the set, or that isn't; 1,024 where none is.
+    fn first_where(&self, from: u16, present: bool) -> u16
+        requires { from ≤ 1024 }
+        ensures bounds { (from ≤ result) × (result ≤ 1024) }
+        ensures before { (n : ℕ) → from ≤ n → n < result → has self.now n ≡ not present }
+        ensures here { result < 1024 → has self.now result ≡ present }
+    {
+        let mut cpu = from;
+        while cpu < CpuSet::LIMIT && self.contains(cpu) != present {
+            cpu += 1;
+        }
+        cpu
+    }
+
+    // The first run from `from` on, as its first and last number.
+    pub(crate) fn run_from(&self, from: u16) -> Option<(u16, u16)>
+        requires { from ≤ 1024 }
+        ensures run { IfSome result (λ r. runs_from self.now from ≡ r ∷ runs_from self.now (r.1 + 1)) }
+        ensures bounds { IfSome result (λ r. (from ≤ r.0) × (r.0 ≤ r.1) × (r.1 < 1024)) }
+        ensures none { IfNone result (runs_from self.now from ≡ []) }
+    {
+        let first = self.first_where(from, true);
+        if first == CpuSet::LIMIT {
+            return None;
+        }
+        let end = self.first_where(first, false);
+        Some((first, end - 1))
+    }
+
+    /// The set that a list of numbers and ranges spells, as `0-4,6`; `Syntax` where it spells none.
+    pub fn read(text: &str) -> Result<CpuSet, Refusal>
+        ensures value { IfOk result (λ s. SpellsCpus text.now s) }
+        ensures syntax { IsErrOf result Syntax → (s : FiniteSet) → SpellsCpus text.now s → ⊥ }
+        ensures refusals { IfErr result (λ e. e ≡ Syntax) }
+        ensures below { IfOk result (λ s. (n : ℕ) → IsTrue (has s n) → n < 1024) }
+    {
+        list::read(text)
+    }
+
+    /// Appends the set's list: its runs, ascending; `Memory` leaves `out` as it was.
+    pub fn write(&self, out: &mut Vec<u8>) -> Result<(), Refusal>
+        ensures text { OnOk result (out.new.items ≡ out.old.items ++ cpus_text self.now) }
+        ensures unchanged { OnErr result (out.new.items ≡ out.old.items) }
+        ensures refusals { IfErr result (λ e. e ≡ Memory) }
+        ensures below { (n : ℕ) → IsTrue (has self.now n) → n < 1024 }
+    {
+        // What is known of the words bounds the numbers.
+        let _ = &self.words;
+        let start = out.len();
+        let written = list::append_runs(self, out);
+        if written.is_err() {
+            out.truncate(start);
+        }
+        written
+    }
+}

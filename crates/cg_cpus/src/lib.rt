@@ -1,0 +1,8 @@
+//! Sets of CPU numbers, and the lists in which they are read and written.
+#![tactic(auto)]
+
+pub mod cpu_set;
+pub mod laws;
+mod list;
+#[cfg(test)]
+mod tests;

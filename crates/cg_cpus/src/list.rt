@@ -1,0 +1,143 @@
+//! Lists of CPU numbers, as `0-4,6,8-10`.
+ghost use Rattle.std.specs.Prelude.{◌≡◌, ◌++◌, ◌<◌, ◌≤◌, IsTrue, IfOk, IfErr, IfNone, IfSome, OnOk, OnErr, ℕ, length, reverse, take};
+ghost use Rattle.std.specs.Result.{IsErrOf};
+ghost use Rattle.cg_maps.specs.FiniteSet.{FiniteSet, has};
+ghost use Rattle.cg_name.specs.declared.refusal.Refusal.TheVariants.{Memory, Syntax};
+ghost use Rattle.cg_cpus.specs.Ascending.{separated};
+ghost use Rattle.cg_cpus.specs.Blanks.{starts_blank};
+ghost use Rattle.cg_cpus.specs.CpuList.{cpus_text, IsCpuNumber, run_text, SpellsCpus, SpellsRange, SpellsTrimmed, without_leading_blanks, without_trailing_blanks};
+
+use crate::cpu_set::CpuSet;
+use cg_name::refusal::Refusal;
+use itoa::Buffer;
+
+// Whether the text begins with a space, a tab or a newline.
+fn starts_blank(text: &str) -> bool
+    ensures { result ≡ starts_blank text.now }
+{
+    matches!(text.as_bytes(), [b' ' | b'\t' | b'\n', ..])
+}
+
+// Whether the text ends with one.
+fn ends_blank(text: &str) -> bool
+    ensures { result ≡ starts_blank (reverse text.now) }
+{
+    matches!(text.as_bytes(), [.., b' ' | b'\t' | b'\n'])
+}
+
+// The text behind its leading blanks.
+fn trim_front(text: &str) -> &str
+    ensures { result.now ≡ without_leading_blanks text.now }
+{
+    let mut rest = text;
+    while starts_blank(rest) {
+        rest = &rest[1..];
+    }
+    rest
+}
+
+// The text before its trailing blanks.
+fn trim_back(text: &str) -> &str
+    ensures { result.now ≡ without_trailing_blanks text.now }
+{
+    let mut rest = text;
+    while ends_blank(rest) {
+        rest = &rest[..rest.len() - 1];
+    }
+    rest
+}
+
+// A number of decimal digits alone, below 1,024.
+fn read_number(digits: &str) -> Result<u16, Refusal>
+    ensures value { IfOk result (λ n. IsCpuNumber digits.now n) }
+    ensures syntax { OnErr result ((n : ℕ) → IsCpuNumber digits.now n → ⊥) }
+    ensures refusals { IfErr result (λ e. e ≡ Syntax) }
+{
+    if digits.starts_with('+') {
+        return Err(Refusal::Syntax);
+    }
+    match digits.parse::<u16>() {
+        Ok(number) if number < CpuSet::LIMIT => Ok(number),
+        _ => Err(Refusal::Syntax),
+    }
+}
+
+// The first and the last number of an element.
+fn read_range(element: &str) -> Result<(u16, u16), Refusal>
+    ensures value { IfOk result (λ r. SpellsRange element.now r.0 r.1) }
+    ensures order { IfOk result (λ r. (r.0 ≤ r.1) × (r.1 < 1024)) }
+    ensures syntax { OnErr result ((first : ℕ) (last : ℕ) → SpellsRange element.now first last → ⊥) }
+    ensures refusals { IfErr result (λ e. e ≡ Syntax) }
+{
+    let Some((low, high)) = element.split_once('-') else {
+        let number = read_number(element)?;
+        return Ok((number, number));
+    };
+    let first = read_number(low)?;
+    let last = read_number(high)?;
+    if first <= last {
+        Ok((first, last))
+    } else {
+        Err(Refusal::Syntax)
+    }
+}
+
+// The set of a list with no blanks around it.
+fn read_elements(text: &str) -> Result<CpuSet, Refusal>
+    ensures value { IfOk result (λ s. SpellsTrimmed text.now s) }
+    ensures syntax { OnErr result ((s : FiniteSet) → SpellsTrimmed text.now s → ⊥) }
+    ensures refusals { IfErr result (λ e. e ≡ Syntax) }
+{
+    let mut set = CpuSet::empty();
+    if text.is_empty() {
+        return Ok(set);
+    }
+    for element in text.split(',') {
+        let (first, last) = read_range(element)?;
+        set.insert_range(first, last);
+    }
+    Ok(set)
+}
+
+// The set that a list spells.
+pub(crate) fn read(text: &str) -> Result<CpuSet, Refusal>
+    ensures value { IfOk result (λ s. SpellsCpus text.now s) }
+    ensures syntax { IsErrOf result Syntax → (s : FiniteSet) → SpellsCpus text.now s → ⊥ }
+    ensures refusals { IfErr result (λ e. e ≡ Syntax) }
+    ensures below { IfOk result (λ s. (n : ℕ) → IsTrue (has s n) → n < 1024) }
+{
+    read_elements(trim_back(trim_front(text)))
+}
+
+// Appends a run, with a comma before it where it stands behind another; a refusal leaves what stood there at the front.
+fn append_run(behind: bool, first: u16, last: u16, out: &mut Vec<u8>) -> Result<(), Refusal>
+    ensures text { OnOk result (out.new.items ≡ out.old.items ++ separated behind (run_text (first, last))) }
+    ensures kept { OnErr result (take (length out.old.items) out.new.items ≡ out.old.items) }
+    ensures refusals { IfErr result (λ e. e ≡ Memory) }
+{
+    let mut buffer = Buffer::new();
+    if behind {
+        out.push(b',')?;
+    }
+    out.extend_from_slice(buffer.format(first).as_bytes())?;
+    if first != last {
+        out.push(b'-')?;
+        out.extend_from_slice(buffer.format(last).as_bytes())?;
+    }
+    Ok(())
+}
+
+// Appends the set's runs; a refusal leaves what stood there at the front.
+pub(crate) fn append_runs(set: &CpuSet, out: &mut Vec<u8>) -> Result<(), Refusal>
+    requires { (n : ℕ) → IsTrue (has set.now n) → n < 1024 }
+    ensures text { OnOk result (out.new.items ≡ out.old.items ++ cpus_text set.now) }
+    ensures kept { OnErr result (take (length out.old.items) out.new.items ≡ out.old.items) }
+    ensures refusals { IfErr result (λ e. e ≡ Memory) }
+{
+    let mut next = 0;
+    while let Some((first, last)) = set.run_from(next) {
+        append_run(next > 0, first, last, out)?;
+        next = last + 1;
+    }
+    Ok(())
+}
