@@ -1,0 +1,3 @@
+pub mod Controllers
+pub mod Settings
+pub mod Words

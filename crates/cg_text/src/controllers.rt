@@ -1,0 +1,84 @@
+//! Sets of controllers.
+ghost use Rattle.std.specs.Prelude.{◌≡◌, ◌↔◌, IsTrue, true, false, Bool};
+ghost use Rattle.cg_text.specs.Controllers.{has, no_controllers, with_controller, is_no_controllers, is_within};
+
+use cg_name::controller::Controller;
+
+/// A set of controllers.
+#[derive(Clone, Copy, Debug, PartialEq, Eq)]
+pub struct Controllers {
+    pub cpuset: bool,
+    pub cpu: bool,
+    pub io: bool,
+    pub memory: bool,
+    pub hugetlb: bool,
+    pub pids: bool,
+    pub rdma: bool,
+    pub misc: bool,
+}
+
+impl Controllers {
+    /// The set of none.
+    pub fn empty() -> Controllers
+        ensures { result ≡ no_controllers }
+    {
+        Controllers {
+            cpuset: false,
+            cpu: false,
+            io: false,
+            memory: false,
+            hugetlb: false,
+            pids: false,
+            rdma: false,
+            misc: false,
+        }
+    }
+
+    /// Whether the set has the controller.
+    pub fn contains(&self, controller: Controller) -> bool
+        ensures { result ≡ has self.now controller }
+    {
+        match controller {
+            Controller::Cpuset => self.cpuset,
+            Controller::Cpu => self.cpu,
+            Controller::Io => self.io,
+            Controller::Memory => self.memory,
+            Controller::Hugetlb => self.hugetlb,
+            Controller::Pids => self.pids,
+            Controller::Rdma => self.rdma,
+            Controller::Misc => self.misc,
+        }
+    }
+
+    /// Adds the controller.
+    pub fn insert(&mut self, controller: Controller)
+        ensures { self.new ≡ with_controller controller self.old }
+    {
+        match controller {
+            Controller::Cpuset => self.cpuset = true,
+            Controller::Cpu => self.cpu = true,
+            Controller::Io => self.io = true,
+            Controller::Memory => self.memory = true,
+            Controller::Hugetlb => self.hugetlb = true,
+            Controller::Pids => self.pids = true,
+            Controller::Rdma => self.rdma = true,
+            Controller::Misc => self.misc = true,
+        }
+    }
+
+    /// Whether the set has no controller.
+    pub fn is_empty(&self) -> bool
+        ensures { IsTrue result ↔ (self.now ≡ no_controllers) }
+    {
+        *self == Controllers::empty()
+    }
+
+    /// Whether the other set has every controller of this one.
+    pub fn is_subset(&self, other: &Controllers) -> bool
+        ensures { result ≡ is_within self.now other.now }
+    {
+        Controller::ALL
+            .iter()
+            .all(|c| !self.contains(*c) || other.contains(*c))
+    }
+}
