@@ -1,0 +1,2 @@
+mod MachineLaws
+mod WorkedRows

@@ -1,0 +1,15 @@
+pub mod Code
+pub mod Tree
+pub mod Rows
+pub mod Sound
+pub mod Command
+pub mod Record
+pub mod Laws
+pub mod Machine
+pub mod MachineCode
+pub use Rattle.cg_maps.specs.FiniteMap
+pub use Rattle.cg_maps.specs.FiniteSet
+pub use Rattle.cg_name.specs.Name
+pub use Rattle.cg_name.specs.Path
+pub use Rattle.cg_text.specs.Controllers
+pub use Rattle.cg_text.specs.Settings
