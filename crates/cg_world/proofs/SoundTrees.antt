@@ -1,0 +1,222 @@
+-- Soundness, part by part.
+use Rattle.std.proofs.Common.{◌≡◌, ◌↔◌, suc, ◌-◌, Bool, true, false, IsTrue, cond, not, ◌||◌, List, [], ◌∷◌, take, length, Option, Some, None, is_some, IfSome, refl, sym, ap, subst, ◌∙◌, true≢false, arith}
+use Rattle.std.specs.declared.cmp.Ordering.{Ordering}
+use Rattle.std.specs.Ordering.{eq_by_cmp}
+use Rattle.std.specs.Cmp.{IsTotalOrder}
+use Rattle.std.specs.List.{AllByRecursion, list_all, list_any}
+use Rattle.std.specs.FinMap.{IsAntisymmetric}
+use Rattle.std.specs.FinMap.Entries.{find}
+use Rattle.cg_maps.specs.FiniteMap.{FiniteMap, from_entries, get}
+use Rattle.cg_maps.specs.FiniteSet.{is_empty_set}
+use Rattle.cg_maps.proofs.Maps.{here, is_same, get-from_entries}
+use Rattle.cg_name.specs.Name.{Name, same_name}
+use Rattle.cg_name.specs.Path.{Path, is_root, is_parent}
+use Rattle.cg_name.specs.Order.{name_cmp_total, name_cmp_exact}
+use Rattle.cg_name.specs.declared.controller.Controller.{Controller}
+use Rattle.cg_name.specs.declared.controller.Controller.TheVariants.{Cpuset, Cpu, Io, Memory, Hugetlb, Pids, Rdma, Misc}
+use Rattle.cg_text.specs.Controllers.{has, no_controllers, is_no_controllers, is_within, IsWithin}
+use Rattle.cg_text.specs.declared.controllers.Controllers.{Controllers}
+use Rattle.cg_text.specs.declared.settings.Settings.{Settings}
+use Rattle.cg_model.specs.Tree.{Tree, group}
+use Rattle.cg_model.specs.Sound.{Sound, IsChildOf, IsRootOf, admits}
+use Rattle.cg_world.specs.Soundness.{HasSoundRoot, HasSoundGroups, HasSoundPlaces, IsSoundGroup, IsSoundPlace}
+use Rattle.cg_world.proofs.Conjunctions.{and_first, and_second, and_both}
+
+-- ---- tests
+
+implies : (a b : Bool) → (not a || b) ≡ true → a ≡ true → b ≡ true
+implies true b e h = e
+implies false b e h = absurd (true≢false (sym h))
+
+implied : (a b : Bool) → (a ≡ true → b ≡ true) → (not a || b) ≡ true
+implied true b h = h refl
+implied false b h = refl
+
+neither_first : (a b : Bool) → not (a || b) ≡ true → a ≡ false
+neither_first true b e = absurd (true≢false (sym e))
+neither_first false b e = refl
+
+neither_second : (a b : Bool) → not (a || b) ≡ true → not b ≡ true
+neither_second true b e = absurd (true≢false (sym e))
+neither_second false b e = e
+
+-- ---- sets of controllers
+
+module _ (s t : Controllers) where
+  abbrev at : Controller → Bool
+  at c = not (has s c) || has t c
+
+  -- a set is within another exactly where the test says so
+  pub within : is_within s t ≡ true → IsWithin s t
+  within e =
+      let e1 : list_all at (Cpu ∷ Io ∷ Memory ∷ Hugetlb ∷ Pids ∷ Rdma ∷ Misc ∷ []) ≡ true = and_second (at Cpuset) _ e in
+      let e2 : list_all at (Io ∷ Memory ∷ Hugetlb ∷ Pids ∷ Rdma ∷ Misc ∷ []) ≡ true = and_second (at Cpu) _ e1 in
+      let e3 : list_all at (Memory ∷ Hugetlb ∷ Pids ∷ Rdma ∷ Misc ∷ []) ≡ true = and_second (at Io) _ e2 in
+      let e4 : list_all at (Hugetlb ∷ Pids ∷ Rdma ∷ Misc ∷ []) ≡ true = and_second (at Memory) _ e3 in
+      let e5 : list_all at (Pids ∷ Rdma ∷ Misc ∷ []) ≡ true = and_second (at Hugetlb) _ e4 in
+      let e6 : list_all at (Rdma ∷ Misc ∷ []) ≡ true = and_second (at Pids) _ e5 in
+      let e7 : list_all at (Misc ∷ []) ≡ true = and_second (at Rdma) _ e6 in
+      λ c. elim c as (λ c. has s c ≡ true → has t c ≡ true) [
+        | Cpuset ↦ implies s.cpuset t.cpuset (and_first (at Cpuset) _ e)
+        | Cpu ↦ implies s.cpu t.cpu (and_first (at Cpu) _ e1)
+        | Io ↦ implies s.io t.io (and_first (at Io) _ e2)
+        | Memory ↦ implies s.memory t.memory (and_first (at Memory) _ e3)
+        | Hugetlb ↦ implies s.hugetlb t.hugetlb (and_first (at Hugetlb) _ e4)
+        | Pids ↦ implies s.pids t.pids (and_first (at Pids) _ e5)
+        | Rdma ↦ implies s.rdma t.rdma (and_first (at Rdma) _ e6)
+        | Misc ↦ implies s.misc t.misc (and_first (at Misc) _ e7)
+      ]
+
+  pub tells_within : IsWithin s t → is_within s t ≡ true
+  tells_within h =
+      let one : (c : Controller) → at c ≡ true = λ c. implied (has s c) (has t c) (h c) in
+      and_both _ _ (one Cpuset) (and_both _ _ (one Cpu) (and_both _ _ (one Io) (and_both _ _ (one Memory) (and_both _ _ (one Hugetlb) (and_both _ _ (one Pids) (and_both _ _ (one Rdma) (and_both _ _ (one Misc) refl)))))))
+
+-- the set that the test calls empty has no controller
+pub none_within : (s : Controllers) → is_no_controllers s ≡ true → s ≡ no_controllers
+none_within s e =
+    let e1 : not (list_any (has s) (Cpu ∷ Io ∷ Memory ∷ Hugetlb ∷ Pids ∷ Rdma ∷ Misc ∷ [])) ≡ true = neither_second s.cpuset _ e in
+    let e2 : not (list_any (has s) (Io ∷ Memory ∷ Hugetlb ∷ Pids ∷ Rdma ∷ Misc ∷ [])) ≡ true = neither_second s.cpu _ e1 in
+    let e3 : not (list_any (has s) (Memory ∷ Hugetlb ∷ Pids ∷ Rdma ∷ Misc ∷ [])) ≡ true = neither_second s.io _ e2 in
+    let e4 : not (list_any (has s) (Hugetlb ∷ Pids ∷ Rdma ∷ Misc ∷ [])) ≡ true = neither_second s.memory _ e3 in
+    let e5 : not (list_any (has s) (Pids ∷ Rdma ∷ Misc ∷ [])) ≡ true = neither_second s.hugetlb _ e4 in
+    let e6 : not (list_any (has s) (Rdma ∷ Misc ∷ [])) ≡ true = neither_second s.pids _ e5 in
+    let e7 : not (list_any (has s) (Misc ∷ [])) ≡ true = neither_second s.rdma _ e6 in
+    λ i. record {
+      cpuset = neither_first s.cpuset _ e i;
+      cpu = neither_first s.cpu _ e1 i;
+      io = neither_first s.io _ e2 i;
+      memory = neither_first s.memory _ e3 i;
+      hugetlb = neither_first s.hugetlb _ e4 i;
+      pids = neither_first s.pids _ e5 i;
+      rdma = neither_first s.rdma _ e6 i;
+      misc = neither_first s.misc _ e7 i;
+    }
+
+pub tells_none : (s : Controllers) → s ≡ no_controllers → is_no_controllers s ≡ true
+tells_none s e = ap is_no_controllers e
+
+-- ---- a parent's path
+
+name_same : (n m : Name) → same_name n m ≡ true → n ≡ m
+unfolding same_name
+name_same n m e = is_same name_cmp_total name_cmp_exact n m e
+
+same_as_itself : (n : Name) → same_name n n ≡ true
+unfolding same_name
+same_as_itself n = here name_cmp_total name_cmp_exact n
+
+root_empty : (p : Path) → is_root p ≡ true → p ≡ []
+root_empty [] e = refl
+root_empty (n ∷ p) e = absurd (true≢false (sym e))
+
+front_of_child : (q : Path) (n : Name) (p : Path) → is_parent q (n ∷ p) ≡ true → q ≡ take (length p) (n ∷ p)
+front_of_child [] n p e = ap (λ r. take (length r) (n ∷ r)) (sym (root_empty p e))
+front_of_child (m ∷ q) n [] e = absurd (true≢false (sym (and_second (same_name m n) false e)))
+front_of_child (m ∷ q) n (k ∷ p) e = λ i. name_same m n (and_first _ _ e) i ∷ front_of_child q k p (and_second (same_name m n) _ e) i
+
+front_is_parent : (n : Name) (p : Path) → is_parent (take (length p) (n ∷ p)) (n ∷ p) ≡ true
+front_is_parent n [] = refl
+front_is_parent n (m ∷ p) = and_both _ _ (same_as_itself n) (front_is_parent m p)
+
+pub no_parent_of_root : (q : Path) → is_parent q [] ≡ true → ⊥
+no_parent_of_root [] e = true≢false (sym e)
+no_parent_of_root (n ∷ q) e = true≢false (sym e)
+
+below_root : (q p : Path) → is_parent q p ≡ true → is_root p ≡ false
+below_root q [] e = absurd (no_parent_of_root q e)
+below_root q (n ∷ p) e = refl
+
+-- a parent's path is its child's without the last name
+pub parent_is_front : (q p : Path) → is_parent q p ≡ true → q ≡ take (length p - 1) p
+parent_is_front q [] e = absurd (no_parent_of_root q e)
+parent_is_front q (n ∷ p) e =
+    let k : suc (length p) - 1 ≡ length p = omega arith in
+    front_of_child q n p e ∙ ap (λ i. take i (n ∷ p)) (sym k)
+
+pub front_has_child : (p : Path) → is_root p ≡ false → is_parent (take (length p - 1) p) p ≡ true
+front_has_child [] e = absurd (true≢false e)
+front_has_child (n ∷ p) e =
+    let k : suc (length p) - 1 ≡ length p = omega arith in
+    ap (λ i. is_parent (take i (n ∷ p)) (n ∷ p)) k ∙ front_is_parent n p
+
+-- ---- what holds of each entry holds where the map answers
+
+module _ {K X : Type 0} {R : K → K → Ordering} (o : IsTotalOrder R) (same : IsAntisymmetric R) (P : K → X → Type 0) where
+  each_found : (es : List (K × X)) → AllByRecursion (λ e. P e.0 e.1) es → (q : K) (v : X) → find R q es ≡ Some v → P q v
+  each_found [] h q v e = absurd (none_some e)
+    where
+      none_some : {x : X} → None ≡ Some x → ⊥
+      none_some e = cc
+  each_found (x ∷ es) h q v e = elim (eq_by_cmp R q x.0) as (λ b. eq_by_cmp R q x.0 ≡ b → cond b (Some x.1) (find R q es) ≡ Some v → P q v) [
+    | true ↦ λ is e. subst (λ k. P k v) (sym (is_same o same q x.0 is)) (subst (P x.0) (some_same e) h.0)
+    | false ↦ λ is e. each_found es h.1 q v e
+  ] refl e
+    where
+      some_same : {x y : X} → Some x ≡ Some y → x ≡ y
+      some_same e = cc
+
+  pub each_answer : (es : List (K × X)) (m : FiniteMap R X) → from_entries R es ≡ m → AllByRecursion (λ e. P e.0 e.1) es → (q : K) (v : X) → get m q ≡ Some v → P q v
+  each_answer es m is h q v e = each_found es h q v (sym (get-from_entries o same es q) ∙ ap (λ n. get n q) is ∙ e)
+
+-- ---- the parts and the whole
+
+pub sound_of : (T : Tree) → is_empty_set T.online ≡ false → HasSoundRoot T → HasSoundPlaces T → HasSoundGroups T → Sound T
+sound_of T online root places groups = record {
+  root = root;
+  child = λ p q s is at. groups q s at p is;
+  process = places;
+  online = online;
+}
+
+pub sound_groups : (T : Tree) → Sound T → HasSoundGroups T
+sound_groups T h = λ q s at p is. h.child p q s is at
+
+pub child_by : (u s : Settings) → is_within s.control u.control ≡ true → (is_empty_set s.cpus ≡ false → u.control.cpuset ≡ true) → IsChildOf u s
+child_by u s w h = record { control = within s.control u.control w; cpus = h }
+
+pub root_by : (T : Tree) (s : Settings) → is_within s.control T.controllers ≡ true → s.freeze ≡ false → is_empty_set s.cpus ≡ true → IsRootOf T s
+root_by T s w f e = record { control = within s.control T.controllers w; freeze = f; cpus = e }
+
+same_settings : {x y : Settings} → Some x ≡ Some y → x ≡ y
+same_settings e = cc
+
+pub none_some : {X : Type 0} {x : X} → None ≡ Some x → ⊥
+none_some e = cc
+
+pub root_is : (T : Tree) (s : Settings) (r : Bool) → group T [] ≡ Some s → (IsTrue r ↔ IsRootOf T s) → IsTrue r ↔ HasSoundRoot T
+root_is T s r e h = (
+  λ t. (s, e, h.0 t),
+  λ g. h.1 (subst (IsRootOf T) (same_settings (sym g.1 ∙ e)) g.2),
+)
+
+-- where the path without its last name is that of a group with settings u
+pub group_is : (T : Tree) (p : Path) (s u : Settings) (r : Bool) → is_root p ≡ false → group T (take (length p - 1) p) ≡ Some u → (IsTrue r ↔ IsChildOf u s) → IsTrue r ↔ IsSoundGroup T p s
+group_is T p s u r below e h = (
+  λ t q is. (u, ap (group T) (parent_is_front q p is) ∙ e, h.0 t),
+  λ g. let x = g (take (length p - 1) p) (front_has_child p below) in h.1 (subst (λ v. IsChildOf v s) (same_settings (sym x.1 ∙ e)) x.2),
+)
+
+pub no_parent : (T : Tree) (p : Path) (s : Settings) → is_root p ≡ false → group T (take (length p - 1) p) ≡ None → IsSoundGroup T p s → ⊥
+no_parent T p s below e g = let x = g (take (length p - 1) p) (front_has_child p below) in none_some (sym e ∙ x.1)
+
+pub some_is_below : {X : Type 0} (o : Option X) (x : X) (b : Bool) → o ≡ Some x → is_some o ≡ not b → b ≡ false
+some_is_below o x true e h = absurd (true≢false (sym (ap is_some e) ∙ h))
+some_is_below o x false e h = refl
+
+pub some_is : {X : Type 0} (P : X → Type 0) (o : Option X) (x : X) → o ≡ Some x → IfSome o P → P x
+some_is P o x e h = subst (λ o. IfSome o P) e h
+
+pub place_is : (T : Tree) (p : Path) (s : Settings) (r : Bool) → group T p ≡ Some s → admits p s ≡ r → IsTrue r ↔ IsSoundPlace T p
+place_is T p s r e a = (
+  λ t. (s, e, a ∙ t),
+  λ g. sym a ∙ ap (admits p) (sym (same_settings (sym g.1 ∙ e))) ∙ g.2,
+)
+
+-- a set that is the empty one exactly where r is true
+pub none_test : (c : Controllers) (r : Bool) → (IsTrue r ↔ (c ≡ no_controllers)) → is_no_controllers c ≡ r
+none_test c true h = tells_none c (h.0 refl)
+none_test c false h = elim (is_no_controllers c) as (λ b. is_no_controllers c ≡ b → b ≡ false) [
+  | true ↦ λ e. absurd (true≢false (sym (h.1 (none_within c e))))
+  | false ↦ λ e. refl
+] refl

@@ -1,0 +1,7 @@
+use Rattle.std.specs.List.{AllByRecursion}
+use Rattle.cg_world.specs.Soundness.{HasSoundGroups, IsSoundGroup}
+use Rattle.cg_world.proofs.soundness.has_sound_groups.Given as goal
+
+-- what is left to look at decides the whole
+abbrev pub invariant-loop-path : goal.invariant-loop-path
+invariant-loop-path l = AllByRecursion (λ e. IsSoundGroup l.tree e.0 e.1) l.path-iterator → HasSoundGroups l.tree

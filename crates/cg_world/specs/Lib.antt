@@ -1,0 +1,7 @@
+pub mod Laws
+pub mod Parts
+pub mod Soundness
+pub mod Stage
+pub mod Statement
+pub mod World
+pub mod Writing

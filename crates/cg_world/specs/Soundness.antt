@@ -1,0 +1,26 @@
+-- The parts of a tree's soundness, each of which is one question of the code.
+use Rattle.std.specs.Prelude.{◌≡◌, ℕ, true, [], Some}
+use Rattle.cg_name.specs.Path.{Path, is_parent}
+use Rattle.cg_text.specs.declared.settings.Settings.{Settings}
+use Rattle.cg_model.specs.Tree.{Tree, group, place_of}
+use Rattle.cg_model.specs.Sound.{IsChildOf, IsRootOf, admits}
+
+-- the root is a group with a root's settings
+abbrev pub HasSoundRoot : Tree → Type 0
+HasSoundRoot T = (s : Settings) × (group T [] ≡ Some s) × IsRootOf T s
+
+-- a group with these settings may be at this path: its parent is a group with settings that allow it
+abbrev pub IsSoundGroup : Tree → Path → Settings → Type 0
+IsSoundGroup T p s = (q : Path) → is_parent q p ≡ true → (u : Settings) × (group T q ≡ Some u) × IsChildOf u s
+
+-- each group may be where it is
+abbrev pub HasSoundGroups : Tree → Type 0
+HasSoundGroups T = (p : Path) (s : Settings) → group T p ≡ Some s → IsSoundGroup T p s
+
+-- the path is that of a group that may have processes
+abbrev pub IsSoundPlace : Tree → Path → Type 0
+IsSoundPlace T p = (s : Settings) × (group T p ≡ Some s) × (admits p s ≡ true)
+
+-- each process may be where it is
+abbrev pub HasSoundPlaces : Tree → Type 0
+HasSoundPlaces T = (k : ℕ) (p : Path) → place_of T k ≡ Some p → IsSoundPlace T p

@@ -1,0 +1,59 @@
+-- How the lines of a world text are taken one after another.
+use Rattle.std.specs.Prelude.{◌≡◌, ℕ, cond, List, [], ◌∷◌, ◌++◌, map, Option, Some, None, is_some}
+use Rattle.std.specs.List.{AllByRecursion, filter_map}
+use Rattle.cg_maps.specs.FiniteMap.{empty, set_at}
+use Rattle.cg_maps.specs.FiniteSet.{FiniteSet}
+use Rattle.cg_name.specs.Path.{Path}
+use Rattle.cg_text.specs.Words.{Line, IsLine, said_by}
+use Rattle.cg_text.specs.declared.controllers.Controllers as controllers
+use Rattle.cg_text.specs.declared.settings.Settings.{Settings}
+use Rattle.cg_model.specs.Tree.{Tree, group, place_of}
+use Rattle.cg_world.specs.declared.stage.Stage.{Stage}
+use Rattle.cg_world.specs.declared.stage.Stage.TheVariants.{Begun, Versioned, Controlled, Groups, Processes, Ended}
+use Rattle.cg_world.specs.declared.statement.Statement.{Statement}
+use Rattle.cg_world.specs.declared.statement.Statement.TheVariants.{Version, Controllers, Online, Group, Process, End}
+use Rattle.cg_world.specs.World.{Lists, group_of, process_of, Arranges, SpellsEach}
+
+-- a tree of no groups and no processes
+abbrev pub bare_tree : controllers.Controllers → FiniteSet → Tree
+bare_tree cs online = record { controllers = cs; online = online; groups = empty; places = empty }
+
+-- the tree with one group more
+abbrev pub with_group : Tree → Path → Settings → Tree
+with_group T p s = record T { groups = set_at T.groups p (Some s) }
+
+-- the tree with one process more
+abbrev pub with_process : Tree → ℕ → Path → Tree
+with_process T k p = record T { places = set_at T.places k (Some p) }
+
+-- the stage behind one line more, none where the line can't stand there
+abbrev pub taken : Stage → Statement → Option Stage
+taken Begun Version = Some Versioned
+taken Versioned (Controllers cs) = Some (Controlled cs)
+taken (Controlled cs) (Online online) = Some (Groups (bare_tree cs online))
+taken (Groups T) (Group p s) = cond (is_some (group T p)) None (Some (Groups (with_group T p s)))
+taken (Groups T) (Process k p) = cond (is_some (place_of T k)) None (Some (Processes (with_process T k p)))
+taken (Groups T) End = Some (Ended T)
+taken (Processes T) (Process k p) = cond (is_some (place_of T k)) None (Some (Processes (with_process T k p)))
+taken (Processes T) End = Some (Ended T)
+taken _ _ = None
+
+-- from a stage on, the lines make it the tree
+abbrev pub Finishes : Stage → List Statement → Tree → Type 0
+Finishes Begun ss U = Arranges ss U
+Finishes Versioned ss U = Arranges (Version ∷ ss) U
+Finishes (Controlled cs) ss U = Arranges (Version ∷ Controllers cs ∷ ss) U
+Finishes (Groups T) ss U =
+    (groups : List (Path × Settings)) × (processes : List (ℕ × Path)) × (ss ≡ map group_of groups ++ map process_of processes ++ End ∷ [])
+    × (U.controllers ≡ T.controllers) × (U.online ≡ T.online) × Lists T.groups groups U.groups × Lists T.places processes U.places
+Finishes (Processes T) ss U =
+    (processes : List (ℕ × Path)) × (ss ≡ map process_of processes ++ End ∷ [])
+    × (U.controllers ≡ T.controllers) × (U.online ≡ T.online) × (U.groups ≡ T.groups) × Lists T.places processes U.places
+Finishes (Ended T) ss U = (ss ≡ []) × (U ≡ T)
+
+-- from a stage on, good lines that are left make it the tree
+pub record Leads (stage : Stage) (lines : List Line) (T : Tree) : Type 0 where
+  pub good : AllByRecursion IsLine lines
+  pub statements : List Statement
+  pub spelled : SpellsEach (filter_map said_by lines) statements
+  pub finished : Finishes stage statements T

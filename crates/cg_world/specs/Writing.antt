@@ -1,0 +1,21 @@
+-- Parts of the text that is written for a world.
+use Rattle.std.specs.Prelude.{ℕ, Bool, true, false, List, ◌∷◌, ◌++◌, codes}
+use Rattle.std.specs.List.{flat_map}
+use Rattle.cg_maps.specs.FiniteSet.{FiniteSet}
+use Rattle.cg_name.specs.Controller.{controller_word}
+use Rattle.cg_cpus.specs.CpuList.{cpus_text}
+use Rattle.cg_text.specs.Controllers.{members}
+use Rattle.cg_text.specs.declared.controllers.Controllers.{Controllers}
+use Rattle.cg_world.specs.World.{newline, space}
+
+-- the lines of the version, the machine's controllers and the CPUs that are online
+abbrev pub machine_lines : Controllers → FiniteSet → List ℕ
+machine_lines s online =
+    codes "world 1" ++ newline
+    ++ codes "controllers" ++ flat_map (λ c. space ++ controller_word c) (members s) ++ newline
+    ++ codes "online " ++ cpus_text online ++ newline
+
+-- a word, with a comma before it where it stands behind another
+abbrev pub separated : Bool → List ℕ → List ℕ
+separated false w = w
+separated true w = 44 ∷ w

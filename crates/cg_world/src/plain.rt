@@ -1,0 +1,157 @@
+//! Trees in plain ordered maps, sound or not.
+ghost use Rattle.std.specs.Prelude.{◌≡◌, IfOk, IfErr, OnOk, OnErr, Some, Option};
+ghost use Rattle.std.specs.Option.{option_copied};
+ghost use Rattle.std.specs.Ordering.{nat_cmp};
+ghost use Rattle.cg_maps.specs.FiniteMap.{set_at, empty, from_entries};
+ghost use Rattle.cg_name.specs.Path.{path_cmp};
+ghost use Rattle.cg_name.specs.declared.refusal.Refusal.TheVariants.{Memory};
+ghost use Rattle.cg_model.specs.Tree.{Tree, group, place_of};
+
+use cg_cpus::cpu_set::CpuSet;
+use cg_name::path::Path;
+use cg_name::refusal::Refusal;
+use cg_text::controllers::Controllers;
+use cg_text::settings::Settings;
+use std::alloc::Global;
+use std::collections::BTreeMap;
+use std::marker::Model;
+
+/// The machine's controllers and online CPUs, groups by path and processes by PID.
+#[derive(Drop)]
+pub struct PlainTree {
+    controllers: Controllers,
+    online: CpuSet,
+    groups: BTreeMap<Path, Settings>,
+    places: BTreeMap<u32, Path>,
+}
+
+impl Model for PlainTree {
+    ghost use Rattle.std.specs.Ordering.{nat_cmp};
+    ghost use Rattle.cg_maps.specs.FiniteMap.{from_entries};
+    ghost use Rattle.cg_name.specs.Path.{path_cmp};
+    ghost use Rattle.cg_model.specs.Tree.{Tree};
+    ghost use Rattle.cg_model.specs.Code.{tree_code};
+
+    ghost Value = { Tree };
+
+    ghost coded = { tree_code };
+
+    ghost view = { λ t. record { controllers = t.controllers; online = t.online; groups = from_entries path_cmp t.groups.entries; places = from_entries nat_cmp t.places.entries } };
+}
+
+impl PlainTree {
+    /// A tree of no groups and no processes.
+    pub fn new(alloc: Global, controllers: Controllers, online: CpuSet) -> PlainTree
+        ensures { result ≡ record { controllers = controllers; online = online; groups = empty; places = empty } }
+    {
+        PlainTree {
+            controllers,
+            online,
+            groups: BTreeMap::new(alloc),
+            places: BTreeMap::new(alloc),
+        }
+    }
+
+    /// The machine's controllers.
+    pub fn controllers(&self) -> Controllers
+        ensures { result ≡ self.now.controllers }
+    {
+        self.controllers
+    }
+
+    /// The CPUs that are online.
+    pub fn online(&self) -> CpuSet
+        ensures { result ≡ self.now.online }
+    {
+        self.online
+    }
+
+    /// The settings of a group, where there is one at this path.
+    pub fn settings(&self, path: &Path) -> Option<Settings>
+        ensures { result ≡ group self.now path.now }
+    {
+        self.groups.get(path).copied()
+    }
+
+    /// The group of a process, where there is one with this PID.
+    pub fn location(&self, pid: u32) -> Option<&Path>
+        ensures { option_copied result ≡ place_of self.now pid }
+    {
+        self.places.get(&pid)
+    }
+
+    /// Makes the group at this path, or gives it these settings. `Memory` leaves the tree as it was, and comes
+    /// only at a path that has no group.
+    pub fn set_group(&mut self, path: Path, settings: Settings) -> Result<(), Refusal>
+        ensures ok { OnOk result (self.new ≡ record self.old { groups = set_at self.old.groups path (Some settings) }) }
+        ensures err { OnErr result (self.new ≡ self.old) }
+        ensures refusals { IfErr result (λ e. e ≡ Memory) }
+    {
+        self.groups.insert(path, settings)?;
+        Ok(())
+    }
+
+    /// Puts a process into the group at this path. `Memory` leaves the tree as it was.
+    pub fn set_place(&mut self, pid: u32, path: Path) -> Result<(), Refusal>
+        ensures ok { OnOk result (self.new ≡ record self.old { places = set_at self.old.places pid (Some path) }) }
+        ensures err { OnErr result (self.new ≡ self.old) }
+        ensures refusals { IfErr result (λ e. e ≡ Memory) }
+    {
+        self.places.insert(pid, path)?;
+        Ok(())
+    }
+
+    /// An equal tree; `Memory` where there is none for it.
+    pub fn copy(&self, alloc: Global) -> Result<PlainTree, Refusal>
+        ensures value { IfOk result (λ t. t ≡ self.now) }
+        ensures refusals { IfErr result (λ e. e ≡ Memory) }
+    {
+        Ok(PlainTree {
+            controllers: self.controllers,
+            online: self.online,
+            groups: copy_groups(alloc, &self.groups)?,
+            places: copy_places(alloc, &self.places)?,
+        })
+    }
+
+    /// The groups, by path.
+    pub(crate) fn groups(&self) -> &BTreeMap<Path, Settings>
+        ensures { from_entries path_cmp result.now.entries ≡ self.now.groups }
+    {
+        &self.groups
+    }
+
+    /// The groups of the processes, by PID.
+    pub(crate) fn places(&self) -> &BTreeMap<u32, Path>
+        ensures { from_entries nat_cmp result.now.entries ≡ self.now.places }
+    {
+        &self.places
+    }
+}
+
+// A map of the same groups.
+fn copy_groups(
+    alloc: Global,
+    groups: &BTreeMap<Path, Settings>,
+) -> Result<BTreeMap<Path, Settings>, Refusal>
+    ensures value { IfOk result (λ made. from_entries path_cmp made.entries ≡ from_entries path_cmp groups.now.entries) }
+    ensures refusals { IfErr result (λ e. e ≡ Memory) }
+{
+    let mut made = BTreeMap::new(alloc);
+    for (path, settings) in groups {
+        made.insert(path.copy(alloc)?, *settings)?;
+    }
+    Ok(made)
+}
+
+// A map of the same processes.
+fn copy_places(alloc: Global, places: &BTreeMap<u32, Path>) -> Result<BTreeMap<u32, Path>, Refusal>
+    ensures value { IfOk result (λ made. from_entries nat_cmp made.entries ≡ from_entries nat_cmp places.now.entries) }
+    ensures refusals { IfErr result (λ e. e ≡ Memory) }
+{
+    let mut made = BTreeMap::new(alloc);
+    for (pid, path) in places {
+        made.insert(*pid, path.copy(alloc)?)?;
+    }
+    Ok(made)
+}

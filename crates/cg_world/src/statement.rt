@@ -1,0 +1,118 @@
+//! The lines of a world text.
+ghost use Rattle.std.specs.Prelude.{◌≡◌, ◌∷◌, IfOk, IfErr, OnErr, map, codes};
+ghost use Rattle.std.specs.Result.{IsErrOf};
+ghost use Rattle.cg_name.specs.declared.refusal.Refusal.TheVariants.{Syntax};
+ghost use Rattle.cg_name.specs.Refusal.{IsSyntaxOrMemory};
+ghost use Rattle.cg_world.specs.declared.statement.Statement as statement;
+ghost use Rattle.cg_world.specs.Statement.{SpellsStatement};
+
+use crate::parts::{read_controllers, read_cpus, read_pid, read_settings};
+use cg_cpus::cpu_set::CpuSet;
+use cg_name::path::Path;
+use cg_name::refusal::Refusal;
+use cg_text::controllers::Controllers;
+use cg_text::settings::Settings;
+use std::alloc::Global;
+
+/// What one line of a world text says.
+#[derive(Drop)]
+pub enum Statement {
+    /// `world 1`
+    Version,
+    /// `controllers` and the machine's controllers.
+    Controllers(Controllers),
+    /// `online` and the CPUs that are online.
+    Online(CpuSet),
+    /// `group`, its path and its settings.
+    Group(Path, Settings),
+    /// `proc`, its PID and its group's path.
+    Process(u32, Path),
+    /// `end`
+    End,
+}
+
+impl Statement {
+    /// What the words of a line say; `Syntax` where they say nothing that a world text may, `Memory` where there
+    /// is none for a path.
+    pub fn read(alloc: Global, words: &[&str]) -> Result<Statement, Refusal>
+        ensures value { IfOk result (λ s. SpellsStatement (map (λ w. w.now) words.now) s) }
+        ensures syntax { IsErrOf result Refusal.Syntax → (s : statement.Statement) → SpellsStatement (map (λ w. w.now) words.now) s → ⊥ }
+        ensures refusals { IfErr result IsSyntaxOrMemory }
+    {
+        let [keyword, rest @ ..] = words else {
+            return Err(Refusal::Syntax);
+        };
+        match *keyword {
+            "world" => read_version(rest),
+            "controllers" => Ok(Statement::Controllers(read_controllers(rest)?)),
+            "online" => read_online(alloc, rest),
+            "group" => read_group(alloc, rest),
+            "proc" => read_process(alloc, rest),
+            "end" => read_end(rest),
+            _ => Err(Refusal::Syntax),
+        }
+    }
+}
+
+// The version, from what stands behind `world`.
+fn read_version(rest: &[&str]) -> Result<Statement, Refusal>
+    ensures value { IfOk result (λ s. SpellsStatement (codes "world" ∷ map (λ w. w.now) rest.now) s) }
+    ensures syntax { OnErr result ((s : statement.Statement) → SpellsStatement (codes "world" ∷ map (λ w. w.now) rest.now) s → ⊥) }
+    ensures refusals { IfErr result (λ e. e ≡ Syntax) }
+{
+    match rest {
+        ["1"] => Ok(Statement::Version),
+        _ => Err(Refusal::Syntax),
+    }
+}
+
+// The online CPUs, from what stands behind `online`.
+fn read_online(alloc: Global, rest: &[&str]) -> Result<Statement, Refusal>
+    ensures value { IfOk result (λ s. SpellsStatement (codes "online" ∷ map (λ w. w.now) rest.now) s) }
+    ensures syntax { IsErrOf result Refusal.Syntax → (s : statement.Statement) → SpellsStatement (codes "online" ∷ map (λ w. w.now) rest.now) s → ⊥ }
+    ensures refusals { IfErr result IsSyntaxOrMemory }
+{
+    match rest {
+        [cpus] => Ok(Statement::Online(read_cpus(alloc, cpus)?)),
+        _ => Err(Refusal::Syntax),
+    }
+}
+
+// A group, from what stands behind `group`.
+fn read_group(alloc: Global, rest: &[&str]) -> Result<Statement, Refusal>
+    ensures value { IfOk result (λ s. SpellsStatement (codes "group" ∷ map (λ w. w.now) rest.now) s) }
+    ensures syntax { IsErrOf result Refusal.Syntax → (s : statement.Statement) → SpellsStatement (codes "group" ∷ map (λ w. w.now) rest.now) s → ⊥ }
+    ensures refusals { IfErr result IsSyntaxOrMemory }
+{
+    match rest {
+        [path, control, freeze, cpus] => Ok(Statement::Group(
+            Path::read(alloc, path)?,
+            read_settings(alloc, control, freeze, cpus)?,
+        )),
+        _ => Err(Refusal::Syntax),
+    }
+}
+
+// A process, from what stands behind `proc`.
+fn read_process(alloc: Global, rest: &[&str]) -> Result<Statement, Refusal>
+    ensures value { IfOk result (λ s. SpellsStatement (codes "proc" ∷ map (λ w. w.now) rest.now) s) }
+    ensures syntax { IsErrOf result Refusal.Syntax → (s : statement.Statement) → SpellsStatement (codes "proc" ∷ map (λ w. w.now) rest.now) s → ⊥ }
+    ensures refusals { IfErr result IsSyntaxOrMemory }
+{
+    match rest {
+        [pid, path] => Ok(Statement::Process(read_pid(pid)?, Path::read(alloc, path)?)),
+        _ => Err(Refusal::Syntax),
+    }
+}
+
+// The end, behind which the line has no word.
+fn read_end(rest: &[&str]) -> Result<Statement, Refusal>
+    ensures value { IfOk result (λ s. SpellsStatement (codes "end" ∷ map (λ w. w.now) rest.now) s) }
+    ensures syntax { OnErr result ((s : statement.Statement) → SpellsStatement (codes "end" ∷ map (λ w. w.now) rest.now) s → ⊥) }
+    ensures refusals { IfErr result (λ e. e ≡ Syntax) }
+{
+    match rest {
+        [] => Ok(Statement::End),
+        _ => Err(Refusal::Syntax),
+    }
+}

@@ -1,0 +1,208 @@
+//! The one text that is written for a world.
+ghost use Rattle.std.specs.Prelude.{◌≡◌, ◌++◌, [], ◌∷◌, IfErr, OnOk, OnErr, length, take};
+ghost use Rattle.std.specs.List.{flat_map};
+ghost use Rattle.std.specs.Ordering.{nat_cmp};
+ghost use Rattle.cg_maps.specs.FiniteMap.{entries, from_entries};
+ghost use Rattle.cg_name.specs.Controller.{controller_word};
+ghost use Rattle.cg_name.specs.Path.{path_cmp};
+ghost use Rattle.cg_name.specs.declared.refusal.Refusal.TheVariants.{Memory};
+ghost use Rattle.cg_text.specs.Controllers.{members};
+ghost use Rattle.cg_world.specs.World.{asked_cpus_text, control_text, flag_text, group_line, process_line, world_text};
+ghost use Rattle.cg_world.specs.Writing.{machine_lines, separated};
+
+use crate::plain::PlainTree;
+use crate::world::World;
+use cg_cpus::cpu_set::CpuSet;
+use cg_name::controller::Controller;
+use cg_name::path::Path;
+use cg_name::refusal::Refusal;
+use cg_text::controllers::Controllers;
+use cg_text::settings::Settings;
+use itoa::Buffer;
+use std::collections::BTreeMap;
+
+impl World {
+    /// Appends the world's text: its groups in the order of their paths, its processes by ascending PID.
+    /// `Memory` leaves `out` as it was.
+    pub fn write(&self, out: &mut Vec<u8>) -> Result<(), Refusal>
+        ensures ok { OnOk result (out.new.items ≡ out.old.items ++ world_text self.now) }
+        ensures err { OnErr result (out.new.items ≡ out.old.items) }
+        ensures refusals { IfErr result (λ e. e ≡ Memory) }
+    {
+        self.tree().write(out)
+    }
+}
+
+impl PlainTree {
+    /// Appends the tree's text as a world's: its groups in the order of their paths, its processes by ascending
+    /// PID. `Memory` leaves `out` as it was.
+    pub fn write(&self, out: &mut Vec<u8>) -> Result<(), Refusal>
+        ensures ok { OnOk result (out.new.items ≡ out.old.items ++ world_text self.now) }
+        ensures err { OnErr result (out.new.items ≡ out.old.items) }
+        ensures refusals { IfErr result (λ e. e ≡ Memory) }
+    {
+        let start = out.len();
+        let written = append_world(self, out);
+        if written.is_err() {
+            out.truncate(start);
+        }
+        written
+    }
+}
+
+// What follows appends to `out`, and a refusal leaves what stood there at the front.
+
+// All lines of the tree's text.
+fn append_world(tree: &PlainTree, out: &mut Vec<u8>) -> Result<(), Refusal>
+    ensures ok { OnOk result (out.new.items ≡ out.old.items ++ world_text tree.now) }
+    ensures kept { OnErr result (take (length out.old.items) out.new.items ≡ out.old.items) }
+    ensures refusals { IfErr result (λ e. e ≡ Memory) }
+{
+    append_machine(&tree.controllers(), &tree.online(), out)?;
+    append_groups(tree.groups(), out)?;
+    append_processes(tree.places(), out)?;
+    out.extend_from_slice(b"end\n")?;
+    Ok(())
+}
+
+// The first three lines: the version, the machine's controllers and the CPUs that are online.
+fn append_machine(
+    controllers: &Controllers,
+    online: &CpuSet,
+    out: &mut Vec<u8>,
+) -> Result<(), Refusal>
+    ensures ok { OnOk result (out.new.items ≡ out.old.items ++ machine_lines controllers.now online.now) }
+    ensures kept { OnErr result (take (length out.old.items) out.new.items ≡ out.old.items) }
+    ensures refusals { IfErr result (λ e. e ≡ Memory) }
+{
+    out.extend_from_slice(b"world 1\ncontrollers")?;
+    append_names(controllers, out)?;
+    out.extend_from_slice(b"\nonline ")?;
+    online.write(out)?;
+    out.push(b'\n')?;
+    Ok(())
+}
+
+// The names of the controllers, each with a space before it.
+fn append_names(controllers: &Controllers, out: &mut Vec<u8>) -> Result<(), Refusal>
+    ensures ok { OnOk result (out.new.items ≡ out.old.items ++ flat_map (λ c. 32 ∷ controller_word c) (members controllers.now)) }
+    ensures kept { OnErr result (take (length out.old.items) out.new.items ≡ out.old.items) }
+    ensures refusals { IfErr result (λ e. e ≡ Memory) }
+{
+    for controller in &Controller::ALL {
+        if controllers.contains(*controller) {
+            out.push(b' ')?;
+            out.extend_from_slice(controller.word().as_bytes())?;
+        }
+    }
+    Ok(())
+}
+
+// The line of each group.
+fn append_groups(groups: &BTreeMap<Path, Settings>, out: &mut Vec<u8>) -> Result<(), Refusal>
+    ensures ok { OnOk result (out.new.items ≡ out.old.items ++ flat_map group_line (entries (from_entries path_cmp groups.now.entries))) }
+    ensures kept { OnErr result (take (length out.old.items) out.new.items ≡ out.old.items) }
+    ensures refusals { IfErr result (λ e. e ≡ Memory) }
+{
+    for (path, settings) in groups {
+        append_group(path, settings, out)?;
+    }
+    Ok(())
+}
+
+// The line of a group.
+fn append_group(path: &Path, settings: &Settings, out: &mut Vec<u8>) -> Result<(), Refusal>
+    ensures ok { OnOk result (out.new.items ≡ out.old.items ++ group_line (path.now, settings.now)) }
+    ensures kept { OnErr result (take (length out.old.items) out.new.items ≡ out.old.items) }
+    ensures refusals { IfErr result (λ e. e ≡ Memory) }
+{
+    out.extend_from_slice(b"group ")?;
+    path.write(out)?;
+    out.push(b' ')?;
+    append_control(&settings.control, out)?;
+    out.push(b' ')?;
+    out.push(flag(settings.freeze))?;
+    out.push(b' ')?;
+    append_asked_cpus(&settings.cpus, out)?;
+    out.push(b'\n')?;
+    Ok(())
+}
+
+// The names of the controllers with commas between them, or a minus for none.
+fn append_control(control: &Controllers, out: &mut Vec<u8>) -> Result<(), Refusal>
+    ensures ok { OnOk result (out.new.items ≡ out.old.items ++ control_text control.now) }
+    ensures kept { OnErr result (take (length out.old.items) out.new.items ≡ out.old.items) }
+    ensures refusals { IfErr result (λ e. e ≡ Memory) }
+{
+    let mut behind = false;
+    for controller in &Controller::ALL {
+        if control.contains(*controller) {
+            append_behind(behind, *controller, out)?;
+            behind = true;
+        }
+    }
+    if !behind {
+        out.push(b'-')?;
+    }
+    Ok(())
+}
+
+// A controller's name, with a comma before it where it stands behind another.
+fn append_behind(behind: bool, controller: Controller, out: &mut Vec<u8>) -> Result<(), Refusal>
+    ensures ok { OnOk result (out.new.items ≡ out.old.items ++ separated behind (controller_word controller)) }
+    ensures kept { OnErr result (take (length out.old.items) out.new.items ≡ out.old.items) }
+    ensures refusals { IfErr result (λ e. e ≡ Memory) }
+{
+    if behind {
+        out.push(b',')?;
+    }
+    out.extend_from_slice(controller.word().as_bytes())?;
+    Ok(())
+}
+
+// The digit of a flag.
+fn flag(value: bool) -> u8
+    ensures { result ∷ [] ≡ flag_text value }
+{
+    if value { b'1' } else { b'0' }
+}
+
+// The list of the CPUs, or a minus for none.
+fn append_asked_cpus(cpus: &CpuSet, out: &mut Vec<u8>) -> Result<(), Refusal>
+    ensures ok { OnOk result (out.new.items ≡ out.old.items ++ asked_cpus_text cpus.now) }
+    ensures kept { OnErr result (take (length out.old.items) out.new.items ≡ out.old.items) }
+    ensures refusals { IfErr result (λ e. e ≡ Memory) }
+{
+    if cpus.is_empty() {
+        out.push(b'-')?;
+        return Ok(());
+    }
+    cpus.write(out)
+}
+
+// The line of each process.
+fn append_processes(places: &BTreeMap<u32, Path>, out: &mut Vec<u8>) -> Result<(), Refusal>
+    ensures ok { OnOk result (out.new.items ≡ out.old.items ++ flat_map process_line (entries (from_entries nat_cmp places.now.entries))) }
+    ensures kept { OnErr result (take (length out.old.items) out.new.items ≡ out.old.items) }
+    ensures refusals { IfErr result (λ e. e ≡ Memory) }
+{
+    for (pid, path) in places {
+        append_process(*pid, path, out)?;
+    }
+    Ok(())
+}
+
+// The line of a process.
+fn append_process(pid: u32, path: &Path, out: &mut Vec<u8>) -> Result<(), Refusal>
+    ensures ok { OnOk result (out.new.items ≡ out.old.items ++ process_line (pid, path.now)) }
+    ensures kept { OnErr result (take (length out.old.items) out.new.items ≡ out.old.items) }
+    ensures refusals { IfErr result (λ e. e ≡ Memory) }
+{
+    let mut buffer = Buffer::new();
+    out.extend_from_slice(b"proc ")?;
+    out.extend_from_slice(buffer.format(pid).as_bytes())?;
+    out.push(b' ')?;
+    path.write(out)?;
+    out.push(b'\n')?;
+    Ok(())
+}
