@@ -1,0 +1,3 @@
+mod Creating
+mod Kept
+mod Refusing

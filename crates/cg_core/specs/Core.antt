@@ -1,0 +1,26 @@
+-- What the fields of a core mean in the model, and what holds of them.
+use Rattle.std.specs.Prelude.{ℕ, ◌≤◌, Option, Some, None, option_map}
+use Rattle.cg_core.specs.declared.machine.Open.{Open}
+use Rattle.cg_core.specs.declared.machine.Core.TheInside.{Inside}
+use Rattle.cg_model.specs.Machine as model
+use Rattle.cg_model.specs.Machine.{Machine, places}
+use Rattle.cg_world.specs.World.{IsWorld}
+
+abbrev pub open_of : Open → model.Open
+open_of o = record { session = o.session.0; number = o.number.0; before = o.before; commands = o.commands }
+
+abbrev pub machine_of : Inside → Machine
+machine_of c = record { opening = c.opening; limit = c.limit; tree = c.tree; open_one = option_map open_of c.current; history = c.history.0 }
+
+-- how many places of the history have memory: one for the end of the open transaction
+abbrev pub IsKept : Option Open → ℕ → Type 0
+IsKept None n = Unit {0}
+IsKept (Some o) n = (1 ≤ n) × IsWorld o.before
+
+pub record IsCore (c : Inside) : Type 0 where
+  -- the tree and what Abort gives back are worlds
+  pub tree : IsWorld c.tree
+  pub kept : IsKept c.current c.history.1
+  -- the records and the places kept are within the limit
+  pub within : places (machine_of c) ≤ c.limit
+  pub limit : c.limit ≤ 1048576

@@ -1,0 +1,93 @@
+//! The commands on a tree.
+ghost use Rattle.std.specs.Prelude.{◌≡◌, ◌≢◌, IfOk, IfErr, OnOk, OnErr};
+ghost use Rattle.cg_name.specs.declared.refusal.Refusal.TheVariants.{Memory};
+ghost use Rattle.cg_model.specs.Command.{effect, IsAccepted, ChangesTo};
+ghost use Rattle.cg_model.specs.Command as model;
+ghost use Rattle.cg_world.specs.World.{IsWorld};
+
+use crate::tree::Tree;
+use cg_name::path::Path;
+use cg_name::refusal::Refusal;
+use cg_text::settings::Settings;
+use std::alloc::Global;
+
+/// A change of a tree.
+#[derive(Drop)]
+pub enum Command {
+    /// Makes the group at this path.
+    Create {
+        /// Where the group is to be.
+        path: Path,
+    },
+}
+
+impl Command {
+    ghost use Rattle.cg_core.specs.Meaning.{command_of};
+
+    /// An equal command; `Memory` where there is none for it.
+    pub fn copy(&self, alloc: Global) -> Result<Command, Refusal>
+        ensures value { IfOk result (λ c. c ≡ self.now) }
+        ensures refusals { IfErr result (λ e. e ≡ Memory) }
+    {
+        match self {
+            Command::Create { path } => Ok(Command::Create {
+                path: path.copy(alloc)?,
+            }),
+        }
+    }
+
+    /// Whether the tree accepts the command: its own checks, in order. `Memory` says nothing of the command.
+    pub fn check(&self, alloc: Global, tree: &Tree) -> Result<(), Refusal>
+        requires { IsWorld tree.now }
+        ensures accepted { OnOk result (IsAccepted (effect (command_of self.now) tree.now)) }
+        ensures refused { IfErr result (λ e. e ≢ Memory → effect (command_of self.now) tree.now ≡ model.Refuse e) }
+    {
+        match self {
+            Command::Create { path } => check_create(alloc, path, tree),
+        }
+    }
+
+    /// Changes the tree as an accepted command does. `Memory`, the only refusal, leaves it as it was.
+    pub fn apply(&self, alloc: Global, tree: &mut Tree) -> Result<(), Refusal>
+        requires { IsAccepted (effect (command_of self.now) tree.old) }
+        ensures ok { OnOk result (ChangesTo (effect (command_of self.now) tree.old) tree.old tree.new) }
+        ensures world { IsWorld tree.old → IsWorld tree.new }
+        ensures err { OnErr result (tree.new ≡ tree.old) }
+        ensures refusals { IfErr result (λ e. e ≡ Memory) }
+    {
+        match self {
+            Command::Create { path } => create(alloc, path, tree),
+        }
+    }
+}
+
+/// The checks of Create: the path isn't the root's, its parent is there, and it is free. A tree without limits
+/// has room below each group.
+fn check_create(alloc: Global, path: &Path, tree: &Tree) -> Result<(), Refusal>
+    requires { IsWorld tree.now }
+    ensures accepted { OnOk result (IsAccepted (effect (model.Create path.now) tree.now)) }
+    ensures refused { IfErr result (λ e. e ≢ Memory → effect (model.Create path.now) tree.now ≡ model.Refuse e) }
+{
+    let Some(parent) = path.parent(alloc)? else {
+        return Err(Refusal::Exists);
+    };
+    if !tree.find(&parent) {
+        return Err(Refusal::NoGroup);
+    }
+    if tree.find(path) {
+        return Err(Refusal::Exists);
+    }
+    Ok(())
+}
+
+/// Makes the group at this path, with the settings of a new one.
+fn create(alloc: Global, path: &Path, tree: &mut Tree) -> Result<(), Refusal>
+    requires { IsAccepted (effect (model.Create path.now) tree.old) }
+    ensures ok { OnOk result (ChangesTo (effect (model.Create path.now) tree.old) tree.old tree.new) }
+    ensures world { IsWorld tree.old → IsWorld tree.new }
+    ensures err { OnErr result (tree.new ≡ tree.old) }
+    ensures refusals { IfErr result (λ e. e ≡ Memory) }
+{
+    tree.set_group(path.copy(alloc)?, Settings::fresh())?;
+    Ok(())
+}

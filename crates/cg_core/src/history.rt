@@ -1,0 +1,108 @@
+//! The history of a machine, with places kept for records to come.
+ghost use Rattle.std.specs.Prelude.{◌≡◌, ◌+◌, ◌-◌, ◌<◌, ◌≤◌, ◌^◌, ◌++◌, ◌∷◌, [], length, IfErr, OnOk, OnErr};
+ghost use Rattle.cg_name.specs.declared.refusal.Refusal.TheVariants.{Memory};
+ghost use Rattle.cg_model.specs.Record.{begins, commits};
+
+use crate::record::{Answer, Record};
+use cg_name::refusal::Refusal;
+use std::alloc::Global;
+use std::marker::Model;
+
+/// The records so far, oldest first, and how many more there is memory for.
+#[derive(Drop)]
+pub struct History {
+    records: Vec<Record>,
+    kept: usize,
+    begun: u32,
+    committed: u32,
+}
+
+impl Model for History {
+    ghost use Rattle.std.specs.Prelude.{◌≡◌, ◌+◌, ◌≤◌, ℕ, List, map, vec_len};
+    ghost use Rattle.std.specs.Vec.{vec_capacity};
+    ghost use Rattle.std.specs.Coded.{coded×, coded_ℕ, coded_list};
+    ghost use Rattle.cg_model.specs.Record as model;
+    ghost use Rattle.cg_model.specs.Record.{begins, commits};
+    ghost use Rattle.cg_model.specs.MachineCode.{record_code};
+
+    ghost Value = { List model.Record × ℕ };
+
+    ghost coded = { coded× (coded_list record_code) coded_ℕ };
+
+    ghost use Rattle.cg_core.specs.Meaning.{record_of};
+
+    ghost view = { λ h. (map record_of h.records.items, h.kept) };
+
+    ghost invariant = { λ h. (vec_len h.records + h.kept ≤ vec_capacity h.records) × (h.begun ≡ begins (map record_of h.records.items)) × (h.committed ≡ commits (map record_of h.records.items)) };
+}
+
+impl History {
+    ghost use Rattle.std.specs.Prelude.{map};
+    ghost use Rattle.cg_core.specs.Meaning.{record_of};
+
+    /// A history of no records.
+    pub fn new(alloc: Global) -> History
+        ensures { result ≡ ([], 0) }
+    {
+        History {
+            records: Vec::new(alloc),
+            kept: 0,
+            begun: 0,
+            committed: 0,
+        }
+    }
+
+    /// The records, oldest first.
+    pub fn records(&self) -> &[Record]
+        ensures { map record_of result.now ≡ self.now.0 }
+    {
+        self.records.as_slice()
+    }
+
+    /// How many records there are.
+    pub fn len(&self) -> usize
+        ensures { result ≡ length self.now.0 }
+    {
+        self.records.len()
+    }
+
+    /// How many transactions were begun.
+    pub fn begun(&self) -> u32
+        ensures { result ≡ begins self.now.0 }
+    {
+        self.begun
+    }
+
+    /// How many transactions committed.
+    pub fn committed(&self) -> u32
+        ensures { result ≡ commits self.now.0 }
+    {
+        self.committed
+    }
+
+    /// Keeps places for so many records from now on. `Memory` leaves the history as it was.
+    pub fn keep(&mut self, count: usize) -> Result<(), Refusal>
+        ensures ok { OnOk result (self.new ≡ (self.old.0, count)) }
+        ensures err { OnErr result (self.new ≡ self.old) }
+        ensures refusals { IfErr result (λ e. e ≡ Memory) }
+    {
+        self.records.reserve(count)?;
+        self.kept = count;
+        Ok(())
+    }
+
+    /// Adds a record in a place that was kept for it.
+    pub fn push(&mut self, entry: Record)
+        requires kept { 0 < self.old.1 }
+        requires few { length self.old.0 < 2 ^ 32 - 1 }
+        ensures { self.new ≡ (self.old.0 ++ record_of entry ∷ [], self.old.1 - 1) }
+    {
+        match entry.answer {
+            Answer::Begun(_) => self.begun += 1,
+            Answer::Committed(_) => self.committed += 1,
+            _ => {}
+        }
+        self.records.push_reserved(entry);
+        self.kept -= 1;
+    }
+}

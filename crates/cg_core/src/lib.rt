@@ -1,0 +1,10 @@
+//! The machine: one transaction at a time over a tree, with its history.
+#![tactic(auto)]
+
+pub mod command;
+pub mod history;
+pub mod machine;
+pub mod record;
+#[cfg(test)]
+mod tests;
+pub mod tree;

@@ -1,0 +1,96 @@
+//! Requests, answers and records.
+ghost use Rattle.std.specs.Prelude.{◌≡◌, IfOk, IfErr};
+ghost use Rattle.cg_name.specs.declared.refusal.Refusal.TheVariants.{Memory};
+
+use crate::command::Command;
+use cg_name::refusal::{Refusal, TxnNumber};
+use std::alloc::Global;
+
+/// A session of the machine.
+#[derive(Clone, Copy, Debug, PartialEq, Eq)]
+pub struct SessionId(pub u32);
+
+/// What a session asks for.
+#[derive(Drop)]
+pub enum Request {
+    /// Opens a transaction.
+    Begin,
+    /// Runs a command in the open transaction.
+    Do(Command),
+    /// Keeps what the transaction changed.
+    Commit,
+    /// Gives back the tree at the transaction's Begin.
+    Abort,
+}
+
+impl Request {
+    ghost use Rattle.cg_core.specs.Meaning.{request_of};
+
+    /// An equal request; `Memory` where there is none for it.
+    pub fn copy(&self, alloc: Global) -> Result<Request, Refusal>
+        ensures value { IfOk result (λ r. r ≡ self.now) }
+        ensures refusals { IfErr result (λ e. e ≡ Memory) }
+    {
+        Ok(match self {
+            Request::Begin => Request::Begin,
+            Request::Do(command) => Request::Do(command.copy(alloc)?),
+            Request::Commit => Request::Commit,
+            Request::Abort => Request::Abort,
+        })
+    }
+}
+
+/// What a session is answered.
+#[derive(Drop)]
+pub enum Answer {
+    /// To Begin: the transaction's number.
+    Begun(TxnNumber),
+    /// To an accepted command that shows nothing, and to Undo.
+    Done,
+    /// To Show: the file's text.
+    Text(Vec<u8>),
+    /// To Save.
+    Saved,
+    /// To Back: how many commands were taken off.
+    Back(u32),
+    /// To Commit: the commit's number, from 1 in commit order.
+    Committed(u32),
+    /// To Abort: the transaction's number.
+    Aborted(TxnNumber),
+    /// Why the request was refused.
+    Refused(Refusal),
+}
+
+impl Answer {
+    ghost use Rattle.cg_core.specs.Meaning.{answer_of};
+
+    /// An equal answer; `Memory` where there is none for it.
+    pub fn copy(&self, alloc: Global) -> Result<Answer, Refusal>
+        ensures value { IfOk result (λ a. answer_of a ≡ answer_of self.now) }
+        ensures refusals { IfErr result (λ e. e ≡ Memory) }
+    {
+        Ok(match self {
+            Answer::Begun(number) => Answer::Begun(*number),
+            Answer::Done => Answer::Done,
+            Answer::Text(text) => Answer::Text(Vec::from_slice(alloc, text.as_slice())?),
+            Answer::Saved => Answer::Saved,
+            Answer::Back(count) => Answer::Back(*count),
+            Answer::Committed(number) => Answer::Committed(*number),
+            Answer::Aborted(number) => Answer::Aborted(*number),
+            Answer::Refused(refusal) => Answer::Refused(*refusal),
+        })
+    }
+}
+
+/// One request of a session in a transaction, and its answer.
+#[derive(Drop)]
+pub struct Record {
+    /// Whose request it was.
+    pub session: SessionId,
+    /// The transaction that it was made in; of a Begin the one that was begun.
+    pub txn: TxnNumber,
+    /// What was asked for.
+    pub request: Request,
+    /// What was answered.
+    pub answer: Answer,
+}

@@ -1,0 +1,94 @@
+//! The tree that the machine changes.
+ghost use Rattle.std.specs.Prelude.{◌≡◌, ◌++◌, is_some, Some, IfOk, IfErr, OnOk, OnErr};
+ghost use Rattle.cg_maps.specs.FiniteMap.{set_at};
+ghost use Rattle.cg_name.specs.declared.refusal.Refusal.TheVariants.{Memory};
+ghost use Rattle.cg_model.specs.Tree.{group};
+ghost use Rattle.cg_world.specs.World.{IsWorld, world_text};
+
+use cg_name::path::Path;
+use cg_name::refusal::Refusal;
+use cg_text::settings::Settings;
+use cg_world::plain::PlainTree;
+use cg_world::world::World;
+use std::alloc::Global;
+use std::marker::Model;
+
+/// Groups and processes.
+#[derive(Drop)]
+pub struct Tree {
+    plain: PlainTree,
+}
+
+impl Model for Tree {
+    ghost use Rattle.cg_model.specs.Tree as model;
+    ghost use Rattle.cg_model.specs.Code.{tree_code};
+
+    ghost Value = { model.Tree };
+
+    ghost coded = { tree_code };
+
+    ghost view = { λ t. t.plain };
+}
+
+impl Tree {
+    /// The tree of a world.
+    pub fn from_world(world: World) -> Tree
+        ensures value { result ≡ world }
+        ensures valid { IsWorld world }
+    {
+        Tree {
+            plain: world.into_tree(),
+        }
+    }
+
+    /// A world that equals the tree; `Memory` where there is none for it.
+    pub fn to_world(&self, alloc: Global) -> Result<World, Refusal>
+        requires { IsWorld self.now }
+        ensures value { IfOk result (λ w. w ≡ self.now) }
+        ensures refusals { IfErr result (λ e. e ≡ Memory) }
+    {
+        Ok(World::from_tree(self.plain.copy(alloc)?))
+    }
+
+    /// An equal tree; `Memory` where there is none for it.
+    pub fn copy(&self, alloc: Global) -> Result<Tree, Refusal>
+        ensures value { IfOk result (λ t. t ≡ self.now) }
+        ensures refusals { IfErr result (λ e. e ≡ Memory) }
+    {
+        Ok(Tree {
+            plain: self.plain.copy(alloc)?,
+        })
+    }
+
+    /// Whether there is a group at this path.
+    pub fn find(&self, path: &Path) -> bool
+        ensures { result ≡ is_some (group self.now path.now) }
+    {
+        self.plain.settings(path).is_some()
+    }
+
+    /// The settings of a group, where there is one at this path.
+    pub fn settings(&self, path: &Path) -> Option<Settings>
+        ensures { result ≡ group self.now path.now }
+    {
+        self.plain.settings(path)
+    }
+
+    /// Makes the group at this path, or gives it these settings. `Memory` leaves the tree as it was.
+    pub fn set_group(&mut self, path: Path, settings: Settings) -> Result<(), Refusal>
+        ensures ok { OnOk result (self.new ≡ record self.old { groups = set_at self.old.groups path (Some settings) }) }
+        ensures err { OnErr result (self.new ≡ self.old) }
+        ensures refusals { IfErr result (λ e. e ≡ Memory) }
+    {
+        self.plain.set_group(path, settings)
+    }
+
+    /// Appends the world text of the tree. `Memory` leaves the bytes as they were.
+    pub fn write(&self, out: &mut Vec<u8>) -> Result<(), Refusal>
+        ensures ok { OnOk result (out.new.items ≡ out.old.items ++ world_text self.now) }
+        ensures err { OnErr result (out.new.items ≡ out.old.items) }
+        ensures refusals { IfErr result (λ e. e ≡ Memory) }
+    {
+        self.plain.write(out)
+    }
+}
