@@ -1,0 +1,84 @@
+-- A line spells one call at most, and so has one answer at most.
+use Rattle.std.proofs.Common.{◌≡◌, ℕ, List, [], ◌∷◌, ◌++◌, Option, Some, None, codes, refl, sym, ap, subst, ◌∙◌, ◌⊎◌, inl, inr, arith, Result, Ok, Err, OnOk, OnErr, false, true≢false}
+use Rattle.std.specs.Result.{is_err}
+use Rattle.cg_name.specs.Path.{Path, SpellsPath}
+use Rattle.cg_name.proofs.Pieces.{spells_one}
+use Rattle.cg_text.specs.Words.{Word, said_by}
+use Rattle.cg_model.specs.Command.{Create}
+use Rattle.cg_model.specs.Record.{Request, Begin, Do, Commit, Abort}
+use Rattle.cgtx.specs.Request.{SpellsRequest, SpellsCall, SpellsLine}
+use Rattle.cgtx.specs.Replay.{Replay, Asked, Answers, IsOneTooMany, session_number}
+
+head_same : {X : Type 0} {x y : X} {xs ys : List X} → x ∷ xs ≡ y ∷ ys → x ≡ y
+head_same e = cc
+
+second_same : {X : Type 0} {x y : X} {u v : X} → u ∷ x ∷ [] ≡ v ∷ y ∷ [] → x ≡ y
+second_same e = cc
+
+rest_same : {X : Type 0} {x y : X} {xs ys : List X} → x ∷ xs ≡ y ∷ ys → xs ≡ ys
+rest_same e = cc
+
+-- the third byte of the first word, which tells the words of requests apart
+abbrev third : List Word → ℕ
+third ((a ∷ b ∷ c ∷ w) ∷ ws) = c
+third _ = 0
+
+request_one : (ws : List Word) (r q : Request) → SpellsRequest ws r → SpellsRequest ws q → r ≡ q
+request_one ws Begin Begin a b = refl
+request_one ws Commit Commit a b = refl
+request_one ws Abort Abort a b = refl
+request_one ws (Do (Create p)) (Do (Create q)) a b =
+    ap (λ x. Do (Create x)) (spells_one p q a.0 a.2 (subst (λ w. SpellsPath w q) (second_same (sym b.1 ∙ a.1)) b.2))
+request_one ws Begin Commit a b = absurd (omega (arith, ap third (sym a ∙ b)))
+request_one ws Begin Abort a b = absurd (omega (arith, ap third (sym a ∙ b)))
+request_one ws Begin (Do (Create q)) a b = absurd (omega (arith, ap third (sym a ∙ b.1)))
+request_one ws Commit Begin a b = absurd (omega (arith, ap third (sym a ∙ b)))
+request_one ws Commit Abort a b = absurd (omega (arith, ap third (sym a ∙ b)))
+request_one ws Commit (Do (Create q)) a b = absurd (omega (arith, ap third (sym a ∙ b.1)))
+request_one ws Abort Begin a b = absurd (omega (arith, ap third (sym a ∙ b)))
+request_one ws Abort Commit a b = absurd (omega (arith, ap third (sym a ∙ b)))
+request_one ws Abort (Do (Create q)) a b = absurd (omega (arith, ap third (sym a ∙ b.1)))
+request_one ws (Do (Create p)) Begin a b = absurd (omega (arith, ap third (sym a.1 ∙ b)))
+request_one ws (Do (Create p)) Commit a b = absurd (omega (arith, ap third (sym a.1 ∙ b)))
+request_one ws (Do (Create p)) Abort a b = absurd (omega (arith, ap third (sym a.1 ∙ b)))
+
+call_one : (ws : List Word) (n m : List ℕ) (r q : Request) → SpellsCall ws n r → SpellsCall ws m q → ◌≡◌ {A = List ℕ × Request} (n, r) (m, q)
+call_one ws n m r q a b =
+    let same : n ∷ a.others ≡ m ∷ b.others = sym a.words ∙ b.words in
+    let requests : r ≡ q = request_one a.others r q a.request (subst (λ ws. SpellsRequest ws q) (sym (rest_same same)) b.request) in
+    λ i. (head_same same i, requests i)
+
+some_same : {X : Type 0} {x y : X} → Some x ≡ Some y → x ≡ y
+some_same e = cc
+
+some_none : {X : Type 0} {x : X} → Some x ≡ None → ⊥
+some_none e = cc
+
+pub line_one : (line : List ℕ) (c d : Option (List ℕ × Request)) → SpellsLine line c → SpellsLine line d → c ≡ d
+line_one line None None a b = refl
+line_one line None (Some d) a b = absurd (some_none (sym b.1.1 ∙ a.1))
+line_one line (Some c) None a b = absurd (some_none (sym a.1.1 ∙ b.1))
+line_one line (Some c) (Some d) a b =
+    let words : a.1.0 ≡ b.1.0 = some_same (sym a.1.1 ∙ b.1.1) in
+    ap (λ x. Some x) (call_one a.1.0 c.0 d.0 c.1 d.1 a.1.2 (subst (λ ws. SpellsCall ws d.0 d.1) (sym words) b.1.2))
+
+-- what a session's request is answered, the line is answered
+pub answers_asked : (s t : Replay) (line n out : List ℕ) (r : Request) → SpellsLine line (Some (n, r)) → Asked s n r out t → Answers s line out t
+answers_asked s t line n out r spelled (inl asked) = inr (inl (n, r, asked.0, spelled, asked.1))
+answers_asked s t line n out r spelled (inr many) =
+    inr (inr ((λ call h. subst (IsOneTooMany s.names) (line_one line (Some (n, r)) call spelled h) many.0), many.1, many.2))
+
+-- what follows from what holds of an outcome that is no error
+pub on_ok_map : {A E P Q : Type 0} (r : Result A E) → (P → Q) → OnOk r P → OnOk r Q
+on_ok_map (Ok x) f p = f p
+on_ok_map (Err e) f p = tt
+
+-- what holds of an outcome that is no error
+pub when_ok : {A E : Type 0} (r : Result A E) {P : Type 0} → is_err r ≡ false → OnOk r P → P
+when_ok (Ok x) e p = p
+when_ok (Err x) e p = absurd (true≢false e)
+
+-- what holds anyway holds of an error
+pub on_any_err : {A E : Type 0} (r : Result A E) {P : Type 0} → P → OnErr r P
+on_any_err (Ok x) p = tt
+on_any_err (Err e) p = p

@@ -1,0 +1,26 @@
+-- The lines of a schedule: which session asks for what.
+use Rattle.std.specs.Prelude.{◌≡◌, ℕ, List, [], ◌∷◌, Option, Some, None, codes}
+use Rattle.cg_name.specs.Path.{Path, SpellsPath}
+use Rattle.cg_text.specs.Words.{Word, IsLine, said_by}
+use Rattle.cg_model.specs.Command.{Create}
+use Rattle.cg_model.specs.Record.{Request, Begin, Do, Commit, Abort}
+use Rattle.cgtx.specs.Session.{IsSessionName}
+
+-- the words behind the session's name
+abbrev pub SpellsRequest : List Word → Request → Type 0
+SpellsRequest ws Begin = ws ≡ codes "begin" ∷ []
+SpellsRequest ws (Do (Create p)) = (path : Word) × (ws ≡ codes "create" ∷ path ∷ []) × SpellsPath path p
+SpellsRequest ws Commit = ws ≡ codes "commit" ∷ []
+SpellsRequest ws Abort = ws ≡ codes "abort" ∷ []
+
+-- a line's words spell a session's request
+pub record SpellsCall (ws : List Word) (n : List ℕ) (r : Request) : Type 0 where
+  pub name : IsSessionName n
+  pub others : List Word
+  pub words : ws ≡ n ∷ others
+  pub request : SpellsRequest others r
+
+-- a good line says nothing, or a session's request
+abbrev pub SpellsLine : List ℕ → Option (List ℕ × Request) → Type 0
+SpellsLine line None = IsLine line × (said_by line ≡ None)
+SpellsLine line (Some call) = IsLine line × ((ws : List Word) × (said_by line ≡ Some ws) × SpellsCall ws call.0 call.1)
