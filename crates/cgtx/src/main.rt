@@ -17,21 +17,32 @@ mod world_reader;
 
 use crate::device::{FromRead, FromWrite};
 use crate::program::replay_to;
+use cg_name::refusal::Refusal;
 use std::env;
+use std::io::ErrorKind;
 use std::process::ExitCode;
 
 /// The status of a fault of the command line.
 const BAD_COMMAND_LINE: u8 = 2;
+/// The status of want of memory.
+const NO_MEMORY: u8 = 3;
 
 fn main(rt: HostRuntime) -> ExitCode {
-    let words = match env::args(&rt) {
-        Ok(words) => words.count(),
-        Err(_) => 0,
-    };
-    if words > 1 {
-        let _ = rt.eprintln("cgtx: takes no words");
-        return ExitCode::from(BAD_COMMAND_LINE);
+    match env::args(&rt) {
+        Ok(words) if words.len() <= 1 => replay_stdin(&rt),
+        Err(fault) if fault.kind() == ErrorKind::OutOfMemory => {
+            let _ = rt.eprintln(Refusal::Memory);
+            ExitCode::from(NO_MEMORY)
+        }
+        _ => {
+            let _ = rt.eprintln("cgtx: takes no words");
+            ExitCode::from(BAD_COMMAND_LINE)
+        }
     }
+}
+
+// Plays what standard input gives.
+fn replay_stdin(rt: &HostRuntime) -> ExitCode {
     let mut out = FromWrite::new(rt.stdout());
     let mut err = FromWrite::new(rt.stderr());
     let none: Option<FromRead<std::rt::Stdin>> = None;
