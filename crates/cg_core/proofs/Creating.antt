@@ -6,11 +6,18 @@ use Rattle.cg_name.specs.Name.{Name}
 use Rattle.cg_name.specs.Path.{Path, is_root, along}
 use Rattle.cg_name.specs.declared.refusal.Refusal.{Refusal}
 use Rattle.cg_name.specs.declared.refusal.Refusal.TheVariants.{NoGroup, Exists}
-use Rattle.cg_model.specs.Record.{is_command_refusal}
+use Rattle.cg_model.specs.History.{is_command_refusal}
+use Rattle.cg_core.specs.declared.command.Command as rust
+use Rattle.cg_core.specs.declared.command.Command.TheVariants as commands
+use Rattle.cg_core.specs.Meaning.{command_of}
 use Rattle.cg_text.specs.Settings.{fresh}
 use Rattle.cg_text.specs.declared.settings.Settings.{Settings}
-use Rattle.cg_model.specs.Tree.{Tree, group, last_of, parent_group, descendants}
-use Rattle.cg_model.specs.Command.{Command, Effect, Refuse, Accept, Create, effect, create_effect, is_full, is_too_deep, too_many, too_deep, IsAccepted, ChangesTo}
+use Rattle.cg_model.specs.Tree.{Tree, group, last_of, parent_group}
+use Rattle.cg_model.specs.Derived.{descendants}
+use Rattle.cg_model.specs.Command.{Effect, Create, IsAccepted, ChangesTo}
+use Rattle.cg_model.specs.System.{Refuse, Accept}
+use Rattle.cg_model.specs.Effect.{effect}
+use Rattle.cg_model.specs.Groups.{create_effect, is_full, is_too_deep, too_many, too_deep}
 use Rattle.cg_world.specs.World.{IsWorld}
 
 -- the last of what stands along a path is what stands at its parent
@@ -122,9 +129,9 @@ own_check (n ∷ p) (Some u) None true deep = refl
 own_check (n ∷ p) (Some u) None false true = refl
 own_check (n ∷ p) (Some u) None false false = tt
 
-own_effect : (c : Command) (T : Tree) → IsOwn (effect c T)
+own_effect : (c : rust.Command) (T : Tree) → IsOwn (effect (command_of c) T)
 unfolding effect
-own_effect (Create p) T = own_check p (parent_group T p) (group T p) (too_many T p) (too_deep T p)
+own_effect (commands.Create p) T = own_check p (parent_group T p) (group T p) (too_many T p) (too_deep T p)
 
-pub refused_is_recorded : (c : Command) (T : Tree) (r : Refusal) → effect c T ≡ Refuse r → is_command_refusal r ≡ true
+pub refused_is_recorded : (c : rust.Command) (T : Tree) (r : Refusal) → effect (command_of c) T ≡ Refuse r → is_command_refusal r ≡ true
 refused_is_recorded c T r e = subst IsOwn e (own_effect c T)

@@ -14,7 +14,9 @@ use Rattle.cg_name.specs.declared.controller.Controller.{Controller}
 use Rattle.cg_name.specs.declared.controller.Controller.TheVariants.{Cpuset, Cpu, Io, Memory, Hugetlb, Pids, Rdma, Misc}
 use Rattle.cg_model.specs.Tree.{Tree, group, parent_group}
 use Rattle.cg_model.specs.Sound.{Sound, IsChildOf, admits}
-use Rattle.cg_model.specs.Command.{Create, effect, create_effect, too_many, too_deep, IsAccepted}
+use Rattle.cg_model.specs.Command.{Create, IsAccepted}
+use Rattle.cg_model.specs.Effect.{effect}
+use Rattle.cg_model.specs.Groups.{create_effect, too_many, too_deep}
 use Rattle.cg_world.specs.World.{IsWorld, IsSettingsOfOne}
 use Rattle.cg_core.proofs.Creating.{created, parent_is}
 

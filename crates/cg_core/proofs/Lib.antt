@@ -1,3 +1,5 @@
 mod Creating
 mod Kept
 mod Refusing
+mod MachineLaws
+mod WorkedRows

@@ -7,9 +7,12 @@ use Rattle.cg_name.specs.declared.refusal.Refusal.TheVariants as refusals
 use Rattle.cg_core.specs.declared.record.Answer.TheVariants as answers
 use Rattle.cg_core.specs.Meaning.{is_memory}
 use Rattle.cg_model.specs.Tree.{Tree}
-use Rattle.cg_model.specs.Command.{Command, Refuse, effect}
-use Rattle.cg_model.specs.Record.{Record, Request, Answer, Do, Refused, is_command_refusal}
-use Rattle.cg_model.specs.Machine.{Machine, Open, stepped, reply, number_in, is_full_history, answer_of, changed, recorded}
+use Rattle.cg_model.specs.Command.{Command}
+use Rattle.cg_model.specs.System.{Refuse}
+use Rattle.cg_model.specs.Effect.{effect}
+use Rattle.cg_model.specs.History.{is_command_refusal}
+use Rattle.cg_core.specs.Record.{Record, Request, Answer, Do, Refused}
+use Rattle.cg_core.specs.Machine.{Machine, Open, stepped, reply, number_in, is_full_history, answer_of, changed, recorded}
 
 pub not_memory : (r : Refusal) → is_command_refusal r ≡ true → is_memory (answers.Refused r) ≡ false
 not_memory refusals.Memory e = absurd (true≢false (sym e))

@@ -2,8 +2,8 @@
 use Rattle.std.specs.Prelude.{ℕ, ◌≤◌, Option, Some, None, option_map}
 use Rattle.cg_core.specs.declared.machine.Open.{Open}
 use Rattle.cg_core.specs.declared.machine.Core.TheInside.{Inside}
-use Rattle.cg_model.specs.Machine as model
-use Rattle.cg_model.specs.Machine.{Machine, places}
+use Rattle.cg_core.specs.Machine as model
+use Rattle.cg_core.specs.Machine.{Machine, places}
 use Rattle.cg_world.specs.World.{IsWorld}
 
 abbrev pub open_of : Open → model.Open

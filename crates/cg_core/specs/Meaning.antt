@@ -9,7 +9,7 @@ use Rattle.cg_core.specs.declared.record.Answer.{Answer}
 use Rattle.cg_core.specs.declared.record.Answer.TheVariants as answers
 use Rattle.cg_core.specs.declared.record.Record.{Record}
 use Rattle.cg_model.specs.Command as model
-use Rattle.cg_model.specs.Record as records
+use Rattle.cg_core.specs.Record as records
 
 abbrev pub command_of : rust.Command → model.Command
 command_of (commands.Create p) = model.Create p

@@ -1,7 +1,9 @@
 //! The commands on a tree.
 ghost use Rattle.std.specs.Prelude.{◌≡◌, ◌≢◌, IfOk, IfErr, OnOk, OnErr};
 ghost use Rattle.cg_name.specs.declared.refusal.Refusal.TheVariants.{Memory};
-ghost use Rattle.cg_model.specs.Command.{effect, IsAccepted, ChangesTo};
+ghost use Rattle.cg_model.specs.Effect.{effect};
+ghost use Rattle.cg_model.specs.System.{Refuse};
+ghost use Rattle.cg_model.specs.Command.{IsAccepted, ChangesTo};
 ghost use Rattle.cg_model.specs.Command as model;
 ghost use Rattle.cg_world.specs.World.{IsWorld};
 
@@ -40,7 +42,7 @@ impl Command {
     pub fn check(&self, alloc: Global, tree: &Tree) -> Result<(), Refusal>
         requires { IsWorld tree.now }
         ensures accepted { OnOk result (IsAccepted (effect (command_of self.now) tree.now)) }
-        ensures refused { IfErr result (λ e. e ≢ Memory → effect (command_of self.now) tree.now ≡ model.Refuse e) }
+        ensures refused { IfErr result (λ e. e ≢ Memory → effect (command_of self.now) tree.now ≡ Refuse e) }
     {
         match self {
             Command::Create { path } => check_create(alloc, path, tree),
@@ -66,7 +68,7 @@ impl Command {
 fn check_create(alloc: Global, path: &Path, tree: &Tree) -> Result<(), Refusal>
     requires { IsWorld tree.now }
     ensures accepted { OnOk result (IsAccepted (effect (model.Create path.now) tree.now)) }
-    ensures refused { IfErr result (λ e. e ≢ Memory → effect (model.Create path.now) tree.now ≡ model.Refuse e) }
+    ensures refused { IfErr result (λ e. e ≢ Memory → effect (model.Create path.now) tree.now ≡ Refuse e) }
 {
     let Some(parent) = path.parent(alloc)? else {
         return Err(Refusal::Exists);

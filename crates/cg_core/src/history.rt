@@ -1,7 +1,7 @@
 //! The history of a machine, with places kept for records to come.
 ghost use Rattle.std.specs.Prelude.{◌≡◌, ◌+◌, ◌-◌, ◌<◌, ◌≤◌, ◌^◌, ◌++◌, ◌∷◌, [], length, IfErr, OnOk, OnErr};
 ghost use Rattle.cg_name.specs.declared.refusal.Refusal.TheVariants.{Memory};
-ghost use Rattle.cg_model.specs.Record.{begins, commits};
+ghost use Rattle.cg_core.specs.Record.{begins, commits};
 
 use crate::record::{Answer, Record};
 use cg_name::refusal::Refusal;
@@ -21,9 +21,9 @@ impl Model for History {
     ghost use Rattle.std.specs.Prelude.{◌≡◌, ◌+◌, ◌≤◌, ℕ, List, map, vec_len};
     ghost use Rattle.std.specs.Vec.{vec_capacity};
     ghost use Rattle.std.specs.Coded.{coded×, coded_ℕ, coded_list};
-    ghost use Rattle.cg_model.specs.Record as model;
-    ghost use Rattle.cg_model.specs.Record.{begins, commits};
-    ghost use Rattle.cg_model.specs.MachineCode.{record_code};
+    ghost use Rattle.cg_core.specs.Record as model;
+    ghost use Rattle.cg_core.specs.Record.{begins, commits};
+    ghost use Rattle.cg_core.specs.MachineCode.{record_code};
 
     ghost Value = { List model.Record × ℕ };
 

@@ -3,6 +3,7 @@
 
 pub mod command;
 pub mod history;
+pub mod laws;
 pub mod machine;
 pub mod record;
 #[cfg(test)]

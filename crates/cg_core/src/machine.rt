@@ -4,9 +4,11 @@ ghost use Rattle.std.specs.Bool.{OnTrue, OnFalse};
 ghost use Rattle.cg_name.specs.declared.refusal.Refusal.TheVariants.{Memory};
 ghost use Rattle.cg_world.specs.World.{IsWorld};
 ghost use Rattle.std.specs.Option.{option_map};
-ghost use Rattle.cg_model.specs.Command.{effect, Refuse, IsAccepted};
-ghost use Rattle.cg_model.specs.Record as model;
-ghost use Rattle.cg_model.specs.Machine.{reply, stepped, is_full_history, number_in, count_of};
+ghost use Rattle.cg_model.specs.Effect.{effect};
+ghost use Rattle.cg_model.specs.System.{Refuse};
+ghost use Rattle.cg_model.specs.Command.{IsAccepted};
+ghost use Rattle.cg_core.specs.Record as model;
+ghost use Rattle.cg_core.specs.Machine.{reply, stepped, is_full_history, number_in, count_of};
 
 use crate::command::Command;
 use crate::history::History;
@@ -39,8 +41,8 @@ pub struct Core {
 }
 
 impl Model for Core {
-    ghost use Rattle.cg_model.specs.Machine.{Machine};
-    ghost use Rattle.cg_model.specs.MachineCode.{machine_code};
+    ghost use Rattle.cg_core.specs.Machine.{Machine};
+    ghost use Rattle.cg_core.specs.MachineCode.{machine_code};
 
     ghost Value = { Machine };
 
@@ -140,7 +142,7 @@ impl Core {
         }
     }
 
-    #[tactic(auto, unfolding(cg_model::specs::Machine::reply, cg_model::specs::Machine::stepped))]
+    #[tactic(auto, unfolding(crate::specs::Machine::reply, crate::specs::Machine::stepped))]
     fn begin(&mut self, alloc: Global, session: SessionId) -> Answer
         ensures answer { OnFalse (is_memory result) (answer_of result ≡ reply self.old session.0 model.Begin) }
         ensures state { OnFalse (is_memory result) (self.new ≡ stepped self.old session.0 model.Begin) }
@@ -177,7 +179,7 @@ impl Core {
         Answer::Begun(number)
     }
 
-    #[tactic(auto, unfolding(cg_model::specs::Machine::reply, cg_model::specs::Machine::stepped))]
+    #[tactic(auto, unfolding(crate::specs::Machine::reply, crate::specs::Machine::stepped))]
     fn commit(&mut self, session: SessionId) -> Answer
         ensures infallible { is_memory result ≡ false }
         ensures answer { answer_of result ≡ reply self.old session.0 model.Commit }
@@ -199,7 +201,7 @@ impl Core {
         }
     }
 
-    #[tactic(auto, unfolding(cg_model::specs::Machine::reply, cg_model::specs::Machine::stepped))]
+    #[tactic(auto, unfolding(crate::specs::Machine::reply, crate::specs::Machine::stepped))]
     fn abort(&mut self, session: SessionId) -> Answer
         ensures infallible { is_memory result ≡ false }
         ensures answer { answer_of result ≡ reply self.old session.0 model.Abort }
@@ -224,7 +226,7 @@ impl Core {
         }
     }
 
-    #[tactic(auto, unfolding(cg_model::specs::Machine::reply, cg_model::specs::Machine::stepped))]
+    #[tactic(auto, unfolding(crate::specs::Machine::reply, crate::specs::Machine::stepped))]
     fn run(&mut self, alloc: Global, session: SessionId, command: Command) -> Answer
         ensures answer { OnFalse (is_memory result) (answer_of result ≡ reply self.old session.0 (model.Do (command_of command))) }
         ensures state { OnFalse (is_memory result) (self.new ≡ stepped self.old session.0 (model.Do (command_of command))) }
@@ -244,7 +246,7 @@ impl Core {
     }
 
     // Records a command of the open transaction that the tree refuses.
-    #[tactic(auto, using(crate::proofs::Creating::refused_is_recorded), unfolding(cg_model::specs::Machine::reply, cg_model::specs::Machine::stepped))]
+    #[tactic(auto, using(crate::proofs::Creating::refused_is_recorded), unfolding(crate::specs::Machine::reply, crate::specs::Machine::stepped))]
     fn refuse(
         &mut self,
         session: SessionId,
@@ -272,7 +274,7 @@ impl Core {
     }
 
     // Runs a command of the open transaction that the tree accepts.
-    #[tactic(auto, unfolding(cg_model::specs::Machine::reply, cg_model::specs::Machine::stepped))]
+    #[tactic(auto, unfolding(crate::specs::Machine::reply, crate::specs::Machine::stepped))]
     fn accept(
         &mut self,
         alloc: Global,

@@ -1,2 +1,2 @@
-mod MachineLaws
-mod WorkedRows
+mod CommandRows
+mod SessionRows

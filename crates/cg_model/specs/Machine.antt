@@ -1,100 +1,143 @@
--- The machine: one transaction at a time over a tree, with its history. Begin keeps the tree, and Abort gives it back.
-use Rattle.std.specs.Prelude.{ℕ, ◌+◌, Bool, ◌==◌, nat_lt, if◌then◌else◌, List, [], ◌∷◌, ◌++◌, length, Option, Some, None}
-use Rattle.cg_name.specs.declared.refusal.Refusal.TheVariants.{NoTransaction, AlreadyOpen, Full, Busy}
-use Rattle.cg_model.specs.Tree.{Tree}
-use Rattle.cg_model.specs.Command.{Effect, Refuse, Accept, effect, done}
-use Rattle.cg_model.specs.Record as records
-use Rattle.cg_model.specs.Record.{Request, Begin, Do, Commit, Abort, Answer, Begun, Committed, Aborted, Refused, Record, is_recorded, begins, commits}
+-- The machine: one tree changed in place, a stack with inverses for each open transaction, counts and the history. It goes
+-- back by inverses, and never replays.
+use Rattle.std.specs.Prelude.{ℕ, ◌+◌, ◌-◌, ◌==◌, ◌||◌, nat_lt, Bool, true, false, cond, List, [], ◌∷◌, length, Option, Some, None}
+use Rattle.cg_name.specs.Name.{Name, same_name}
+use Rattle.cg_name.specs.declared.refusal.Refusal.TheVariants.{NoTransaction, AlreadyOpen, Full, Busy, NoSavepoint, NameTaken, NothingToUndo}
+use Rattle.cg_model.specs.System.{System, Outcome, Done, Attempt, Refuse, Accept}
+use Rattle.cg_model.specs.History.{Request, Begin, Do, Save, Back, Undo, Commit, Abort, Answer, Begun, Gave, Saved, WentBack, Committed, Aborted, Refused, History, is_recorded, named_in}
+use Rattle.cg_model.specs.Reply.{found_or}
 
--- the open transaction: whose it is, its number, the tree at its Begin, and how many of its commands were accepted
-pub record Open : Type 0 where
+-- a command that was accepted after these records, with its outcome, its inverse and its footprint; or a savepoint
+pub data Entry (y : System) : Type 0 where
+  Did : (transaction : ℕ) (before : History y) (command : y.Command) (outcome : Outcome) (inverse : y.Change) (footprint : y.Footprint) → Entry y
+  Mark : (transaction : ℕ) (before : History y) (name : Name) → Entry y
+
+-- an open transaction; the newest entry stands first
+pub record Transaction (y : System) : Type 0 where
   pub session : ℕ
   pub number : ℕ
-  pub before : Tree
-  pub commands : ℕ
+  pub stack : List (Entry y)
 
-pub record Machine : Type 0 where
-  pub opening : Tree
+pub record Machine (y : System) : Type 0 where
+  pub tree : y.State
+  -- the newest first
+  pub transactions : List (Transaction y)
+  pub begun : ℕ
+  pub commits : ℕ
+  pub history : History y
   pub limit : ℕ
-  pub tree : Tree
-  pub open_one : Option Open
-  pub history : List Record
 
--- places of the history in use: the records, and those kept for the open transaction and for each of its commands
-abbrev pub kept_places : Option Open → ℕ
-kept_places None = 0
-kept_places (Some o) = 1 + o.commands
+abbrev pub opened : (y : System) → y.State → ℕ → Machine y
+opened y o limit = record { tree = o; transactions = []; begun = 0; commits = 0; history = []; limit = limit }
 
-abbrev pub places : Machine → ℕ
-places m = length m.history + kept_places m.open_one
+-- the number and the stack of a session's open transaction
+abbrev pub found : {y : System} → ℕ → List (Transaction y) → Option (ℕ × List (Entry y))
+found s [] = None
+found s (x ∷ xs) = cond (x.session == s) (Some (x.number, x.stack)) (found s xs)
 
--- two more places would exceed the limit
-abbrev pub is_full_history : Machine → Bool
-is_full_history m = nat_lt m.limit (places m + 2)
+-- t has this stack now
+abbrev pub with_stack : {y : System} → ℕ → List (Entry y) → List (Transaction y) → List (Transaction y)
+with_stack t l [] = []
+with_stack t l (x ∷ xs) = record x { stack = cond (x.number == t) l x.stack } ∷ with_stack t l xs
 
-abbrev pub begin_reply : Machine → ℕ → Option Open → Answer
-begin_reply m s (Some o) = if o.session == s then Refused AlreadyOpen else Refused (Busy (record { 0 = o.number }))
-begin_reply m s None = if is_full_history m then Refused Full else Begun (begins m.history + 1)
+abbrev pub dropped : {y : System} → ℕ → List (Transaction y) → List (Transaction y)
+dropped t [] = []
+dropped t (x ∷ xs) = cond (x.number == t) (dropped t xs) (x ∷ dropped t xs)
 
-abbrev pub answer_of : Effect → Answer
-answer_of (Refuse r) = Refused r
-answer_of (Accept o cs) = records.Done
+-- the footprint clashes with one of these
+abbrev pub hits : (y : System) → y.Footprint → List (Entry y) → Bool
+hits y f [] = false
+hits y f (Did t h c a d g ∷ l) = y.clashes g f || hits y f l
+hits y f (Mark t h n ∷ l) = hits y f l
 
--- the reply to a request of the open transaction o
-abbrev pub own_reply : Machine → Open → Request → Answer
-own_reply m o Begin = Refused AlreadyOpen
-own_reply m o (Do c) = if is_full_history m then Refused Full else answer_of (effect c m.tree)
-own_reply m o Commit = Committed (commits m.history + 1)
-own_reply m o Abort = Aborted o.number
+-- the oldest of these transactions that holds what clashes
+abbrev pub stack_holder : (y : System) → y.Footprint → List (Transaction y) → Option ℕ
+stack_holder y f [] = None
+stack_holder y f (x ∷ xs) = found_or (stack_holder y f xs) (hits y f x.stack) x.number
 
--- the reply to any other request but Begin: the session has no open transaction
-abbrev pub reply_in : Machine → ℕ → Option Open → Request → Answer
-reply_in m s o Begin = begin_reply m s o
-reply_in m s None r = Refused NoTransaction
-reply_in m s (Some o) r = if o.session == s then own_reply m o r else Refused NoTransaction
+abbrev pub has_mark : {y : System} → Name → List (Entry y) → Bool
+has_mark n [] = false
+has_mark n (Did t h c a d g ∷ l) = has_mark n l
+has_mark n (Mark t h m ∷ l) = same_name m n || has_mark n l
 
--- the answer to a request of a session
-unfoldable pub reply : Machine → ℕ → Request → Answer
-reply m s r = reply_in m s m.open_one r
+abbrev pub entries : {y : System} → List (Transaction y) → ℕ
+entries [] = 0
+entries (x ∷ xs) = length x.stack + entries xs
 
-abbrev pub open_number : Option Open → ℕ
-open_number None = 0
-open_number (Some o) = o.number
+-- two more places would exceed the limit: the records, one for each open transaction, one for each entry
+abbrev pub is_full_machine : {y : System} → Machine y → Bool
+is_full_machine m = nat_lt (m.limit - 2) (length m.history + (length m.transactions + entries m.transactions))
 
--- the transaction that a record names: the one that was begun, or the open one
-abbrev pub named_by : Machine → Answer → ℕ
-named_by m (Begun t) = t
-named_by m a = open_number m.open_one
+-- every inverse undone, the newest first
+abbrev pub unwound : (y : System) → List (Entry y) → y.State → y.State
+unwound y [] s = s
+unwound y (Did t h c a d f ∷ l) s = unwound y l (y.undone d s)
+unwound y (Mark t h n ∷ l) s = unwound y l s
 
-abbrev pub recorded : Machine → ℕ → Request → Answer → Machine
-recorded m s r a = record m { history = if is_recorded r a then m.history ++ record { session = s; transaction = named_by m a; request = r; answer = a } ∷ [] else m.history }
+-- down to the savepoint, which goes too: the stack and the tree that are left, and the answer; k commands were taken off before
+abbrev pub back_to : (y : System) → Name → List (Entry y) → y.State → ℕ → List (Entry y) × y.State × Answer
+back_to y n [] s k = ([], s, Refused NoSavepoint)
+back_to y n (Did t h c a d f ∷ l) s k = back_to y n l (y.undone d s) (k + 1)
+back_to y n (Mark t h m ∷ l) s k = cond (same_name m n) (l, s, WentBack k) (back_to y n l s k)
 
-abbrev pub with_effect : Machine → Option Open → Effect → Machine
-with_effect m (Some o) (Accept t cs) = record m { tree = done cs m.tree; open_one = Some (record o { commands = o.commands + 1 }) }
-with_effect m _ _ = m
+abbrev pub went_back : (y : System) → Machine y → ℕ → List (Entry y) × y.State × Answer → Machine y × Answer
+went_back y m t r = (record m { tree = r.1; transactions = with_stack t r.0 m.transactions }, r.2)
 
-abbrev pub given_back : Machine → Option Open → Machine
-given_back m None = m
-given_back m (Some o) = record m { tree = o.before; open_one = None }
+abbrev pub accepted : (y : System) → Machine y → ℕ → List (Entry y) → y.Command → Attempt y.Change → Machine y × Answer
+accepted y m t l c (Refuse r) = (m, Refused r)
+accepted y m t l c (Accept a d) =
+    (record m { tree = y.done d m.tree; transactions = with_stack t (Did t m.history c a d (y.footprint c m.tree) ∷ l) m.transactions }, Gave a)
 
--- what an answer changes beside the history
-abbrev pub changed : Machine → ℕ → Request → Answer → Machine
-changed m s r (Refused e) = m
-changed m s Begin (Begun t) = record m { open_one = Some (record { session = s; number = t; before = m.tree; commands = 0 }) }
-changed m s (Do c) a = with_effect m m.open_one (effect c m.tree)
-changed m s Commit a = record m { open_one = None }
-changed m s Abort a = given_back m m.open_one
-changed m s Begin a = m
+abbrev pub done_unless_held : (y : System) → Machine y → ℕ → List (Entry y) → y.Command → Option ℕ → Machine y × Answer
+done_unless_held y m t l c (Some u) = (m, Refused (Busy (record { 0 = u })))
+done_unless_held y m t l c None = accepted y m t l c (y.effect c m.tree)
 
--- the machine after a request
-unfoldable pub stepped : Machine → ℕ → Request → Machine
-stepped m s r = let a = reply m s r in let n = recorded m s r a in record (changed m s r a) { history = n.history }
+abbrev pub newest_undone : (y : System) → Machine y → ℕ → List (Entry y) → Machine y × Answer
+newest_undone y m t [] = (m, Refused NothingToUndo)
+newest_undone y m t (Mark u h n ∷ l) = (m, Refused NothingToUndo)
+newest_undone y m t (Did u h c a d f ∷ l) = (record m { tree = y.undone d m.tree; transactions = with_stack t l m.transactions }, Gave Done)
 
--- the number of the session's open transaction
-abbrev pub number_in : ℕ → Option Open → Option ℕ
-number_in s None = None
-number_in s (Some o) = if o.session == s then Some o.number else None
+-- a request of the session with the open transaction t, whose stack is l
+abbrev pub step_in : (y : System) → Machine y → ℕ → List (Entry y) → Request y → Machine y × Answer
+step_in y m t l Begin = (m, Refused AlreadyOpen)
+step_in y m t l (Do c) =
+    cond (is_full_machine m) (m, Refused Full) (done_unless_held y m t l c (stack_holder y (y.footprint c m.tree) (dropped t m.transactions)))
+step_in y m t l (Save n) =
+    cond (has_mark n l) (m, Refused NameTaken)
+    (cond (is_full_machine m) (m, Refused Full) (record m { transactions = with_stack t (Mark t m.history n ∷ l) m.transactions }, Saved))
+step_in y m t l (Back n) = cond (has_mark n l) (went_back y m t (back_to y n l m.tree 0)) (m, Refused NoSavepoint)
+step_in y m t l Undo = newest_undone y m t l
+step_in y m t l Commit = (record m { transactions = dropped t m.transactions; commits = m.commits + 1 }, Committed (m.commits + 1))
+step_in y m t l Abort = (record m { tree = unwound y l m.tree; transactions = dropped t m.transactions }, Aborted t)
 
-abbrev pub count_of : Option Open → ℕ
-count_of None = 0
-count_of (Some o) = 1
+-- a request of a session without one
+abbrev pub step_out : (y : System) → Machine y → ℕ → Request y → Machine y × Answer
+step_out y m s Begin =
+    cond (is_full_machine m) (m, Refused Full)
+    (record m { transactions = record { session = s; number = m.begun + 1; stack = [] } ∷ m.transactions; begun = m.begun + 1 }, Begun (m.begun + 1))
+step_out y m s _ = (m, Refused NoTransaction)
+
+abbrev pub step_at : (y : System) → Machine y → ℕ → Request y → Option (ℕ × List (Entry y)) → Machine y × Answer
+step_at y m s r (Some p) = step_in y m p.0 p.1 r
+step_at y m s r None = step_out y m s r
+
+abbrev pub number_of : {y : System} → Option (ℕ × List (Entry y)) → Option ℕ
+number_of None = None
+number_of (Some p) = Some p.0
+
+-- with its record, where there is one
+abbrev pub noted : {y : System} → Bool → ℕ → Request y → Option ℕ → Machine y × Answer → Machine y × Answer
+noted true s r t p = (record p.0 { history = record { session = s; transaction = named_in t p.1; request = r; answer = p.1 } ∷ p.0.history }, p.1)
+noted false s r t p = p
+
+abbrev pub with_record : {y : System} → ℕ → Request y → Option ℕ → Machine y × Answer → Machine y × Answer
+with_record s r t p = noted (is_recorded r p.1) s r t p
+
+-- one request of a session: the machine after it, and the answer
+abbrev pub step : (y : System) → Machine y → ℕ → Request y → Machine y × Answer
+step y m s r = with_record s r (number_of (found s m.transactions)) (step_at y m s r (found s m.transactions))
+
+-- a list of requests of any sessions, the first one first
+abbrev pub steps : (y : System) → Machine y → List (ℕ × Request y) → Machine y
+steps y m [] = m
+steps y m (p ∷ ps) = steps y (step y m p.0 p.1).0 ps

@@ -1,78 +1,114 @@
--- Worked runs of the machine on a small world, by computation.
-use Rattle.std.specs.Prelude.{◌≡◌, ℕ, true, List, [], ◌∷◌, None, codes}
-use Rattle.cg_maps.specs.FiniteMap.{empty, checked, get, insert, retain, entries, keys, len, set_at, domain}
-use Rattle.cg_maps.specs.FiniteSet.{such_that_below, with_member}
+-- Worked runs of the machine on a small world, by computation: how they are written.
+use Rattle.std.specs.Prelude.{ℕ, true, List, [], ◌∷◌, map, codes}
+use Rattle.std.specs.Ordering.{nat_cmp}
+use Rattle.std.specs.Fmt.{digits}
+use Rattle.cg_maps.specs.FiniteMap.{FiniteMap, empty, checked, get, insert, retain, entries, keys, len, set_at, domain, from_entries}
+use Rattle.cg_maps.specs.FiniteSet.{FiniteSet, members, in_common, with_member, set_of, such_that_below}
 use Rattle.cg_name.specs.Name.{same_name}
-use Rattle.cg_name.specs.Path.{Path, same_path}
-use Rattle.cg_name.specs.declared.refusal.Refusal.TheVariants.{NoTransaction, AlreadyOpen, Full, Busy, NoGroup, Exists}
+use Rattle.cg_name.specs.Path.{Path, path_cmp, same_path}
 use Rattle.cg_text.specs.Controllers.{no_controllers}
 use Rattle.cg_text.specs.Settings.{fresh}
-use Rattle.cg_model.specs.Tree.{Tree, descendants}
-use Rattle.cg_model.specs.Command.{Create, effect}
-use Rattle.cg_model.specs.Record.{Request, Begin, Do, Commit, Abort, Answer, Begun, Done, Committed, Aborted, Refused}
-use Rattle.cg_model.specs.Machine.{Machine, reply, stepped}
-
--- a machine with eight CPUs, the root and two processes in it
-unfoldable pub w0 : Tree
-unfolding insert empty checked such_that_below with_member set_at
-w0 = record {
-  controllers = record no_controllers { cpuset = true; cpu = true; memory = true };
-  online = such_that_below 8 (λ n. true);
-  groups = insert empty [] fresh;
-  places = insert (insert empty 10 []) 11 [];
-}
-
-unfoldable pub opened : ℕ → Machine
-opened limit = record { opening = w0; limit = limit; tree = w0; open_one = None; history = [] }
+use Rattle.cg_text.specs.declared.control_ops.ControlOps.{ControlOps}
+use Rattle.cg_text.specs.declared.controllers.Controllers.{Controllers}
+use Rattle.cg_text.specs.declared.settings.Settings.{Settings}
+use Rattle.cg_model.specs.Tree.{Tree}
+use Rattle.cg_model.specs.Derived.{children, descendants, processes, processes_below}
+use Rattle.cg_model.specs.Effect.{effect}
+use Rattle.cg_model.specs.Footprint.{footprint}
+use Rattle.cg_model.specs.Cgroups.{cgroups}
+use Rattle.cg_model.specs.History.{Request, Answer}
+use Rattle.cg_model.specs.Machine.{Machine, opened, step}
 
 -- requests of sessions by number
 abbrev pub Asked : Type 0
-Asked = List (ℕ × Request)
+Asked = List (ℕ × Request cgroups)
 
--- the answers to requests
-unfoldable pub answers : Machine → Asked → List Answer
-unfolding get insert empty checked retain entries keys len set_at domain descendants same_name same_path effect reply stepped
-answers m [] = []
-answers m (q ∷ qs) = reply m q.0 q.1 ∷ answers (stepped m q.0 q.1) qs
+-- the answers to requests, and the tree at the end
+unfoldable pub played : Machine cgroups → Asked → List Answer × Tree
+unfolding get insert empty checked retain entries keys len set_at domain members in_common with_member such_that_below children descendants processes processes_below same_name same_path digits effect footprint
+played m [] = ([], m.tree)
+played m (q ∷ qs) = let after = step cgroups m q.0 q.1 in let rest = played after.0 qs in (after.1 ∷ rest.0, rest.1)
 
--- the machine after requests
-unfoldable pub after : Machine → Asked → Machine
-unfolding get insert empty checked retain entries keys len set_at domain descendants same_name same_path effect reply stepped
-after m [] = m
-after m (q ∷ qs) = after (stepped m q.0 q.1) qs
+-- with the greatest limit on the history
+unfoldable pub play : Tree → Asked → List Answer × Tree
+unfolding played
+play T asked = played (opened cgroups T 1048576) asked
 
-abbrev pub a : Path
-a = codes "a" ∷ []
+unfoldable pub play_within : ℕ → Tree → Asked → List Answer × Tree
+unfolding played
+play_within limit T asked = played (opened cgroups T limit) asked
 
-abbrev pub b : Path
-b = codes "b" ∷ []
+-- the CPUs from first on, so many of them
+unfoldable pub cpus_below : ℕ → FiniteSet
+unfolding such_that_below with_member set_at insert empty checked
+cpus_below n = such_that_below n (λ _. true)
 
-abbrev pub below : Path
-below = codes "b" ∷ codes "c" ∷ []
+unfoldable pub cpus_of : List ℕ → FiniteSet
+unfolding with_member set_at insert empty checked
+cpus_of ns = set_of ns
 
--- a group is made, and the abort takes it away
-abbrev pub made_and_aborted : Asked
-made_and_aborted = (1, Begin) ∷ (1, Do (Create a)) ∷ (1, Abort) ∷ []
+unfoldable pub groups_of : List (Path × Settings) → FiniteMap path_cmp Settings
+unfolding set_at insert empty checked
+groups_of es = from_entries path_cmp es
 
-abbrev pub CreateAndAbort : Type 0
-CreateAndAbort =
-    (answers (opened 1048576) made_and_aborted ≡ Begun 1 ∷ Done ∷ Aborted 1 ∷ [])
-    × ((after (opened 1048576) made_and_aborted).tree ≡ w0)
+unfoldable pub places_of : List (ℕ × Path) → FiniteMap nat_cmp Path
+unfolding set_at insert empty checked
+places_of es = from_entries nat_cmp es
 
--- the refusals of one session, and of another that has no transaction
-abbrev pub OwnRefusals : Type 0
-OwnRefusals =
-    answers (opened 1048576) ((1, Begin) ∷ (1, Do (Create below)) ∷ (1, Do (Create [])) ∷ (1, Begin) ∷ (2, Commit) ∷ [])
-    ≡ Begun 1 ∷ Refused NoGroup ∷ Refused Exists ∷ Refused AlreadyOpen ∷ Refused NoTransaction ∷ []
+-- a machine with eight CPUs, the root, and two processes in it
+unfoldable pub w0 : Tree
+unfolding cpus_below groups_of places_of
+w0 = record {
+  controllers = record no_controllers { cpuset = true; cpu = true; memory = true };
+  online = cpus_below 8;
+  groups = groups_of (([], fresh) ∷ []);
+  places = places_of ((10, []) ∷ (11, []) ∷ []);
+}
 
--- a Begin beside an open transaction is refused, and numbers go on behind it
-abbrev pub BeginBesideOpen : Type 0
-BeginBesideOpen =
-    answers (opened 1048576) ((1, Begin) ∷ (2, Begin) ∷ (1, Commit) ∷ (2, Begin) ∷ (2, Commit) ∷ [])
-    ≡ Begun 1 ∷ Refused (Busy (record { 0 = 1 })) ∷ Committed 1 ∷ Begun 2 ∷ Committed 2 ∷ []
+-- the world with other groups and places
+unfoldable pub w0_with : List (Path × Settings) → List (ℕ × Path) → Tree
+unfolding w0 groups_of places_of
+w0_with gs ps = record w0 { groups = groups_of gs; places = places_of ps }
 
--- a history of four places: one command fits beside Begin and the abort that is kept for it
-abbrev pub FullAtFour : Type 0
-FullAtFour =
-    answers (opened 4) ((1, Begin) ∷ (1, Do (Create a)) ∷ (1, Do (Create b)) ∷ (1, Abort) ∷ (1, Begin) ∷ [])
-    ≡ Begun 1 ∷ Done ∷ Refused Full ∷ Aborted 1 ∷ Refused Full ∷ []
+abbrev pub /a : Path
+/a = codes "a" ∷ []
+
+abbrev pub /b : Path
+/b = codes "b" ∷ []
+
+abbrev pub /z : Path
+/z = codes "z" ∷ []
+
+abbrev pub /a/b : Path
+/a/b = codes "a" ∷ codes "b" ∷ []
+
+abbrev pub /a/c : Path
+/a/c = codes "a" ∷ codes "c" ∷ []
+
+abbrev pub /b/c : Path
+/b/c = codes "b" ∷ codes "c" ∷ []
+
+-- sets of one controller
+abbrev pub cpuset_alone : Controllers
+cpuset_alone = record no_controllers { cpuset = true }
+
+abbrev pub cpu_alone : Controllers
+cpu_alone = record no_controllers { cpu = true }
+
+abbrev pub io_alone : Controllers
+io_alone = record no_controllers { io = true }
+
+-- enable a set, disable a set
+abbrev pub enable : Controllers → ControlOps
+enable s = record { plus = s; minus = no_controllers }
+
+abbrev pub disable : Controllers → ControlOps
+disable s = record { plus = no_controllers; minus = s }
+
+-- a group with this control, and nothing else but what a new one has
+abbrev pub passing_on : Controllers → Settings
+passing_on s = record fresh { control = s }
+
+-- requests of one session
+abbrev pub by : ℕ → List (Request cgroups) → Asked
+by s rs = map (λ r. (s, r)) rs

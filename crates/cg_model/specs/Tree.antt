@@ -1,9 +1,9 @@
--- The tree of control groups, and what is derived from it.
+-- The tree of control groups (cgroup-v2, Organizing Processes and Threads).
 use Rattle.std.specs.Prelude.{ℕ, List, [], ◌∷◌, Option, None}
 use Rattle.std.specs.Ordering.{nat_cmp}
-use Rattle.cg_maps.specs.FiniteMap.{FiniteMap, get, retain, domain, len}
+use Rattle.cg_maps.specs.FiniteMap.{FiniteMap, get}
 use Rattle.cg_maps.specs.FiniteSet.{FiniteSet}
-use Rattle.cg_name.specs.Path.{Path, path_cmp, is_above, along}
+use Rattle.cg_name.specs.Path.{Path, path_cmp, along}
 use Rattle.cg_text.specs.declared.controllers.Controllers.{Controllers}
 use Rattle.cg_text.specs.declared.settings.Settings.{Settings}
 
@@ -35,7 +35,3 @@ last_of (x ∷ (y ∷ ys)) = last_of (y ∷ ys)
 -- the parent's settings, none where it is absent, and for the root
 abbrev pub parent_group : Tree → Path → Option Settings
 parent_group T p = last_of (above T p)
-
--- the number of groups below p
-unfoldable pub descendants : Tree → Path → ℕ
-descendants T p = len (retain (domain T.groups) (is_above p))

@@ -1,41 +1,35 @@
-//! The definitions: trees of control groups, what commands do to them, and the machine. The laws stand on
-//! functions that do nothing.
+//! The definitions: trees of control groups, what commands do to them, histories of transactions, and the machine. Worked
+//! runs stand on functions that do nothing.
 #![tactic(auto)]
 
-ghost use Rattle.cg_model.specs.Laws.{AbortGivesBack, HistoryGrows, RefusedKeeps};
-ghost use Rattle.cg_model.specs.Rows.{BeginBesideOpen, CreateAndAbort, FullAtFour, OwnRefusals};
+ghost use Rattle.cg_model.specs.CommandRows.{EffectiveCpus, Enabling, FreezeAndPopulated, Hotplug, Limits, MigrateAndRemove, OwnRefusals};
+ghost use Rattle.cg_model.specs.SessionRows.{AbortBesideCommit, CommitOrder, CountsAreLocked, CpusetOffAndBack, FullAtFour, LockedUntilCommit, MigratePinsBothEnds, OnlineLocksAll, ProcessesAreLocked, ReadersAreProtected, ReadersShare, RemadeGroup, Savepoints, UnseenRemoval};
 
-/// A step keeps the history and adds one record at most.
-pub fn history_grows()
-    ensures { HistoryGrows }
+/// Worked runs of one transaction: what the commands do and refuse.
+pub fn worked_runs_of_commands()
+    ensures enabling { Enabling }
+    ensures effective_cpus { EffectiveCpus }
+    ensures freeze_and_populated { FreezeAndPopulated }
+    ensures migrate_and_remove { MigrateAndRemove }
+    ensures limits { Limits }
+    ensures own_refusals { OwnRefusals }
+    ensures hotplug { Hotplug }
 {}
 
-/// A step that is refused changes the history at most.
-pub fn a_refusal_keeps_the_tree()
-    ensures { RefusedKeeps }
-{}
-
-/// Abort gives back the tree at the transaction's Begin, whatever commands came between.
-pub fn abort_gives_back_the_tree()
-    ensures { AbortGivesBack }
-{}
-
-/// A group that is made and the abort that takes it away.
-pub fn row_create_and_abort()
-    ensures { CreateAndAbort }
-{}
-
-/// The refusals of one session, and of another that has no transaction.
-pub fn row_own_refusals()
-    ensures { OwnRefusals }
-{}
-
-/// A Begin beside an open transaction.
-pub fn row_begin_beside_an_open_one()
-    ensures { BeginBesideOpen }
-{}
-
-/// A history of four places.
-pub fn row_full_at_four()
-    ensures { FullAtFour }
+/// Worked runs of several sessions: locks, savepoints, and orders of commits.
+pub fn worked_runs_of_sessions()
+    ensures abort_beside_commit { AbortBesideCommit }
+    ensures locked_until_commit { LockedUntilCommit }
+    ensures migrate_pins_both_ends { MigratePinsBothEnds }
+    ensures cpuset_off_and_back { CpusetOffAndBack }
+    ensures savepoints { Savepoints }
+    ensures remade_group { RemadeGroup }
+    ensures unseen_removal { UnseenRemoval }
+    ensures commit_order { CommitOrder }
+    ensures counts_are_locked { CountsAreLocked }
+    ensures full_at_four { FullAtFour }
+    ensures readers_share { ReadersShare }
+    ensures readers_are_protected { ReadersAreProtected }
+    ensures processes_are_locked { ProcessesAreLocked }
+    ensures online_locks_all { OnlineLocksAll }
 {}

@@ -1,5 +1,5 @@
 -- Paths of control groups: lists of names, the root the empty list.
-use Rattle.std.specs.Prelude.{◌≡◌, ℕ, ◌≤◌, Bool, true, false, ◌&&◌, List, [], ◌∷◌, length}
+use Rattle.std.specs.Prelude.{◌≡◌, ℕ, ◌≤◌, Bool, true, false, ◌&&◌, ◌||◌, List, [], ◌∷◌, length}
 use Rattle.std.specs.List.{AllByRecursion, flat_map}
 use Rattle.std.specs.declared.cmp.Ordering.{Ordering}
 use Rattle.std.specs.Ordering.{eq_by_cmp}
@@ -20,6 +20,16 @@ same_path p q = eq_by_cmp path_cmp p q
 abbrev pub is_root : Path → Bool
 is_root [] = true
 is_root (n ∷ p) = false
+
+-- q begins with p; a path begins with itself
+abbrev pub is_prefix : Path → Path → Bool
+is_prefix [] q = true
+is_prefix (n ∷ p) [] = false
+is_prefix (n ∷ p) (m ∷ q) = same_name n m && is_prefix p q
+
+-- one of the two begins with the other
+abbrev pub comparable : Path → Path → Bool
+comparable p q = is_prefix p q || is_prefix q p
 
 -- q is below p: it begins with p and is longer
 abbrev pub is_above : Path → Path → Bool

@@ -1,3 +1,4 @@
 pub mod Controllers
 pub mod Settings
+pub mod FileText
 pub mod Words

@@ -1,7 +1,9 @@
 //! What interface files hold, and the lines and words of texts.
 #![tactic(auto)]
 
+pub mod control_ops;
 pub mod controllers;
+pub mod file_name;
 pub mod limit;
 pub mod settings;
 #[cfg(test)]

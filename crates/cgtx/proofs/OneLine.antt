@@ -4,9 +4,9 @@ use Rattle.std.specs.Result.{is_err}
 use Rattle.cg_name.specs.Path.{Path, SpellsPath}
 use Rattle.cg_name.proofs.Pieces.{spells_one}
 use Rattle.cg_text.specs.Words.{Word, said_by}
-use Rattle.cg_model.specs.Command.{Create}
-use Rattle.cg_model.specs.Record.{Request, Begin, Do, Commit, Abort}
-use Rattle.cgtx.specs.Request.{SpellsRequest, SpellsCall, SpellsLine}
+use Rattle.cg_model.specs.Command.{Command, Create, Remove, Migrate, Subtree, Freeze, Cpus, Show, Online, MaxDescendants, MaxDepth}
+use Rattle.cg_core.specs.Record.{Request, Begin, Do, Commit, Abort}
+use Rattle.cgtx.specs.Request.{SpellsCommand, SpellsRequest, SpellsCall, SpellsLine}
 use Rattle.cgtx.specs.Replay.{Replay, Asked, Answers, IsOneTooMany, session_number}
 
 head_same : {X : Type 0} {x y : X} {xs ys : List X} → x ∷ xs ≡ y ∷ ys → x ≡ y
@@ -23,24 +23,57 @@ abbrev third : List Word → ℕ
 third ((a ∷ b ∷ c ∷ w) ∷ ws) = c
 third _ = 0
 
+-- what is asked for is a creation
+asked_word : (ws : List Word) (c : Command) → SpellsCommand ws c → (path : Word) × (ws ≡ codes "create" ∷ path ∷ [])
+asked_word ws (Create p) a = (a.0, a.1)
+asked_word ws (Remove p) a = absurd a
+asked_word ws (Migrate k p) a = absurd a
+asked_word ws (Subtree p ops) a = absurd a
+asked_word ws (Freeze p v) a = absurd a
+asked_word ws (Cpus p v) a = absurd a
+asked_word ws (Show p f) a = absurd a
+asked_word ws (Online v) a = absurd a
+asked_word ws (MaxDescendants p v) a = absurd a
+asked_word ws (MaxDepth p v) a = absurd a
+
+command_one : (ws : List Word) (c d : Command) → SpellsCommand ws c → SpellsCommand ws d → c ≡ d
+command_one ws (Create p) (Create q) a b = ap (λ x. Create x) (spells_one p q a.0 a.2 (subst (λ w. SpellsPath w q) (second_same (sym b.1 ∙ a.1)) b.2))
+command_one ws (Create q) (Remove p) a b = absurd b
+command_one ws (Create q) (Migrate k p) a b = absurd b
+command_one ws (Create q) (Subtree p ops) a b = absurd b
+command_one ws (Create q) (Freeze p v) a b = absurd b
+command_one ws (Create q) (Cpus p v) a b = absurd b
+command_one ws (Create q) (Show p f) a b = absurd b
+command_one ws (Create q) (Online v) a b = absurd b
+command_one ws (Create q) (MaxDescendants p v) a b = absurd b
+command_one ws (Create q) (MaxDepth p v) a b = absurd b
+command_one ws (Remove p) d a b = absurd a
+command_one ws (Migrate k p) d a b = absurd a
+command_one ws (Subtree p ops) d a b = absurd a
+command_one ws (Freeze p v) d a b = absurd a
+command_one ws (Cpus p v) d a b = absurd a
+command_one ws (Show p f) d a b = absurd a
+command_one ws (Online v) d a b = absurd a
+command_one ws (MaxDescendants p v) d a b = absurd a
+command_one ws (MaxDepth p v) d a b = absurd a
+
 request_one : (ws : List Word) (r q : Request) → SpellsRequest ws r → SpellsRequest ws q → r ≡ q
 request_one ws Begin Begin a b = refl
 request_one ws Commit Commit a b = refl
 request_one ws Abort Abort a b = refl
-request_one ws (Do (Create p)) (Do (Create q)) a b =
-    ap (λ x. Do (Create x)) (spells_one p q a.0 a.2 (subst (λ w. SpellsPath w q) (second_same (sym b.1 ∙ a.1)) b.2))
+request_one ws (Do c) (Do d) a b = ap (λ x. Do x) (command_one ws c d a b)
 request_one ws Begin Commit a b = absurd (omega (arith, ap third (sym a ∙ b)))
 request_one ws Begin Abort a b = absurd (omega (arith, ap third (sym a ∙ b)))
-request_one ws Begin (Do (Create q)) a b = absurd (omega (arith, ap third (sym a ∙ b.1)))
+request_one ws Begin (Do d) a b = absurd (omega (arith, ap third (sym a ∙ (asked_word ws d b).1)))
 request_one ws Commit Begin a b = absurd (omega (arith, ap third (sym a ∙ b)))
 request_one ws Commit Abort a b = absurd (omega (arith, ap third (sym a ∙ b)))
-request_one ws Commit (Do (Create q)) a b = absurd (omega (arith, ap third (sym a ∙ b.1)))
+request_one ws Commit (Do d) a b = absurd (omega (arith, ap third (sym a ∙ (asked_word ws d b).1)))
 request_one ws Abort Begin a b = absurd (omega (arith, ap third (sym a ∙ b)))
 request_one ws Abort Commit a b = absurd (omega (arith, ap third (sym a ∙ b)))
-request_one ws Abort (Do (Create q)) a b = absurd (omega (arith, ap third (sym a ∙ b.1)))
-request_one ws (Do (Create p)) Begin a b = absurd (omega (arith, ap third (sym a.1 ∙ b)))
-request_one ws (Do (Create p)) Commit a b = absurd (omega (arith, ap third (sym a.1 ∙ b)))
-request_one ws (Do (Create p)) Abort a b = absurd (omega (arith, ap third (sym a.1 ∙ b)))
+request_one ws Abort (Do d) a b = absurd (omega (arith, ap third (sym a ∙ (asked_word ws d b).1)))
+request_one ws (Do c) Begin a b = absurd (omega (arith, ap third (sym (asked_word ws c a).1 ∙ b)))
+request_one ws (Do c) Commit a b = absurd (omega (arith, ap third (sym (asked_word ws c a).1 ∙ b)))
+request_one ws (Do c) Abort a b = absurd (omega (arith, ap third (sym (asked_word ws c a).1 ∙ b)))
 
 call_one : (ws : List Word) (n m : List ℕ) (r q : Request) → SpellsCall ws n r → SpellsCall ws m q → ◌≡◌ {A = List ℕ × Request} (n, r) (m, q)
 call_one ws n m r q a b =

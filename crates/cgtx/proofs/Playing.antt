@@ -4,8 +4,8 @@ use Rattle.std.specs.Result.{is_err}
 use Rattle.std.specs.Io.KnownBytes.{Appends, Keeps}
 use Rattle.cg_name.specs.Refusal.{refusal_text}
 use Rattle.cg_name.specs.declared.refusal.Refusal.TheVariants.{Syntax}
-use Rattle.cg_model.specs.Record.{Request}
-use Rattle.cg_model.specs.Machine.{stepped}
+use Rattle.cg_core.specs.Record.{Request}
+use Rattle.cg_core.specs.Machine.{stepped}
 use Rattle.cgtx.specs.Device.{AppendsFront, AppendsTo, WritesWhole}
 use Rattle.cgtx.specs.Lines.{lines_of, BeginsWithLine, TakesKnownLine}
 use Rattle.cgtx.specs.declared.lines.LineKind.TheVariants.{TooLong, Text}

@@ -3,7 +3,7 @@ use Rattle.std.specs.Prelude.{ℕ, ◌==◌, ◌||◌, cond, List, [], ◌∷◌
 use Rattle.std.specs.List.{flat_map}
 use Rattle.std.specs.Fmt.{decimal}
 use Rattle.cg_name.specs.Refusal.{refusal_text}
-use Rattle.cg_model.specs.Record.{Answer, Begun, Done, Text, Saved, Back, Committed, Aborted, Refused}
+use Rattle.cg_core.specs.Record.{Answer, Begun, Done, Text, Saved, Back, Committed, Aborted, Refused}
 
 -- a byte between quotation marks: a quotation mark, a backslash and a newline are written with a backslash
 abbrev pub quoted_byte : ℕ → List ℕ

@@ -5,8 +5,8 @@ use Rattle.std.specs.Cmp.Lexicographic.{pointwise}
 use Rattle.cg_name.specs.Refusal.{refusal_text}
 use Rattle.cg_name.specs.declared.refusal.Refusal.TheVariants.{Syntax}
 use Rattle.cg_model.specs.Tree.{Tree}
-use Rattle.cg_model.specs.Record.{Request, Abort}
-use Rattle.cg_model.specs.Machine.{Machine, Open, reply, stepped}
+use Rattle.cg_core.specs.Record.{Request, Abort}
+use Rattle.cg_core.specs.Machine.{Machine, Open, reply, stepped}
 use Rattle.cg_world.specs.World.{world_text}
 use Rattle.cgtx.specs.Answer.{answer_text}
 use Rattle.cgtx.specs.Lines.{lines_of}

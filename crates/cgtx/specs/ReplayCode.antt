@@ -1,8 +1,8 @@
 -- A schedule so far is data: the code by which a proof tells two apart.
 use Rattle.std.specs.Prelude.{ℕ, List, refl}
 use Rattle.std.specs.Coded.{Coded, code_by, coded×, coded_ℕ, coded_list}
-use Rattle.cg_model.specs.Machine.{Machine}
-use Rattle.cg_model.specs.MachineCode.{machine_code}
+use Rattle.cg_core.specs.Machine.{Machine}
+use Rattle.cg_core.specs.MachineCode.{machine_code}
 use Rattle.cgtx.specs.Replay.{Replay}
 
 abbrev pub replay_code : Coded Replay

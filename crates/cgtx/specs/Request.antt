@@ -1,15 +1,20 @@
 -- The lines of a schedule: which session asks for what.
 use Rattle.std.specs.Prelude.{◌≡◌, ℕ, List, [], ◌∷◌, Option, Some, None, codes}
-use Rattle.cg_name.specs.Path.{Path, SpellsPath}
+use Rattle.cg_name.specs.Path.{SpellsPath}
 use Rattle.cg_text.specs.Words.{Word, IsLine, said_by}
-use Rattle.cg_model.specs.Command.{Create}
-use Rattle.cg_model.specs.Record.{Request, Begin, Do, Commit, Abort}
+use Rattle.cg_model.specs.Command.{Command, Create}
+use Rattle.cg_core.specs.Record.{Request, Begin, Do, Commit, Abort}
 use Rattle.cgtx.specs.Session.{IsSessionName}
+
+-- the words of a command; the others can't be asked for yet
+abbrev pub SpellsCommand : List Word → Command → Type 0
+SpellsCommand ws (Create p) = (path : Word) × (ws ≡ codes "create" ∷ path ∷ []) × SpellsPath path p
+SpellsCommand ws _ = ⊥
 
 -- the words behind the session's name
 abbrev pub SpellsRequest : List Word → Request → Type 0
 SpellsRequest ws Begin = ws ≡ codes "begin" ∷ []
-SpellsRequest ws (Do (Create p)) = (path : Word) × (ws ≡ codes "create" ∷ path ∷ []) × SpellsPath path p
+SpellsRequest ws (Do c) = SpellsCommand ws c
 SpellsRequest ws Commit = ws ≡ codes "commit" ∷ []
 SpellsRequest ws Abort = ws ≡ codes "abort" ∷ []
 

@@ -4,7 +4,7 @@ ghost use Rattle.std.specs.Option.{option_map};
 ghost use Rattle.std.specs.Result.{IsErrOf};
 ghost use Rattle.cg_name.specs.Refusal.{IsSyntaxOrMemory};
 ghost use Rattle.cg_core.specs.Meaning.{request_of};
-ghost use Rattle.cg_model.specs.Record as model;
+ghost use Rattle.cg_core.specs.Record as model;
 ghost use Rattle.cgtx.specs.Request.{SpellsLine, SpellsRequest};
 
 use crate::session::SessionName;

@@ -2,7 +2,8 @@ use Rattle.std.proofs.Common.{◌≡◌, subst, sym, ◌∙◌, Some}
 use Rattle.cg_maps.specs.FiniteMap.{set_at}
 use Rattle.cg_world.specs.World.{IsWorld}
 use Rattle.cg_model.specs.Tree.{Tree}
-use Rattle.cg_model.specs.Command.{effect, Create, ChangesTo}
+use Rattle.cg_model.specs.Effect.{effect}
+use Rattle.cg_model.specs.Command.{Create, ChangesTo}
 use Rattle.cg_core.proofs.Creating.{created, changes}
 use Rattle.cg_core.proofs.Kept.{world_kept}
 use Rattle.cg_core.proofs.command.create.Goals as goal

@@ -1,5 +1,0 @@
-use Rattle.cg_model.proofs.WorkedRows as rows
-use Rattle.cg_model.proofs.row_begin_beside_an_open_one.Goals as goal
-
-pub returns : goal.returns
-returns c = rows.begin_beside_open

@@ -1,0 +1,51 @@
+-- Moving processes, writing single settings and reading files (cgroup-v2, Organizing Processes and Threads: Processes;
+-- Core Interface Files; Cpuset Interface Files). That any set of CPUs may be set online is this project's own choice.
+use Rattle.std.specs.Prelude.{ℕ, Bool, cond, not, ◌&&◌, List, [], ◌∷◌, Option, Some, None}
+use Rattle.cg_maps.specs.FiniteSet.{FiniteSet}
+use Rattle.cg_name.specs.Path.{Path, is_root}
+use Rattle.cg_name.specs.declared.refusal.Refusal.TheVariants.{NoGroup, NoProcess, Controlled, NoFile}
+use Rattle.cg_text.specs.declared.controllers.Controllers.{Controllers}
+use Rattle.cg_text.specs.declared.file_name.FileName.{FileName}
+use Rattle.cg_text.specs.declared.settings.Settings.{Settings}
+use Rattle.cg_model.specs.Sound.{admits}
+use Rattle.cg_model.specs.Derived.{with_cpuset}
+use Rattle.cg_model.specs.File.{file_of}
+use Rattle.cg_model.specs.Key.{Field, Setting, setting, Freeze, Cpus, Place, Part, Online}
+use Rattle.cg_model.specs.Change.{change}
+use Rattle.cg_model.specs.System.{Done, Text, Refuse, Accept}
+use Rattle.cg_model.specs.Command.{Effect}
+
+-- the PID, the group, the process's group, and the settings of the group
+abbrev pub migrate_effect : ℕ → Path → Option Path → Option Settings → Effect
+migrate_effect k p None s = Refuse NoProcess
+migrate_effect k p (Some q) None = Refuse NoGroup
+migrate_effect k p (Some q) (Some s) = cond (admits p s) (Accept Done (change (Place k) (Some q) (Some p) ∷ [])) (Refuse Controlled)
+
+-- one setting of a group gets a value
+abbrev pub written : Path → (f : Field) → Setting f → Settings → Effect
+written p f v s = Accept Done (change (Part p f) (Some (setting f s)) (Some v) ∷ [])
+
+abbrev pub freeze_effect : Path → Bool → Option Settings → Effect
+freeze_effect p v None = Refuse NoGroup
+freeze_effect p v (Some s) = cond (is_root p) (Refuse NoFile) (written p Freeze v s)
+
+abbrev pub cpus_effect : Path → FiniteSet → Option Settings → Option Controllers → Effect
+cpus_effect p v None a = Refuse NoGroup
+cpus_effect p v (Some s) a = cond (not (is_root p) && with_cpuset a) (written p Cpus v s) (Refuse NoFile)
+
+abbrev pub limit_effect : Path → (f : Field) → Setting f → Option Settings → Effect
+limit_effect p f v None = Refuse NoGroup
+limit_effect p f v (Some s) = written p f v s
+
+-- the CPUs to be online, and those that are
+abbrev pub online_effect : FiniteSet → FiniteSet → Effect
+online_effect v e = Accept Done (change Online (Some e) (Some v) ∷ [])
+
+abbrev pub shown : Option (List ℕ) → Effect
+shown None = Refuse NoFile
+shown (Some text) = Accept (Text text) []
+
+-- the path, the file, and what the files of the group show
+abbrev pub show_effect : Path → FileName → Option Settings → Option Controllers → List ℕ → Bool → Bool → FiniteSet → Effect
+show_effect p f None a pids populated frozen e = Refuse NoGroup
+show_effect p f (Some s) a pids populated frozen e = shown (file_of (is_root p) s a pids populated frozen e f)

@@ -1,0 +1,46 @@
+-- What interface files hold, as texts.
+use Rattle.std.specs.Prelude.{ℕ, Bool, true, false, List, [], ◌∷◌, ◌++◌, map, codes}
+use Rattle.std.specs.List.{flat_map, join_with_byte}
+use Rattle.std.specs.Fmt.{decimal}
+use Rattle.cg_maps.specs.FiniteSet.{FiniteSet}
+use Rattle.cg_name.specs.Controller.{controller_word}
+use Rattle.cg_cpus.specs.CpuList.{cpus_text}
+use Rattle.cg_text.specs.Controllers.{members}
+use Rattle.cg_text.specs.declared.controllers.Controllers.{Controllers}
+use Rattle.cg_text.specs.declared.limit.Limit.{Limit}
+use Rattle.cg_text.specs.declared.limit.Limit.TheVariants.{Max, UpTo}
+
+-- a text and a newline
+abbrev pub line_text : List ℕ → List ℕ
+line_text text = text ++ 10 ∷ []
+
+-- words with single spaces between them and a newline; no bytes for no words
+abbrev pub words_text : List (List ℕ) → List ℕ
+words_text [] = []
+words_text (w ∷ ws) = line_text (join_with_byte 32 (w ∷ ws))
+
+-- a set of controllers, in the profile's order
+abbrev pub controllers_text : Controllers → List ℕ
+controllers_text s = words_text (map controller_word (members s))
+
+-- each PID on a line of its own
+abbrev pub pids_text : List ℕ → List ℕ
+pids_text pids = flat_map (λ k. line_text (decimal k)) pids
+
+abbrev pub flag_word : Bool → List ℕ
+flag_word true = codes "1"
+flag_word false = codes "0"
+
+abbrev pub flag_text : Bool → List ℕ
+flag_text b = line_text (flag_word b)
+
+-- whether the group is populated, and whether it is frozen
+abbrev pub events_text : Bool → Bool → List ℕ
+events_text populated frozen = codes "populated " ++ line_text (flag_word populated) ++ codes "frozen " ++ line_text (flag_word frozen)
+
+abbrev pub cpus_line : FiniteSet → List ℕ
+cpus_line s = line_text (cpus_text s)
+
+abbrev pub limit_text : Limit → List ℕ
+limit_text Max = codes "max\n"
+limit_text (UpTo n) = line_text (decimal n)
