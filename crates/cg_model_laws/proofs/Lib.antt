@@ -1,0 +1,23 @@
+pub mod Paths
+pub mod Lists
+pub mod Fields
+pub mod Keys
+pub mod Marks
+pub mod Agreement
+pub mod Seen
+pub mod Locality
+mod Frame
+pub mod Lawful
+mod Commuting
+mod IfAccepted
+pub mod Parents
+mod SinglePuts
+mod SubtreeChanges
+mod CommandChanges
+pub mod AcceptedCommands
+pub mod Swapping
+mod ControllerSets
+mod SoundPuts
+mod SoundControl
+pub mod SoundCommands
+mod OwnChecks

@@ -1,0 +1,46 @@
+//! The laws of one command and of two, on functions that do nothing. They hold of every tree and need no soundness but
+//! where they say so.
+#![tactic(auto)]
+
+ghost use Rattle.cg_model_laws.specs.Laws.{ClashesBothWays, Frame, FrameOfCommands, Identity, KeysApart, Locality, OwnChecks, SoundKept, Swap};
+
+/// After an accepted command its inverse fits, and undoing gives the tree before.
+pub fn accepted_commands_are_undone()
+    ensures { Identity }
+{}
+
+/// No two keys of one command's inverse touch, so the order of undoing them is immaterial.
+pub fn keys_of_an_inverse_are_apart()
+    ensures { KeysApart }
+{}
+
+/// An accepted command keeps a tree sound.
+pub fn accepted_commands_keep_trees_sound()
+    ensures { SoundKept }
+{}
+
+/// A command is refused by its own checks alone: never by a lock, a full history or want of memory.
+pub fn commands_are_refused_by_their_own_checks()
+    ensures { OwnChecks }
+{}
+
+/// What its footprint covers decides a command's answer, its changes and its footprint.
+pub fn footprints_decide_effects()
+    ensures { Locality }
+{}
+
+/// An accepted command changes nothing that marks cover that clash with none of its own.
+pub fn accepted_commands_change_what_they_mark()
+    ensures marks { Frame }
+    ensures commands { FrameOfCommands }
+{}
+
+/// Neighbours whose footprints don't clash may change places.
+pub fn commands_that_do_not_clash_commute()
+    ensures { Swap }
+{}
+
+/// Footprints clash both ways or not at all.
+pub fn clashes_are_symmetric()
+    ensures { ClashesBothWays }
+{}
