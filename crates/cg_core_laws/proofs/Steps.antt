@@ -1,0 +1,195 @@
+-- Each step of the machine with a log keeps it, and so does each list of steps.
+use Rattle.std.proofs.Common.{◌≡◌, ℕ, ◌+◌, Bool, true, false, List, [], ◌∷◌, ◌++◌, ◌==◌, not, Option, Some, None, refl, sym, ap, ◌∙◌, subst, arith}
+use Rattle.std.proofs.lemmas.Bool.{eqb-true}
+use Rattle.cg_name.specs.Name.{Name}
+use Rattle.cg_model.specs.System.{System, Attempt, Refuse, Accept}
+use Rattle.cg_model.specs.History.{Request, Begin, Do, Save, Back, Undo, Commit, Abort, Answer, History, is_recorded, IsProperRequest}
+use Rattle.cg_model.specs.Opens.{Opens, numbers, among, without, transaction_in}
+use Rattle.cg_model.specs.Live.{joined_if}
+use Rattle.cg_model.specs.Reply.{found_or}
+use Rattle.cg_model.specs.Machine.{Entry, Did, Mark, hits, has_mark}
+use Rattle.cg_core_laws.specs.Headline.{AreProper}
+use Rattle.cg_core_laws.proofs.Tests.{or_first, or_second, false_if, or_cases, other_next, eq_sym}
+use Rattle.cg_core_laws.proofs.SystemLaws.{SystemLaws}
+use Rattle.cg_core_laws.proofs.Trace.{owner, Accepts, moved, FreeOf, keep, only, Apart, Same, Clear, Passes, Agree}
+use Rattle.cg_core_laws.proofs.Log.{Log, log_opened, log_holder, pop_all, try_do, do_at, undo_at, others, ended, is_full_log, log_step_in, log_step_out, log_step_at, log_noted, log_step, log_steps}
+use Rattle.cg_core_laws.proofs.Swap.{same_refl, same_trans, same_append, gather}
+use Rattle.cg_core_laws.proofs.Cuts.{keep_same}
+use Rattle.cg_core_laws.proofs.Own.{clear_free}
+use Rattle.cg_core_laws.proofs.Open.{closed, among_without, still_open, closed_without, once_without, transaction_open}
+use Rattle.cg_core_laws.proofs.Kept.{OwnersUpTo, Kept, stop_kept, pop_kept, pop_all_kept, back_kept}
+
+-- no hit, no clash
+clear_from : (y : System) (f : y.Footprint) (l : List (Entry y)) → hits y f l ≡ false → Clear y f l
+clear_from y f [] h = tt
+clear_from y f (Did t th c a d g ∷ l) h = (or_first (y.clashes g f) (hits y f l) h, clear_from y f l (or_second (y.clashes g f) (hits y f l) h))
+clear_from y f (Mark t th n ∷ l) h = clear_from y f l h
+
+none_found : (o : Option ℕ) (b : Bool) (v : ℕ) → found_or o b v ≡ None → (o ≡ None) × (b ≡ false)
+none_found (Some w) b v e = absurd (cc e)
+none_found None true v e = absurd (cc e)
+none_found None false v e = (refl, refl)
+
+-- where no transaction is named, none holds what clashes
+pub holder_none : (y : System) (f : y.Footprint) (log : List (Entry y)) (os : List ℕ) → log_holder y f log os ≡ None → (u : ℕ) → among u os ≡ true → Clear y f (only u log)
+holder_none y f log [] e u m = absurd (cc m)
+holder_none y f log (v ∷ os) e u m =
+    let p = none_found (log_holder y f log os) (hits y f (only v log)) v e in
+    or_cases (u == v) (among u os) m
+    (λ k. subst (λ w. Clear y f (only w log)) (sym (eqb-true u v k)) (clear_from y f (only v log) p.1))
+    (λ k. holder_none y f log os p.0 u k)
+
+pub passes : {y : System} (p : ℕ → Bool) (a : List (Entry y)) → ((u : ℕ) → p u ≡ true) → Passes p a
+passes p [] h = tt
+passes p (x ∷ a) h = (h (owner x), passes p a h)
+
+-- a number above those of the owners
+module _ (y : System) (n : ℕ) where
+  pub none_of_next : (a : List (Entry y)) → OwnersUpTo n a → only (n + 1) a ≡ []
+  none_of_next [] h = refl
+  none_of_next (x ∷ a) h = rw (other_next (owner x) n h.0) (none_of_next a h.1)
+
+  apart_next : (a : List (Entry y)) → OwnersUpTo n a → Apart y (n + 1) a
+  apart_next [] h = tt
+  apart_next (x ∷ a) h = ((λ k. subst (FreeOf y x) (sym (none_of_next a h.1)) tt), apart_next a h.1)
+
+  owners_next : (a : List (Entry y)) → OwnersUpTo n a → OwnersUpTo (n + 1) a
+  owners_next [] h = tt
+  owners_next (x ∷ a) h = (omega (arith, h.0), owners_next a h.1)
+
+  agree_next : (s : ℕ) (ps : Opens) (a : List (Entry y)) → OwnersUpTo n a → Agree (closed ((s, n + 1) ∷ ps)) (closed ps) a
+  agree_next s ps [] h = tt
+  agree_next s ps (x ∷ a) h = (rw (other_next (owner x) n h.0), agree_next s ps a h.1)
+
+module _ (y : System) (laws : SystemLaws y) (o : y.State) where
+  begin_kept : (c : Log y) (s : ℕ) → Kept y o c → Kept y o (record c { opens = (s, c.begun + 1) ∷ c.opens; begun = c.begun + 1 })
+  begin_kept c s k = record {
+    runs = k.runs;
+    tree = k.tree;
+    apart = λ u m. or_cases (u == c.begun + 1) (among u (numbers c.opens)) m
+        (λ e. subst (λ v. Apart y v c.entries) (sym (eqb-true u (c.begun + 1) e)) (apart_next y c.begun c.entries k.owners))
+        (k.apart u);
+    done = subst (λ l. Same y o l c.done) (sym (keep_same y (closed ((s, c.begun + 1) ∷ c.opens)) (closed c.opens) c.entries (agree_next y c.begun s c.opens c.entries k.owners))) k.done;
+    owners = owners_next y c.begun c.entries k.owners;
+    range = λ u m. or_cases (u == c.begun + 1) (among u (numbers c.opens)) m
+        (λ e. let q = eqb-true u (c.begun + 1) e in omega arith)
+        (λ e. let q = k.range u e in omega arith);
+    once = (false_if (among (c.begun + 1) (numbers c.opens)) (λ e. let q = k.range (c.begun + 1) e in omega arith), k.once);
+  }
+
+  push_kept : (c : Log y) (x : Entry y) → Kept y o c → among (owner x) (numbers c.opens) ≡ true → Accepts y c.tree x → ((u : ℕ) → among u (numbers c.opens) ≡ true → (owner x == u) ≡ false → FreeOf y x (only u c.entries)) → Kept y o (record c { tree = moved y x c.tree; entries = x ∷ c.entries })
+  push_kept c x k m accepts free = record {
+    runs = (subst (λ s. Accepts y s x) k.tree accepts, k.runs);
+    tree = ap (moved y x) k.tree;
+    apart = λ u n. ((λ e. free u n e), k.apart u n);
+    done = subst (λ b. Same y o (joined_if b x (keep (closed c.opens) c.entries)) c.done) (sym (ap not m)) k.done;
+    owners = (k.range (owner x) m, k.owners);
+    range = k.range;
+    once = k.once;
+  }
+
+  -- what t did, below what the others did and above what was committed
+  pub as_committed : (c : Log y) (t : ℕ) → Kept y o c → among t (numbers c.opens) ≡ true → Same y o (keep (closed (without t c.opens)) c.entries) (only t c.entries ++ c.done)
+  as_committed c t k m =
+      same_trans y laws o _ _ _
+      (gather y laws o t (closed c.opens) (closed (without t c.opens)) (ap not m) (λ u. closed_without t u c.opens) c.entries (k.apart t m))
+      (same_append y laws o (only t c.entries) _ _ k.done)
+
+  commit_kept : (c : Log y) (s t : ℕ) → Kept y o c → among t (numbers c.opens) ≡ true → Kept y o (log_step_in y c s t Commit).0
+  commit_kept c s t k m = record {
+    runs = k.runs;
+    tree = k.tree;
+    apart = λ u n. k.apart u (still_open t u c.opens n);
+    done = as_committed c t k m;
+    owners = k.owners;
+    range = λ u n. k.range u (still_open t u c.opens n);
+    once = once_without t c.opens k.once;
+  }
+
+  ended_kept : (c : Log y) (t : ℕ) → Kept y o c → among t (numbers c.opens) ≡ true → only t c.entries ≡ [] → Kept y o (ended y c t)
+  ended_kept c t k m e = record {
+    runs = k.runs;
+    tree = k.tree;
+    apart = λ u n. k.apart u (still_open t u c.opens n);
+    done = subst (λ l. Same y o (keep (closed (without t c.opens)) c.entries) (l ++ c.done)) e (as_committed c t k m);
+    owners = k.owners;
+    range = λ u n. k.range u (still_open t u c.opens n);
+    once = once_without t c.opens k.once;
+  }
+
+  abort_kept : (c : Log y) (s t : ℕ) → Kept y o c → among t (numbers c.opens) ≡ true → Kept y o (log_step_in y c s t Abort).0
+  abort_kept c s t k m =
+      let p = pop_all_kept y laws o t (only t c.entries) c k m refl in
+      ended_kept (pop_all y t (only t c.entries) c) t p.0 (subst (λ ps. among t (numbers ps) ≡ true) (sym p.2) m) p.1
+
+  undo_kept : (c : Log y) (t : ℕ) (l : List (Entry y)) → Kept y o c → among t (numbers c.opens) ≡ true → only t c.entries ≡ l → Kept y o (undo_at y c t l).0
+  undo_kept c t [] k m e = k
+  undo_kept c t (Mark u uh n ∷ l) k m e = k
+  undo_kept c t (Did u uh b a d f ∷ l) k m e = (pop_kept y laws o c t (Did u uh b a d f) l k m e).1
+
+  not_own : (c : Log y) (t u : ℕ) → among u (numbers c.opens) ≡ true → (t == u) ≡ false → among u (others y c t) ≡ true
+  not_own c t u m e = among_without t u c.opens ∙ (rw (eq_sym u t, e, m))
+
+  try_kept : (c : Log y) (t : ℕ) (b : y.Command) (r : Attempt y.Change) → y.Proper b → y.effect b c.tree ≡ r → Kept y o c → among t (numbers c.opens) ≡ true → ((u : ℕ) → among u (others y c t) ≡ true → Clear y (y.footprint b c.tree) (only u c.entries)) → Kept y o (try_do y c t b r).0
+  try_kept c t b (Accept a d) proper e k m clear =
+      push_kept c (Did t c.history b a d (y.footprint b c.tree)) k m (proper, e, refl) (λ u n f. clear_free y laws o t c.history b a d _ _ (clear u (not_own c t u n f)))
+  try_kept c t b (Refuse w) proper e k m clear = k
+
+  do_kept : (c : Log y) (t : ℕ) (b : y.Command) (h : Option ℕ) → y.Proper b → log_holder y (y.footprint b c.tree) c.entries (others y c t) ≡ h → Kept y o c → among t (numbers c.opens) ≡ true → Kept y o (do_at y c t b h).0
+  do_kept c t b (Some u) proper e k m = k
+  do_kept c t b None proper e k m = try_kept c t b (y.effect b c.tree) proper refl k m (holder_none y (y.footprint b c.tree) c.entries (others y c t) e)
+
+  mark_free : (t : ℕ) (th : History y) (n : Name) (l : List (Entry y)) → FreeOf y (Mark t th n) l
+  mark_free t th n [] = tt
+  mark_free t th n (Did u uh b a d f ∷ l) = (tt, mark_free t th n l)
+  mark_free t th n (Mark u uh i ∷ l) = (tt, mark_free t th n l)
+
+  in_kept : (c : Log y) (s t : ℕ) (r : Request y) → IsProperRequest r → Kept y o c → among t (numbers c.opens) ≡ true → Kept y o (log_step_in y c s t r).0
+  in_kept c s t Begin proper k m = k
+  in_kept c s t (Do b) proper k m =
+      stop_kept y laws o (is_full_log c) _ _ k (do_kept c t b (log_holder y (y.footprint b c.tree) c.entries (others y c t)) proper refl k m)
+  in_kept c s t (Save n) proper k m =
+      stop_kept y laws o (has_mark n (only t c.entries)) _ _ k
+      (stop_kept y laws o (is_full_log c) _ _ k (push_kept c (Mark t c.history n) k m tt (λ u i f. mark_free t c.history n (only u c.entries))))
+  in_kept c s t (Back n) proper k m =
+      stop_kept y laws o (has_mark n (only t c.entries)) _ _ (back_kept y laws o t n (only t c.entries) c 0 k m refl) k
+  in_kept c s t Undo proper k m = undo_kept c t (only t c.entries) k m refl
+  in_kept c s t Commit proper k m = commit_kept c s t k m
+  in_kept c s t Abort proper k m = abort_kept c s t k m
+
+  out_kept : (c : Log y) (s : ℕ) (r : Request y) → Kept y o c → Kept y o (log_step_out y c s r).0
+  out_kept c s Begin k = stop_kept y laws o (is_full_log c) _ _ k (begin_kept c s k)
+  out_kept c s (Do b) k = k
+  out_kept c s (Save n) k = k
+  out_kept c s (Back n) k = k
+  out_kept c s Undo k = k
+  out_kept c s Commit k = k
+  out_kept c s Abort k = k
+
+  at_kept : (c : Log y) (s : ℕ) (r : Request y) (h : Option ℕ) → IsProperRequest r → transaction_in s c.opens ≡ h → Kept y o c → Kept y o (log_step_at y c s r h).0
+  at_kept c s r (Some t) proper e k = in_kept c s t r proper k (transaction_open s t c.opens e)
+  at_kept c s r None proper e k = out_kept c s r k
+
+  noted_kept : (b : Bool) (s : ℕ) (r : Request y) (h : Option ℕ) (p : Log y × Answer) → Kept y o p.0 → Kept y o (log_noted b s r h p).0
+  noted_kept true s r h p k = record { runs = k.runs; tree = k.tree; apart = k.apart; done = k.done; owners = k.owners; range = k.range; once = k.once }
+  noted_kept false s r h p k = k
+
+  pub step_kept : (c : Log y) (s : ℕ) (r : Request y) → IsProperRequest r → Kept y o c → Kept y o (log_step y c s r).0
+  step_kept c s r proper k =
+      let p = log_step_at y c s r (transaction_in s c.opens) in
+      noted_kept (is_recorded r p.1) s r (transaction_in s c.opens) p (at_kept c s r (transaction_in s c.opens) proper refl k)
+
+  pub run_kept : (ps : List (ℕ × Request y)) (c : Log y) → AreProper ps → Kept y o c → Kept y o (log_steps y c ps)
+  run_kept [] c proper k = k
+  run_kept (p ∷ ps) c proper k = run_kept ps (log_step y c p.0 p.1).0 proper.1 (step_kept c p.0 p.1 proper.0 k)
+
+  pub start_kept : (lim : ℕ) → Kept y o (log_opened y o lim)
+  start_kept lim = record {
+    runs = tt;
+    tree = refl;
+    apart = λ u m. tt;
+    done = same_refl y laws o [];
+    owners = tt;
+    range = λ u m. absurd (cc m);
+    once = tt;
+  }

@@ -1,0 +1,42 @@
+-- What holds of any system that keeps the laws, after any list of proper requests of any sessions from a sound state,
+-- whatever the limit.
+use Rattle.std.proofs.Common.{◌≡◌, ℕ, ◌≤◌, List, Some, subst}
+use Rattle.cg_model.specs.System.{System}
+use Rattle.cg_model.specs.History.{Request}
+use Rattle.cg_model.specs.Opens.{transaction_in, opens}
+use Rattle.cg_model.specs.Machine.{Machine, opened, steps}
+use Rattle.cg_core_laws.specs.Headline.{AreProper, IsSerial, IsFaithful, GoesBack, OthersStay, CommitsStay}
+use Rattle.cg_core_laws.proofs.SystemLaws.{SystemLaws}
+use Rattle.cg_core_laws.proofs.Log.{Log, log_opened, log_steps}
+use Rattle.cg_core_laws.proofs.Unchanged.{limit_steps}
+use Rattle.cg_core_laws.proofs.Least.{falling}
+use Rattle.cg_core_laws.proofs.Room.{HasRoom, rooms}
+use Rattle.cg_core_laws.proofs.Invariant.{invariant}
+use Rattle.cg_core_laws.proofs.AsLog.{steps_are}
+use Rattle.cg_core_laws.proofs.Faithful.{serial_from, faithful_from}
+use Rattle.cg_core_laws.proofs.GoingBack.{goes_back, others_stay, commits_stay}
+
+module _ (y : System) (laws : SystemLaws y) (o : y.State) (sound : y.Sound o) (limit : ℕ) (rs : List (ℕ × Request y)) (proper : AreProper rs) where
+  -- the machine, and that with a log
+  abbrev after : Machine y
+  after = steps y (opened y o limit) rs
+
+  abbrev log_after : Log y
+  log_after = log_steps y (log_opened y o limit) rs
+
+  pub serial : IsSerial y o after
+  serial = subst (IsSerial y o) (steps_are y laws o limit rs proper) (serial_from y laws o sound log_after (invariant y laws o limit rs proper))
+
+  pub faithful : IsFaithful y o after
+  faithful =
+      let room : 2 ≤ log_after.limit → HasRoom log_after = λ le. rooms y laws o limit rs proper (subst (λ n. 2 ≤ n) (limit_steps y rs (log_opened y o limit)) le) in
+      subst (IsFaithful y o) (steps_are y laws o limit rs proper) (faithful_from y laws o log_after (invariant y laws o limit rs proper) (falling y o limit rs) room)
+
+  pub going_back : (s t : ℕ) → transaction_in s (opens after.history) ≡ Some t → GoesBack y after s t
+  going_back s t e = goes_back y o after faithful s t e
+
+  pub others_untouched : OthersStay y after
+  others_untouched = others_stay y o after faithful
+
+  pub commits_kept : CommitsStay y after
+  commits_kept = commits_stay y o after faithful

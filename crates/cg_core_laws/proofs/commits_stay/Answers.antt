@@ -1,0 +1,7 @@
+use Rattle.cg_model.specs.Cgroups.{cgroups}
+use Rattle.cg_core_laws.proofs.CgroupsLaws.{laws}
+use Rattle.cg_core_laws.proofs.Theorem.{commits_kept}
+use Rattle.cg_core_laws.proofs.commits_stay.Goals as goal
+
+pub returns : goal.returns
+returns c opening limit requests sound proper = commits_kept cgroups laws opening sound limit requests proper

@@ -1,0 +1,7 @@
+use Rattle.cg_model.specs.Cgroups.{cgroups}
+use Rattle.cg_core_laws.proofs.CgroupsLaws.{laws}
+use Rattle.cg_core_laws.proofs.Theorem.{serial}
+use Rattle.cg_core_laws.proofs.transactions_are_serial.Goals as goal
+
+pub returns : goal.returns
+returns c opening limit requests sound proper = serial cgroups laws opening sound limit requests proper

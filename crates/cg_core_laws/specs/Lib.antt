@@ -1,0 +1,3 @@
+pub mod Unwind
+pub mod Headline
+pub mod Laws

@@ -1,0 +1,33 @@
+//! The headline over the definitions, on functions that do nothing: of every list of steps of any sessions, interleaved in
+//! any way.
+#![tactic(auto)]
+
+ghost use Rattle.cg_core_laws.specs.Laws.{CommitsKept, Faithful, GoingBack, OthersUntouched, Serial};
+
+/// The tree is the opening tree changed by the surviving commands alone; every inverse fits when its turn comes, in
+/// whatever interleaving open transactions are unwound; and the committed transactions in commit order, then each open one
+/// in any order, are accepted with their recorded answers and give the tree.
+pub fn transactions_are_serial()
+    ensures { Serial }
+{}
+
+/// The history is legal, every answer is the one that the history gives, Busy names the least transaction in the way, and
+/// the places that are kept for going back always suffice.
+pub fn the_machine_is_faithful_to_its_history()
+    ensures { Faithful }
+{}
+
+/// Undo, Back, Abort and Commit are never refused where they have something to do, and take off exactly their own items.
+pub fn going_back_succeeds_exactly()
+    ensures { GoingBack }
+{}
+
+/// No step changes the stack of another session's transaction.
+pub fn other_transactions_stay()
+    ensures { OthersUntouched }
+{}
+
+/// The tree of the first n commits stays as it is, whatever comes after.
+pub fn commits_stay()
+    ensures { CommitsKept }
+{}
