@@ -25,3 +25,4 @@ mod Faithful
 mod GoingBack
 mod Theorem
 mod CgroupsLaws
+mod BusyExact

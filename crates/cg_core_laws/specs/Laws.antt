@@ -1,11 +1,16 @@
 -- The headline, of the machine over the tree of control groups.
-use Rattle.std.specs.Prelude.{◌≡◌, ℕ, List, Some}
+use Rattle.std.specs.Prelude.{◌≡◌, ◌↔◌, ℕ, ◌≤◌, true, false, List, Some}
+use Rattle.cg_name.specs.declared.refusal.Refusal.TheVariants.{Busy}
 use Rattle.cg_model.specs.Tree.{Tree}
 use Rattle.cg_model.specs.Sound.{Sound}
+use Rattle.cg_model.specs.Command.{Command}
+use Rattle.cg_model.specs.Footprint.{footprint}
 use Rattle.cg_model.specs.Cgroups.{cgroups}
-use Rattle.cg_model.specs.History.{Request}
-use Rattle.cg_model.specs.Opens.{transaction_in, opens}
-use Rattle.cg_model.specs.Machine.{Machine, opened, steps}
+use Rattle.cg_model.specs.History.{Request, Do, Refused}
+use Rattle.cg_model.specs.Opens.{numbers, among, without, transaction_in, opens}
+use Rattle.cg_model.specs.Live.{live}
+use Rattle.cg_model.specs.Reply.{clashes_with, is_full}
+use Rattle.cg_model.specs.Machine.{Machine, opened, step, steps}
 use Rattle.cg_core_laws.specs.Headline.{AreProper, IsSerial, IsFaithful, GoesBack, OthersStay, CommitsStay}
 
 -- what holds after every list of steps of any sessions, interleaved in any way, from any sound tree, whatever the limit
@@ -26,3 +31,15 @@ OthersUntouched = AfterAnySteps (λ opening m. OthersStay cgroups m)
 
 abbrev pub CommitsKept : Type 0
 CommitsKept = AfterAnySteps (λ opening m. CommitsStay cgroups m)
+
+-- u is the least other open transaction that holds what clashes with the command's footprint
+pub record IsLeastInTheWay (opening : Tree) (m : Machine cgroups) (t : ℕ) (c : Command) (u : ℕ) : Type 0 where
+  pub other : among u (numbers (without t (opens m.history))) ≡ true
+  pub clashes : clashes_with cgroups opening (footprint c m.tree) (live u m.history) ≡ true
+  pub least : (v : ℕ) → among v (numbers (without t (opens m.history))) ≡ true → clashes_with cgroups opening (footprint c m.tree) (live v m.history) ≡ true → u ≤ v
+
+-- Busy is answered exactly where a transaction is in the way and no earlier refusal applies: the session has a transaction,
+-- and the history isn't full
+abbrev pub BusyExactly : Type 0
+BusyExactly = AfterAnySteps (λ opening m. (s t : ℕ) → transaction_in s (opens m.history) ≡ Some t → is_full m.limit m.history ≡ false → (c : Command) (u : ℕ)
+    → ((step cgroups m s (Do c)).1 ≡ Refused (Busy (record { 0 = u }))) ↔ IsLeastInTheWay opening m t c u)

@@ -2,7 +2,7 @@
 //! any way.
 #![tactic(auto)]
 
-ghost use Rattle.cg_core_laws.specs.Laws.{CommitsKept, Faithful, GoingBack, OthersUntouched, Serial};
+ghost use Rattle.cg_core_laws.specs.Laws.{BusyExactly, CommitsKept, Faithful, GoingBack, OthersUntouched, Serial};
 
 /// The tree is the opening tree changed by the surviving commands alone; every inverse fits when its turn comes, in
 /// whatever interleaving open transactions are unwound; and the committed transactions in commit order, then each open one
@@ -30,4 +30,10 @@ pub fn other_transactions_stay()
 /// The tree of the first n commits stays as it is, whatever comes after.
 pub fn commits_stay()
     ensures { CommitsKept }
+{}
+
+/// `busy` is answered exactly where another open transaction holds a clashing mark and no earlier refusal applies, and names
+/// the least of these.
+pub fn busy_names_the_least_in_the_way()
+    ensures { BusyExactly }
 {}

@@ -1,2 +1,3 @@
 mod CommandRows
 mod SessionRows
+mod GoingBackRows

@@ -15,18 +15,6 @@ pub migrate_pins_both_ends : rows.MigratePinsBothEnds
 unfolding play play_within w0 w0_with cpus_below cpus_of
 migrate_pins_both_ends = refl
 
-pub cpuset_off_and_back : rows.CpusetOffAndBack
-unfolding play play_within w0 w0_with cpus_below cpus_of
-cpuset_off_and_back = refl
-
-pub savepoints : rows.Savepoints
-unfolding play play_within w0 w0_with cpus_below cpus_of
-savepoints = refl
-
-pub remade_group : rows.RemadeGroup
-unfolding play play_within w0 w0_with cpus_below cpus_of
-remade_group = refl
-
 pub unseen_removal : rows.UnseenRemoval
 unfolding play play_within w0 w0_with cpus_below cpus_of
 unseen_removal = refl
@@ -38,10 +26,6 @@ commit_order = refl
 pub counts_are_locked : rows.CountsAreLocked
 unfolding play play_within w0 w0_with cpus_below cpus_of
 counts_are_locked = refl
-
-pub full_at_four : rows.FullAtFour
-unfolding play play_within w0 w0_with cpus_below cpus_of
-full_at_four = refl
 
 pub readers_share : rows.ReadersShare
 unfolding play play_within w0 w0_with cpus_below cpus_of

@@ -22,6 +22,7 @@ pub mod Room
 pub mod Rows
 pub mod CommandRows
 pub mod SessionRows
+pub mod GoingBackRows
 pub mod Code
 pub mod CommandCode
 pub use Rattle.cg_maps.specs.FiniteMap

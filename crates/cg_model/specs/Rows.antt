@@ -1,5 +1,5 @@
 -- Worked runs of the machine on a small world, by computation: how they are written.
-use Rattle.std.specs.Prelude.{ℕ, true, List, [], ◌∷◌, map, codes}
+use Rattle.std.specs.Prelude.{ℕ, Bool, true, List, [], ◌∷◌, map, codes}
 use Rattle.std.specs.Ordering.{nat_cmp}
 use Rattle.std.specs.Fmt.{digits}
 use Rattle.cg_maps.specs.FiniteMap.{FiniteMap, empty, checked, get, insert, retain, entries, keys, len, set_at, domain, from_entries}
@@ -17,7 +17,10 @@ use Rattle.cg_model.specs.Effect.{effect}
 use Rattle.cg_model.specs.Footprint.{footprint}
 use Rattle.cg_model.specs.Cgroups.{cgroups}
 use Rattle.cg_model.specs.History.{Request, Answer}
+use Rattle.cg_model.specs.Opens.{numbers, opens}
+use Rattle.cg_model.specs.Live.{live}
 use Rattle.cg_model.specs.Machine.{Machine, opened, step}
+use Rattle.cg_model.specs.Room.{has_entry}
 
 -- requests of sessions by number
 abbrev pub Asked : Type 0
@@ -37,6 +40,16 @@ play T asked = played (opened cgroups T 1048576) asked
 unfoldable pub play_within : ℕ → Tree → Asked → List Answer × Tree
 unfolding played
 play_within limit T asked = played (opened cgroups T limit) asked
+
+-- whether a path has an entry after requests
+unfoldable pub entry_after : Machine cgroups → Asked → Tree → Path → Bool
+unfolding get insert empty checked retain entries keys len set_at domain members in_common with_member such_that_below children descendants processes processes_below same_name same_path digits effect footprint
+entry_after m [] O p = has_entry O (λ t. live t m.history) (numbers (opens m.history)) m.tree p
+entry_after m (q ∷ qs) O p = entry_after (step cgroups m q.0 q.1).0 qs O p
+
+unfoldable pub has_entry_after : Tree → Asked → Path → Bool
+unfolding entry_after
+has_entry_after O asked p = entry_after (opened cgroups O 1048576) asked O p
 
 -- the CPUs from first on, so many of them
 unfoldable pub cpus_below : ℕ → FiniteSet

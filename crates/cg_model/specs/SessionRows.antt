@@ -1,42 +1,41 @@
--- Worked runs of several sessions: locks, savepoints, and orders of commits.
+-- Worked runs of several sessions: locks and orders of commits.
 use Rattle.std.specs.Prelude.{◌≡◌, ℕ, List, [], ◌∷◌, ◌++◌, map, codes}
 use Rattle.cg_name.specs.Path.{Path}
-use Rattle.cg_name.specs.declared.controller.Controller.TheVariants as controllers
-use Rattle.cg_name.specs.declared.refusal.Refusal.TheVariants.{Busy, Full, HasProcesses, InUse, NoFile, NoSavepoint, NameTaken, NothingToUndo, TooMany, TooDeep}
+use Rattle.cg_name.specs.declared.refusal.Refusal.TheVariants.{Busy, HasProcesses, TooMany, TooDeep}
 use Rattle.cg_text.specs.Settings.{fresh}
 use Rattle.cg_text.specs.declared.file_name.FileName.TheVariants as files
 use Rattle.cg_text.specs.declared.limit.Limit.TheVariants.{Max, UpTo}
 use Rattle.cg_text.specs.declared.settings.Settings.{Settings}
 use Rattle.cg_model.specs.System.{Done, Text}
-use Rattle.cg_model.specs.Command.{Command, Create, Remove, Migrate, Subtree, Cpus, Show, Online, MaxDescendants, MaxDepth}
-use Rattle.cg_model.specs.History.{Begin, Do, Save, Back, Undo, Commit, Abort, Answer, Begun, Gave, Saved, WentBack, Committed, Aborted, Refused}
-use Rattle.cg_model.specs.Rows.{Asked, play, play_within, w0, w0_with, cpus_below, cpus_of, /a, /b, /a/b, /a/c, cpuset_alone, cpu_alone, enable, disable, passing_on, by}
+use Rattle.cg_model.specs.Command.{Command, Create, Remove, Migrate, Subtree, Show, Online, MaxDescendants, MaxDepth}
+use Rattle.cg_model.specs.History.{Begin, Do, Undo, Commit, Abort, Answer, Begun, Gave, Committed, Aborted, Refused}
+use Rattle.cg_model.specs.Rows.{Asked, play, w0, w0_with, cpus_below, /a, /b, /a/b, /a/c, cpu_alone, enable, passing_on, by}
 
 -- the sessions
-abbrev A : ℕ
+abbrev pub A : ℕ
 A = 1
 
-abbrev B : ℕ
+abbrev pub B : ℕ
 B = 2
 
-abbrev C : ℕ
+abbrev pub C : ℕ
 C = 3
 
 -- a session before the others commits these
-abbrev committing : List Command → Asked
+abbrev pub committing : List Command → Asked
 committing cs = by 16 (Begin ∷ map (λ c. Do c) cs ++ Commit ∷ [])
 
-abbrev busy : ℕ → Answer
+abbrev pub busy : ℕ → Answer
 busy t = Refused (Busy (record { 0 = t }))
 
-abbrev done : Answer
+abbrev pub done : Answer
 done = Gave Done
 
-abbrev text : List ℕ → Answer
+abbrev pub text : List ℕ → Answer
 text x = Gave (Text x)
 
 -- both processes are in the root
-abbrev at_root : List (ℕ × Path)
+abbrev pub at_root : List (ℕ × Path)
 at_root = (10, []) ∷ (11, []) ∷ []
 
 -- two sessions make two groups; the abort of the one takes its own away alone
@@ -61,39 +60,6 @@ MigratePinsBothEnds =
       Begun 1 ∷ done ∷ done ∷ done ∷ done ∷ Committed 1 ∷ Begun 2 ∷ Begun 3 ∷ done ∷ busy 2 ∷ Aborted 2 ∷ Refused HasProcesses ∷ Aborted 3 ∷ [],
       w0_with (([], passing_on cpu_alone) ∷ (/a, fresh) ∷ (/b, fresh) ∷ []) ((10, /a) ∷ (11, []) ∷ []),
     )
-
--- disabling cpuset empties the children's CPUs, and going back gives them back
-abbrev pub CpusetOffAndBack : Type 0
-CpusetOffAndBack =
-    play w0
-    (committing (Subtree [] (enable cpuset_alone) ∷ Create /a ∷ Cpus /a (cpus_below 4) ∷ [])
-    ++ by A (Begin ∷ Do (Subtree [] (disable cpuset_alone)) ∷ Do (Show /a files.Cpus) ∷ Undo ∷ Do (Show /a files.Cpus) ∷ Do (Subtree /a (enable cpuset_alone))
-    ∷ Do (Subtree [] (disable cpuset_alone)) ∷ Undo ∷ Do (Subtree [] (disable cpuset_alone)) ∷ Do (Subtree [] (enable cpuset_alone)) ∷ Do (Show /a files.Cpus) ∷ Commit ∷ []))
-    ≡ (
-      Begun 1 ∷ done ∷ done ∷ done ∷ Committed 1
-          ∷ Begun 2 ∷ done ∷ Refused NoFile ∷ done ∷ text (codes "0-3\n") ∷ done ∷ Refused (InUse controllers.Cpuset) ∷ done ∷ done ∷ done ∷ text (codes "\n") ∷ Committed 2 ∷ [],
-      w0_with (([], passing_on cpuset_alone) ∷ (/a, fresh) ∷ []) at_root,
-    )
-
--- savepoints: going back counts commands, takes inner savepoints along and frees their locks
-abbrev pub Savepoints : Type 0
-Savepoints =
-    play w0
-    (by A (Begin ∷ Do (Create /a) ∷ Save (codes "x") ∷ Save (codes "x") ∷ Do (Create /b) ∷ Save (codes "y") ∷ Undo ∷ Do (Create /a/c) ∷ Back (codes "x") ∷ Back (codes "y") ∷ [])
-    ++ by B (Begin ∷ Do (Create /a) ∷ Do (Create /b) ∷ []) ++ by A (Undo ∷ Undo ∷ []) ++ by B (Commit ∷ []) ++ by A (Abort ∷ []))
-    ≡ (
-      Begun 1 ∷ done ∷ Saved ∷ Refused NameTaken ∷ done ∷ Saved ∷ Refused NothingToUndo ∷ done ∷ WentBack 2 ∷ Refused NoSavepoint
-          ∷ Begun 2 ∷ busy 1 ∷ done ∷ done ∷ Refused NothingToUndo ∷ Committed 1 ∷ Aborted 1 ∷ [],
-      w0_with (([], fresh) ∷ (/b, fresh) ∷ []) at_root,
-    )
-
--- a group that was removed and made anew comes back as it was, since the newest inverse goes first
-abbrev pub RemadeGroup : Type 0
-RemadeGroup =
-    (play w0
-    (committing (Subtree [] (enable cpuset_alone) ∷ Create /a ∷ Subtree /a (enable cpuset_alone) ∷ Create /a/b ∷ Cpus /a/b (cpus_of (2 ∷ [])) ∷ [])
-    ++ by A (Begin ∷ Do (Remove /a/b) ∷ Do (Create /a/b) ∷ Do (Show /a/b files.Cpus) ∷ Abort ∷ Begin ∷ Do (Show /a/b files.Cpus) ∷ Commit ∷ []))).0
-    ≡ Begun 1 ∷ done ∷ done ∷ done ∷ done ∷ done ∷ Committed 1 ∷ Begun 2 ∷ done ∷ done ∷ text (codes "\n") ∷ Aborted 2 ∷ Begun 3 ∷ text (codes "2\n") ∷ Committed 2 ∷ []
 
 -- a removal that isn't committed is not seen: the lock comes before the group's own checks
 abbrev pub UnseenRemoval : Type 0
@@ -127,12 +93,6 @@ CountsAreLocked =
     ((A, Begin) ∷ (B, Begin) ∷ (A, Do (Remove /a/b)) ∷ (B, Do (Create (codes "a" ∷ codes "z" ∷ []))) ∷ (A, Do (Create /a/c)) ∷ (A, Undo) ∷ (A, Undo)
     ∷ by B (Do (Create /a/c) ∷ Do (MaxDescendants /a Max) ∷ Do (MaxDepth /a (UpTo 1)) ∷ Do (Create (codes "a" ∷ codes "b" ∷ codes "z" ∷ [])) ∷ Commit ∷ []) ++ (A, Abort) ∷ [])).0
     ≡ Begun 1 ∷ Begun 2 ∷ done ∷ busy 1 ∷ done ∷ done ∷ done ∷ Refused TooMany ∷ done ∷ done ∷ Refused TooDeep ∷ Committed 1 ∷ Aborted 1 ∷ []
-
--- a history of four places: one command fits beside Begin, its undoing and the end
-abbrev pub FullAtFour : Type 0
-FullAtFour =
-    play_within 4 w0 ((A, Begin) ∷ (A, Do (Create /a)) ∷ (A, Do (Create /b)) ∷ (A, Undo) ∷ (A, Commit) ∷ (B, Begin) ∷ [])
-    ≡ (Begun 1 ∷ done ∷ Refused Full ∷ done ∷ Committed 1 ∷ Refused Full ∷ [], w0)
 
 -- two sessions may read the same group
 abbrev pub ReadersShare : Type 0

@@ -20,4 +20,4 @@ mod ControllerSets
 mod SoundPuts
 mod SoundControl
 pub mod SoundCommands
-mod OwnChecks
+pub mod OwnChecks
