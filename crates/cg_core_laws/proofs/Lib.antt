@@ -26,3 +26,8 @@ mod GoingBack
 mod Theorem
 mod CgroupsLaws
 mod BusyExact
+mod GroupChanges
+mod Stages
+mod Holding
+mod Sweeping
+mod RoomLaws

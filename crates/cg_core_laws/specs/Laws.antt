@@ -11,6 +11,7 @@ use Rattle.cg_model.specs.Opens.{numbers, among, without, transaction_in, opens}
 use Rattle.cg_model.specs.Live.{live}
 use Rattle.cg_model.specs.Reply.{clashes_with, is_full}
 use Rattle.cg_model.specs.Machine.{Machine, opened, step, steps}
+use Rattle.cg_core_laws.specs.Room.{RoomKept, CommitSweeps}
 use Rattle.cg_core_laws.specs.Headline.{AreProper, IsSerial, IsFaithful, GoesBack, OthersStay, CommitsStay}
 
 -- what holds after every list of steps of any sessions, interleaved in any way, from any sound tree, whatever the limit
@@ -43,3 +44,11 @@ pub record IsLeastInTheWay (opening : Tree) (m : Machine cgroups) (t : ℕ) (c :
 abbrev pub BusyExactly : Type 0
 BusyExactly = AfterAnySteps (λ opening m. (s t : ℕ) → transaction_in s (opens m.history) ≡ Some t → is_full m.limit m.history ≡ false → (c : Command) (u : ℕ)
     → ((step cgroups m s (Do c)).1 ≡ Refused (Busy (record { 0 = u }))) ↔ IsLeastInTheWay opening m t c u)
+
+-- every live inverse has room when its turn comes, and what nobody needs may be swept
+abbrev pub Roomy : Type 0
+Roomy = AfterAnySteps RoomKept
+
+-- so it is while a commit drains its stack
+abbrev pub Sweeping : Type 0
+Sweeping = AfterAnySteps CommitSweeps

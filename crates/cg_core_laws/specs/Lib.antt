@@ -1,3 +1,4 @@
 pub mod Unwind
 pub mod Headline
+pub mod Room
 pub mod Laws

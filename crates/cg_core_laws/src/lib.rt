@@ -2,7 +2,7 @@
 //! any way.
 #![tactic(auto)]
 
-ghost use Rattle.cg_core_laws.specs.Laws.{BusyExactly, CommitsKept, Faithful, GoingBack, OthersUntouched, Serial};
+ghost use Rattle.cg_core_laws.specs.Laws.{BusyExactly, CommitsKept, Faithful, GoingBack, OthersUntouched, Roomy, Serial, Sweeping};
 
 /// The tree is the opening tree changed by the surviving commands alone; every inverse fits when its turn comes, in
 /// whatever interleaving open transactions are unwound; and the committed transactions in commit order, then each open one
@@ -36,4 +36,14 @@ pub fn commits_stay()
 /// the least of these.
 pub fn busy_names_the_least_in_the_way()
     ensures { BusyExactly }
+{}
+
+/// Every live inverse has room when its turn comes, and the entries that nobody needs may be swept, lower paths first.
+pub fn going_back_has_room()
+    ensures { Roomy }
+{}
+
+/// While a commit drains its stack from the oldest item, the entries that nobody needs may be swept.
+pub fn commits_may_sweep()
+    ensures { Sweeping }
 {}

@@ -1,0 +1,8 @@
+use Rattle.cg_model.specs.Cgroups.{cgroups}
+use Rattle.cg_core_laws.proofs.CgroupsLaws.{laws}
+use Rattle.cg_core_laws.proofs.Theorem.{serial}
+use Rattle.cg_core_laws.proofs.RoomLaws.{commit_sweeps}
+use Rattle.cg_core_laws.proofs.commits_may_sweep.Goals as goal
+
+pub returns : goal.returns
+returns c opening limit requests sound proper = commit_sweeps opening _ (serial cgroups laws opening sound limit requests proper)
