@@ -1,4 +1,5 @@
--- Changes of a tree, and going back by them: a list of changes is both what a command did and its inverse.
+-- Changes of a tree, and going back by them: a list of changes is both what a command did and its inverse (this project's
+-- own choice).
 use Rattle.std.specs.Prelude.{◌≡◌, List, [], ◌∷◌, Option}
 use Rattle.cg_model.specs.Tree.{Tree}
 use Rattle.cg_model.specs.Key.{Key, Held, value_at, put}

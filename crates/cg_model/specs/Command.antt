@@ -1,4 +1,5 @@
--- The ten commands, what a command answers, and what it does: a refusal, or an outcome with changes.
+-- The ten commands, and what a command does: a refusal, or an outcome with changes (cgroup-v2, Organizing Processes and
+-- Threads; Core Interface Files; Cpuset Interface Files. Setting CPUs online stands for hotplug).
 use Rattle.std.specs.Prelude.{◌≡◌, ℕ, Bool, false, List}
 use Rattle.cg_maps.specs.FiniteSet.{FiniteSet, is_empty_set}
 use Rattle.cg_name.specs.Path.{Path}

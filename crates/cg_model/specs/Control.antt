@@ -53,7 +53,7 @@ control_change p s t = change (Part p Control) (Some s) (Some t) ∷ []
 abbrev pub controlled : Path → Controllers → Controllers → List (Path × Settings) → List Change
 controlled p s t children = emptied (cond (loses_cpuset s t) children []) (control_change p s t)
 
--- the path, the operations, the group's settings, what is available, the children, and whether there are processes of its own
+-- by the path, the operations, the group's settings, what is available, the children, and whether there are processes of its own
 abbrev pub subtree_effect : Path → ControlOps → Option Settings → Option Controllers → List (Path × Settings) → Bool → Effect
 subtree_effect p ops None a children processes = Refuse NoGroup
 subtree_effect p ops (Some s) None children processes = Refuse NoGroup

@@ -1,4 +1,5 @@
--- What is derived from the tree: who is in a group and below it, what is available, frozen, populated and effective.
+-- What is derived from the tree: who is in a group and below it, what is available, frozen, populated and effective
+-- (cgroup-v2; the section stands with each value).
 use Rattle.std.specs.Prelude.{ℕ, Bool, false, cond, List, [], ◌∷◌, ◌++◌, Option, Some, None, option_map, option_and_then}
 use Rattle.std.specs.List.{list_any}
 use Rattle.cg_maps.specs.FiniteMap.{retain, domain, entries, keys, len, is_nonempty}
@@ -8,11 +9,11 @@ use Rattle.cg_text.specs.declared.controllers.Controllers.{Controllers}
 use Rattle.cg_text.specs.declared.settings.Settings.{Settings}
 use Rattle.cg_model.specs.Tree.{Tree, group, place_of, above, parent_group}
 
--- the children of p with their settings, in order
+-- the children of p with their settings, in order (Organizing Processes and Threads: Processes)
 unfoldable pub children : Tree → Path → List (Path × Settings)
 children T p = entries (retain T.groups (is_parent p))
 
--- the number of groups below p
+-- the number of groups below p (Core Interface Files: cgroup.max.descendants)
 unfoldable pub descendants : Tree → Path → ℕ
 descendants T p = len (retain (domain T.groups) (is_above p))
 
@@ -60,11 +61,12 @@ down_to T p = behind_first (above T p ++ group T p ∷ [])
 abbrev pub is_frozen : Tree → Path → Bool
 is_frozen T p = list_any has_freeze (down_to T p)
 
--- the group or one below it has a process (Core Interface Files: cgroup.events)
+-- the group or one below it has a process (Un-populated Notification; Core Interface Files: cgroup.events)
 abbrev pub is_populated : Tree → Path → Bool
 is_populated T p = is_nonempty (processes_below T p)
 
 -- the CPUs of one group, from those of its parent: what it asks for, or all of them where nothing of that is there
+-- (Cpuset Interface Files: cpuset.cpus)
 abbrev pub narrowed : FiniteSet → Option Settings → FiniteSet
 narrowed e None = e
 narrowed e (Some s) = cond (is_empty_set (in_common s.cpus e)) e (in_common s.cpus e)

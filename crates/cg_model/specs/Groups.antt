@@ -15,12 +15,12 @@ use Rattle.cg_model.specs.Change.{change}
 use Rattle.cg_model.specs.System.{Done, Refuse, Accept}
 use Rattle.cg_model.specs.Command.{Effect}
 
--- n descendants are as many as the limit allows, or more
+-- n descendants are as many as the limit allows, or more (Core Interface Files: cgroup.max.descendants)
 abbrev pub reaches : Limit → ℕ → Bool
 reaches Max n = false
 reaches (UpTo most) n = nat_le most n
 
--- d levels are more than the limit allows
+-- d levels are more than the limit allows (Core Interface Files: cgroup.max.depth)
 abbrev pub exceeds : Limit → ℕ → Bool
 exceeds Max d = false
 exceeds (UpTo most) d = nat_lt most d
@@ -41,7 +41,8 @@ too_many T p = list_any (λ b. b) (along (λ a. is_full (group T a) (descendants
 abbrev pub too_deep : Tree → Path → Bool
 too_deep T p = list_any (λ b. b) (along (λ a. is_too_deep (group T a) (length p - length a)) p)
 
--- the path, its parent's settings, its own, and the two limits
+-- by the path, its parent's settings, its own, and the two limits; of several limits, those on descendants come first (this
+-- project's own choice)
 abbrev pub create_effect : Path → Option Settings → Option Settings → Bool → Bool → Effect
 create_effect [] parent own many deep = Refuse Exists
 create_effect (n ∷ p) None own many deep = Refuse NoGroup
@@ -50,7 +51,7 @@ create_effect (n ∷ p) (Some u) None true deep = Refuse TooMany
 create_effect (n ∷ p) (Some u) None false true = Refuse TooDeep
 create_effect (n ∷ p) (Some u) None false false = Accept Done (change (Group (n ∷ p)) None (Some fresh) ∷ [])
 
--- the path, its settings, whether it has children, and whether it has processes of its own
+-- by the path, its settings, whether it has children, and whether it has processes of its own
 abbrev pub remove_effect : Path → Option Settings → Bool → Bool → Effect
 remove_effect [] own children processes = Refuse IsRoot
 remove_effect (n ∷ p) None children processes = Refuse NoGroup

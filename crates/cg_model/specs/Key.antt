@@ -1,4 +1,4 @@
--- The keys of a tree, and changes of the tree at keys.
+-- The keys of a tree, and putting values at keys (this project's own choice).
 use Rattle.std.specs.Prelude.{ℕ, Bool, true, false, ◌&&◌, ◌==◌, Option, Some, None, option_map}
 use Rattle.cg_maps.specs.FiniteMap.{set_at}
 use Rattle.cg_maps.specs.FiniteSet.{FiniteSet}
@@ -8,7 +8,7 @@ use Rattle.cg_text.specs.declared.limit.Limit.{Limit}
 use Rattle.cg_text.specs.declared.settings.Settings.{Settings}
 use Rattle.cg_model.specs.Tree.{Tree, group, place_of}
 
--- the settings of a group, one by one
+-- the settings of a group, one by one, each named for its interface file (Core Interface Files; Cpuset Interface Files)
 pub data Field : Type 0 where
   Control Freeze Cpus MaxDescendants MaxDepth : Field
 

@@ -1,5 +1,5 @@
--- A system of commands on a state. Histories, transactions and the machine speak of any such system; the tree of control
--- groups with its ten commands is one.
+-- A system of commands on a state (this project's own choice). Histories, transactions and the machine speak of any such
+-- system; the tree of control groups with its ten commands is one.
 use Rattle.std.specs.Prelude.{ℕ, Bool, List}
 use Rattle.cg_name.specs.declared.refusal.Refusal.{Refusal}
 

@@ -7,7 +7,8 @@ use Rattle.cg_name.specs.Path.{Path, path_cmp, along}
 use Rattle.cg_text.specs.declared.controllers.Controllers.{Controllers}
 use Rattle.cg_text.specs.declared.settings.Settings.{Settings}
 
--- the machine's controllers and online CPUs, the settings of each group, and the group of each process
+-- the machine's controllers and online CPUs, the settings of each group, and the group of each process: the groups form one
+-- tree, and each process is in exactly one group (Organizing Processes and Threads: Processes)
 pub record Tree : Type 0 where
   pub controllers : Controllers
   pub online : FiniteSet
