@@ -4,4 +4,6 @@ pub mod Name
 pub mod Path
 pub mod Pieces
 pub mod Order
+pub mod SaveName
+pub mod SaveNameFields
 pub mod Laws

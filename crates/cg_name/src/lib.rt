@@ -6,5 +6,6 @@ pub mod laws;
 pub mod name;
 pub mod path;
 pub mod refusal;
+pub mod save_name;
 #[cfg(test)]
 mod tests;

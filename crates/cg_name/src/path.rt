@@ -1,5 +1,5 @@
 //! The path of a group: the names from the root down.
-ghost use Rattle.std.specs.Prelude.{◌≡◌, ◌-◌, ◌∷◌, ◌++◌, List, ℕ, Some, [], IfOk, IfErr, IfSome, OnOk, OnErr, length, take, nat_eq, slice_get, option_copied, vec_len, not, is_some};
+ghost use Rattle.std.specs.Prelude.{◌≡◌, ◌↔◌, ◌-◌, ◌∷◌, ◌++◌, List, ℕ, Some, [], IfOk, IfErr, IfSome, OnOk, OnErr, length, take, nat_eq, slice_get, option_copied, vec_len, not, is_some};
 ghost use Rattle.std.specs.Result.{IsErrOf};
 ghost use Rattle.std.specs.List.{flat_map};
 ghost use Rattle.std.specs.Ordering.{nat_cmp};
@@ -7,7 +7,7 @@ ghost use Rattle.std.specs.Cmp.Lexicographic.{slice_cmp, pointwise, nat_list_cmp
 ghost use Rattle.std.specs.Cmp.{po};
 ghost use Rattle.std.specs.Cmp.Rules.{comparing};
 ghost use Rattle.std.proofs.Common.{rules};
-ghost use Rattle.cg_name.specs.Path.{path_cmp, is_root, IsPath, path_text, SpellsPath};
+ghost use Rattle.cg_name.specs.Path.{path_cmp, is_root, is_prefix, comparable, IsPath, path_text, SpellsPath};
 ghost use Rattle.cg_name.specs.Pieces.{pieces};
 ghost use Rattle.cg_name.specs.Refusal.{IsSyntaxOrMemory};
 
@@ -74,6 +74,20 @@ impl Path {
         self.names().get(index as usize)
     }
 
+    /// Whether the other path begins with this one, as every path begins with itself and with the root's.
+    pub fn is_prefix(&self, other: &Path) -> bool
+        ensures { result ≡ is_prefix self.now other.now }
+    {
+        other.names.starts_with(self.names.as_slice())
+    }
+
+    /// Whether one of the two paths begins with the other.
+    pub fn comparable(&self, other: &Path) -> bool
+        ensures { result ≡ comparable self.now other.now }
+    {
+        self.is_prefix(other) || other.is_prefix(self)
+    }
+
     /// An equal path; `Memory` where there is none for it.
     pub fn copy(&self, alloc: Global) -> Result<Path, Refusal>
         ensures value { IfOk result (λ p. p ≡ self.now) }
@@ -98,6 +112,21 @@ impl Path {
         Ok(Some(Path {
             names: copy_names(alloc, &names[..names.len() - 1])?,
         }))
+    }
+
+    /// The path of the child with that name: this path, and the name at its end; `Syntax` where there are 64 names
+    /// already, `Memory` where there is none for the longer path. The name is let go where the call is refused.
+    pub fn child(&self, alloc: Global, name: Name) -> Result<Path, Refusal>
+        ensures value { IfOk result (λ q. q ≡ self.now ++ name ∷ []) }
+        ensures syntax { IsErrOf result Refusal.Syntax ↔ (length self.now ≡ 64) }
+        ensures refusals { IfErr result IsSyntaxOrMemory }
+    {
+        if self.names.len() == MAX_DEPTH {
+            return Err(Refusal::Syntax);
+        }
+        let mut names = copy_names(alloc, self.names.as_slice())?;
+        names.push(name)?;
+        Ok(Path { names })
     }
 
     /// The path that the text spells; `Syntax` where it spells none, `Memory` where there is none for the names.

@@ -2,8 +2,10 @@ use crate::controller::Controller;
 use crate::name::Name;
 use crate::path::Path;
 use crate::refusal::{Refusal, TxnNumber};
+use crate::save_name::SaveName;
 use std::alloc::{AllocError, Global};
 use std::cmp::Ordering;
+use std::collections::HashMap;
 use std::test::Fail;
 
 // The text, that many times.
@@ -229,6 +231,117 @@ fn paths_stand_in_order(rt: HostRuntime) -> Result<(), Fail> {
             Ordering::Greater,
             "{less} {more}"
         );
+    }
+    Ok(())
+}
+
+#[test]
+fn prefixes_are_told(rt: HostRuntime) -> Result<(), Fail> {
+    let alloc = rt.alloc();
+    for (first, second, prefix, comparable) in [
+        ("/", "/", true, true),
+        ("/", "/a/b", true, true),
+        ("/a", "/", false, true),
+        ("/a", "/a", true, true),
+        ("/a", "/a/b", true, true),
+        ("/a/b", "/a", false, true),
+        ("/a", "/ab", false, false),
+        ("/a/b", "/a/c", false, false),
+        ("/a/c", "/a/b/c", false, false),
+        ("/b", "/a/b", false, false),
+    ] {
+        let path = Path::read(alloc, first)?;
+        let other = Path::read(alloc, second)?;
+        assert_eq!(rt; path.is_prefix(&other), prefix, "{first} {second}");
+        assert_eq!(rt; path.comparable(&other), comparable, "{first} {second}");
+    }
+    Ok(())
+}
+
+#[test]
+fn a_child_has_one_name_more(rt: HostRuntime) -> Result<(), Fail> {
+    let alloc = rt.alloc();
+    let last_but_one = repeated(alloc, "/n", 63)?;
+    let deepest = repeated(alloc, "/n", 64)?;
+    for (parent, name, child) in [
+        ("/", "a", "/a"),
+        ("/a", "b", "/a/b"),
+        ("/a/b", "a", "/a/b/a"),
+        (last_but_one.as_str(), "n", deepest.as_str()),
+    ] {
+        let path = Path::read(alloc, parent)?;
+        let made = path.child(alloc, Name::read(alloc, name)?)?;
+        assert!(rt; made == Path::read(alloc, child)?, "{child}");
+    }
+    Ok(())
+}
+
+#[test]
+fn the_deepest_path_has_no_child(rt: HostRuntime) -> Result<(), Fail> {
+    let alloc = rt.alloc();
+    let path = Path::read(alloc, repeated(alloc, "/n", 64)?.as_str())?;
+    let made = path.child(alloc, Name::read(alloc, "n")?);
+    assert_eq!(rt; made.err(), Some(Refusal::Syntax));
+    Ok(())
+}
+
+#[test]
+fn save_names_are_read(rt: HostRuntime) -> Result<(), Fail> {
+    for text in [
+        "a",
+        "z",
+        "A",
+        "Z",
+        "0",
+        "9",
+        "_",
+        "-",
+        "before-step_2",
+        "abcdefghijklmnop",
+    ] {
+        let name = SaveName::read(text)?;
+        assert_eq!(rt; name.as_str(), text);
+        assert_eq!(rt; name.as_bytes(), text.as_bytes());
+    }
+    Ok(())
+}
+
+#[test]
+fn other_texts_are_no_save_names(rt: HostRuntime) {
+    for text in [
+        "",
+        "abcdefghijklmnopq",
+        "a b",
+        "a.b",
+        "a/b",
+        "a:b",
+        "a@b",
+        "a[b",
+        "a^b",
+        "a`b",
+        "a{b",
+        "a\u{0}",
+        "\u{0}",
+        "é",
+    ] {
+        assert_eq!(rt; SaveName::read(text).err(), Some(Refusal::Syntax), "{text}");
+    }
+}
+
+#[test]
+fn save_names_are_keys(rt: HostRuntime) -> Result<(), Fail> {
+    let mut places = HashMap::new(rt.alloc());
+    for (text, place) in [("a", 1), ("ab", 2), ("b", 3)] {
+        places.insert(SaveName::read(text)?, place)?;
+    }
+    for (text, place) in [
+        ("a", Some(1)),
+        ("ab", Some(2)),
+        ("b", Some(3)),
+        ("ba", None),
+    ] {
+        let found = places.get(&SaveName::read(text)?).copied();
+        assert_eq!(rt; found, place, "{text}");
     }
     Ok(())
 }
