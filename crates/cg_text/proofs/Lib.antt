@@ -1,1 +1,6 @@
 mod WordsLemmas
+mod Appending
+mod Sets
+mod Operations
+mod Spelled
+mod Canonical

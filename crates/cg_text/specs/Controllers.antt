@@ -38,6 +38,17 @@ with_controller Pids s = record s { pids = true }
 with_controller Rdma s = record s { rdma = true }
 with_controller Misc s = record s { misc = true }
 
+-- the set without one controller
+abbrev pub without_controller : Controller → Controllers → Controllers
+without_controller Cpuset s = record s { cpuset = false }
+without_controller Cpu s = record s { cpu = false }
+without_controller Io s = record s { io = false }
+without_controller Memory s = record s { memory = false }
+without_controller Hugetlb s = record s { hugetlb = false }
+without_controller Pids s = record s { pids = false }
+without_controller Rdma s = record s { rdma = false }
+without_controller Misc s = record s { misc = false }
+
 -- the controllers of a set, in the profile's order
 abbrev pub members : Controllers → List Controller
 members s = filter (has s) all_controllers

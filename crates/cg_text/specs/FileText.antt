@@ -1,11 +1,12 @@
 -- What interface files hold, as texts.
-use Rattle.std.specs.Prelude.{ℕ, Bool, true, false, List, [], ◌∷◌, ◌++◌, map, codes}
+use Rattle.std.specs.Prelude.{ℕ, ◌==◌, ◌||◌, Bool, true, false, cond, List, [], ◌∷◌, ◌++◌, map, filter, codes}
 use Rattle.std.specs.List.{flat_map, join_with_byte}
 use Rattle.std.specs.Fmt.{decimal}
 use Rattle.cg_maps.specs.FiniteSet.{FiniteSet}
 use Rattle.cg_name.specs.Controller.{controller_word}
 use Rattle.cg_cpus.specs.CpuList.{cpus_text}
-use Rattle.cg_text.specs.Controllers.{members}
+use Rattle.cg_text.specs.Controllers.{has, members, all_controllers}
+use Rattle.cg_text.specs.declared.control_ops.ControlOps.{ControlOps}
 use Rattle.cg_text.specs.declared.controllers.Controllers.{Controllers}
 use Rattle.cg_text.specs.declared.limit.Limit.{Limit}
 use Rattle.cg_text.specs.declared.limit.Limit.TheVariants.{Max, UpTo}
@@ -44,3 +45,19 @@ cpus_line s = line_text (cpus_text s)
 abbrev pub limit_text : Limit → List ℕ
 limit_text Max = codes "max\n"
 limit_text (UpTo n) = line_text (decimal n)
+
+-- a word of an operation for each named controller, in the profile's order: a plus or a minus, and the name
+abbrev pub op_words : ControlOps → List (List ℕ)
+op_words ops = map (λ c. cond (has ops.plus c) 43 45 ∷ controller_word c) (filter (λ c. has ops.plus c || has ops.minus c) all_controllers)
+
+-- the operations with single spaces between them, and no newline
+abbrev pub ops_text : ControlOps → List ℕ
+ops_text ops = join_with_byte 32 (op_words ops)
+
+-- a byte between quotation marks: a quotation mark, a backslash and a newline are written with a backslash
+abbrev pub quoted_byte : ℕ → List ℕ
+quoted_byte b = cond (b == 10) (92 ∷ 110 ∷ []) (cond ((b == 34) || (b == 92)) (92 ∷ b ∷ []) (b ∷ []))
+
+-- a text between quotation marks
+abbrev pub quoted_text : List ℕ → List ℕ
+quoted_text bs = 34 ∷ flat_map quoted_byte bs ++ 34 ∷ []

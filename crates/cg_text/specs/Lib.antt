@@ -2,3 +2,6 @@ pub mod Controllers
 pub mod Settings
 pub mod FileText
 pub mod Words
+pub mod Reading
+pub mod Laws
+pub mod Writing

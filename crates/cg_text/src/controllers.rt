@@ -1,6 +1,6 @@
 //! Sets of controllers.
 ghost use Rattle.std.specs.Prelude.{◌≡◌, ◌↔◌, IsTrue, true, false, Bool};
-ghost use Rattle.cg_text.specs.Controllers.{has, no_controllers, with_controller, is_no_controllers, is_within};
+ghost use Rattle.cg_text.specs.Controllers.{has, no_controllers, with_controller, without_controller, is_no_controllers, is_within};
 
 use cg_name::controller::Controller;
 
@@ -63,6 +63,22 @@ impl Controllers {
             Controller::Pids => self.pids = true,
             Controller::Rdma => self.rdma = true,
             Controller::Misc => self.misc = true,
+        }
+    }
+
+    /// Removes the controller.
+    pub fn remove(&mut self, controller: Controller)
+        ensures { self.new ≡ without_controller controller self.old }
+    {
+        match controller {
+            Controller::Cpuset => self.cpuset = false,
+            Controller::Cpu => self.cpu = false,
+            Controller::Io => self.io = false,
+            Controller::Memory => self.memory = false,
+            Controller::Hugetlb => self.hugetlb = false,
+            Controller::Pids => self.pids = false,
+            Controller::Rdma => self.rdma = false,
+            Controller::Misc => self.misc = false,
         }
     }
 

@@ -1,0 +1,72 @@
+-- A text spells at most one value of each kind, and the texts of flags and limits spell them.
+use Rattle.std.proofs.Common.{◌≡◌, ℕ, ◌≤◌, ◌-◌, Bool, true, false, cond, List, [], ◌∷◌, ◌++◌, length, reverse, inl, refl, sym, ap, subst, ◌∙◌, true≢false, arith}
+use Rattle.std.specs.Fmt.{decimal}
+use Rattle.std.specs.Str.Parse.{AllDigits, IsNumeral, digits_value}
+use Rattle.std.proofs.lemmas.Bool.Decides.{nat_tests}
+use Rattle.std.proofs.lemmas.Fmt.{decimal_is_IsNumeral}
+use Rattle.std.proofs.lemmas.List.{reverse-append, reverse-reverse}
+use Rattle.std.proofs.lemmas.Str.Parse.{digit_from_value, digit_at}
+use Rattle.cg_cpus.specs.Blanks.{starts_blank}
+use Rattle.cg_cpus.specs.CpuList.{is_blank, without_leading_blanks, without_trailing_blanks}
+use Rattle.cg_cpus.proofs.Trimmed.{front_end, last_test}
+use Rattle.cg_name.specs.declared.controller.Controller.{Controller}
+use Rattle.cg_text.specs.Controllers.{has, no_controllers}
+use Rattle.cg_text.specs.Laws.{AreApart, LimitIsSpelled, OneOps, OpsAreApart}
+use Rattle.cg_text.specs.Reading.{blank_words, SpellsOpsAfter, trimmed, with_op}
+use Rattle.cg_text.specs.Words.{Word}
+use Rattle.cg_text.specs.declared.control_ops.ControlOps.{ControlOps}
+use Rattle.cg_text.specs.declared.limit.Limit.TheVariants.{Max, UpTo}
+use Rattle.cg_text.proofs.Operations.{one_result}
+use Rattle.cg_text.proofs.Sets.{has_none, has_with, has_without, is}
+
+pub one_ops : OneOps
+one_ops text x y h k = one_result (blank_words text) (record { plus = no_controllers; minus = no_controllers }) x y h k
+
+-- ---- limits
+
+digit_is_no_blank : (b : ℕ) → 48 ≤ b → b ≤ 57 → is_blank b ≡ false
+digit_is_no_blank b l m = grind (arith, nat_tests)
+
+no_blank_first : (ds : List ℕ) → AllDigits 10 ds → starts_blank ds ≡ false
+no_blank_first [] h = refl
+no_blank_first (d ∷ ds) h = let r = digit_from_value d h.0 in digit_is_no_blank d r.0 r.1
+
+last_digit : (d : ℕ) (ds : List ℕ) → AllDigits 10 (d ∷ ds) → starts_blank (reverse (d ∷ ds)) ≡ false
+last_digit d ds h = let r = digit_at (d ∷ ds) (length (d ∷ ds) - 1) h (omega arith) in last_test (d ∷ ds) (omega arith) ∙ digit_is_no_blank _ r.0 r.1
+
+-- the digits of a line are the line, trimmed
+line_of_digits : (ds : List ℕ) → IsNumeral 10 ds → trimmed (ds ++ 10 ∷ []) ≡ ds
+line_of_digits [] h = absurd (omega (arith, h.0))
+line_of_digits (d ∷ ds) h =
+    ap without_trailing_blanks (front_end (d ∷ ds ++ 10 ∷ []) (no_blank_first (d ∷ ds) h.1))
+    ∙ ap (λ bs. reverse (without_leading_blanks bs)) (reverse-append (d ∷ ds) (10 ∷ []))
+    ∙ ap reverse (front_end (reverse (d ∷ ds)) (last_digit d ds h.1))
+    ∙ reverse-reverse (d ∷ ds)
+
+pub limit_is_spelled : LimitIsSpelled
+limit_is_spelled Max h = inl refl
+limit_is_spelled (UpTo n) h =
+    let numeral = decimal_is_IsNumeral n (omega arith) in
+    let is : trimmed (decimal n ++ 10 ∷ []) ≡ decimal n = line_of_digits (decimal n) numeral.0 in
+    (subst (IsNumeral 10) (sym is) numeral.0, ap (digits_value 10) is ∙ numeral.1, h)
+
+-- ---- operations that are apart
+
+apart_after : (enables : Bool) (d : Controller) (ops : ControlOps) → AreApart ops → AreApart (with_op enables d ops)
+apart_after true d ops h c e = has_without d c ops.minus ∙ at (is d c) (sym (has_with d c ops.plus) ∙ e)
+  where
+    at : (same : Bool) → cond same true (has ops.plus c) ≡ true → cond same false (has ops.minus c) ≡ false
+    at true k = refl
+    at false k = h c k
+apart_after false d ops h c e = has_with d c ops.minus ∙ at (is d c) (sym (has_without d c ops.plus) ∙ e)
+  where
+    at : (same : Bool) → cond same false (has ops.plus c) ≡ true → cond same true (has ops.minus c) ≡ false
+    at true k = absurd (true≢false (sym k))
+    at false k = h c k
+
+apart_spelled : (ws : List Word) (ops all : ControlOps) → AreApart ops → SpellsOpsAfter ops ws all → AreApart all
+apart_spelled [] ops all h k = subst AreApart (sym k) h
+apart_spelled (w ∷ ws) ops all h k = apart_spelled ws (with_op k.0 k.1 ops) all (apart_after k.0 k.1 ops h) k.3
+
+pub ops_are_apart : OpsAreApart
+ops_are_apart text ops k = apart_spelled (blank_words text) (record { plus = no_controllers; minus = no_controllers }) ops (λ c e. has_none c) k

@@ -1,0 +1,48 @@
+-- The laws of interface texts, for contracts to cite.
+use Rattle.std.specs.Prelude.{◌≡◌, ℕ, ◌≤◌, Bool, true, false, List}
+use Rattle.cg_name.specs.declared.controller.Controller.{Controller}
+use Rattle.cg_text.specs.Controllers.{has}
+use Rattle.cg_text.specs.FileText.{flag_text, limit_text, ops_text}
+use Rattle.cg_text.specs.Reading.{SpellsFlag, SpellsPid, SpellsLimit, SpellsOps}
+use Rattle.cg_text.specs.declared.control_ops.ControlOps.{ControlOps}
+use Rattle.cg_text.specs.declared.limit.Limit.{Limit}
+use Rattle.cg_text.specs.declared.limit.Limit.TheVariants.{Max, UpTo}
+
+-- a text spells at most one value
+abbrev pub SpellsOne : {A : Type 0} → (List ℕ → A → Type 0) → Type 0
+SpellsOne {A} Spells = (text : List ℕ) (x y : A) → Spells text x → Spells text y → x ≡ y
+
+abbrev pub OneFlag : Type 0
+OneFlag = SpellsOne SpellsFlag
+
+abbrev pub OnePid : Type 0
+OnePid = SpellsOne SpellsPid
+
+abbrev pub OneLimit : Type 0
+OneLimit = SpellsOne SpellsLimit
+
+abbrev pub OneOps : Type 0
+OneOps = SpellsOne SpellsOps
+
+-- what is written is read back
+abbrev pub FlagIsSpelled : Type 0
+FlagIsSpelled = (b : Bool) → SpellsFlag (flag_text b) b
+
+-- a limit that the files can hold
+abbrev pub IsLimit : Limit → Type 0
+IsLimit Max = Unit {0}
+IsLimit (UpTo n) = n ≤ 2147483646
+
+abbrev pub LimitIsSpelled : Type 0
+LimitIsSpelled = (l : Limit) → IsLimit l → SpellsLimit (limit_text l) l
+
+-- no controller is both enabled and disabled
+abbrev pub AreApart : ControlOps → Type 0
+AreApart ops = (c : Controller) → has ops.plus c ≡ true → has ops.minus c ≡ false
+
+-- the operations that a text spells are apart, and operations that are apart are spelled by their text
+abbrev pub OpsAreApart : Type 0
+OpsAreApart = (text : List ℕ) (ops : ControlOps) → SpellsOps text ops → AreApart ops
+
+abbrev pub OpsAreSpelled : Type 0
+OpsAreSpelled = (ops : ControlOps) → AreApart ops → SpellsOps (ops_text ops) ops

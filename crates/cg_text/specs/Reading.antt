@@ -1,0 +1,71 @@
+-- What is written to interface files, as texts: which value a text spells.
+use Rattle.std.specs.Prelude.{◌≡◌, ◌⊎◌, ℕ, ◌≤◌, Bool, true, false, List, [], ◌∷◌, filter, codes}
+use Rattle.std.specs.List.{slice_split}
+use Rattle.std.specs.Str.Parse.{IsNumeral, digits_value}
+use Rattle.cg_name.specs.Controller.{controller_word}
+use Rattle.cg_name.specs.declared.controller.Controller.{Controller}
+use Rattle.cg_cpus.specs.CpuList.{is_blank, without_leading_blanks, without_trailing_blanks}
+use Rattle.cg_text.specs.Controllers.{with_controller, without_controller, no_controllers}
+use Rattle.cg_text.specs.FileText.{flag_word}
+use Rattle.cg_text.specs.Words.{Word, is_filled}
+use Rattle.cg_text.specs.declared.control_ops.ControlOps.{ControlOps}
+use Rattle.cg_text.specs.declared.file_name.FileName.{FileName}
+use Rattle.cg_text.specs.declared.file_name.FileName.TheVariants as files
+use Rattle.cg_text.specs.declared.limit.Limit.{Limit}
+use Rattle.cg_text.specs.declared.limit.Limit.TheVariants.{Max, UpTo}
+
+-- a text without the spaces, tabs and newlines at both ends
+abbrev pub trimmed : List ℕ → List ℕ
+trimmed text = without_trailing_blanks (without_leading_blanks text)
+
+-- `0` or `1` (Core Interface Files: cgroup.freeze)
+abbrev pub SpellsFlag : List ℕ → Bool → Type 0
+SpellsFlag text b = trimmed text ≡ flag_word b
+
+-- decimal digits, leading zeros allowed, of a value from 1 to 4,194,303
+abbrev pub SpellsPid : List ℕ → ℕ → Type 0
+SpellsPid text k = IsNumeral 10 (trimmed text) × (digits_value 10 (trimmed text) ≡ k) × (1 ≤ k) × (k ≤ 4194303)
+
+-- `max`, or decimal digits, leading zeros allowed, of a value up to 2,147,483,647, which is `max` as well
+-- (Core Interface Files: cgroup.max.descendants, cgroup.max.depth)
+abbrev pub SpellsLimitTrimmed : List ℕ → Limit → Type 0
+SpellsLimitTrimmed word (UpTo n) = IsNumeral 10 word × (digits_value 10 word ≡ n) × (n ≤ 2147483646)
+SpellsLimitTrimmed word Max = (word ≡ codes "max") ⊎ (IsNumeral 10 word × (digits_value 10 word ≡ 2147483647))
+
+abbrev pub SpellsLimit : List ℕ → Limit → Type 0
+SpellsLimit text l = SpellsLimitTrimmed (trimmed text) l
+
+-- the operations with one more behind them: of several for one controller the last counts
+abbrev pub with_op : Bool → Controller → ControlOps → ControlOps
+with_op true c ops = record { plus = with_controller c ops.plus; minus = without_controller c ops.minus }
+with_op false c ops = record { plus = without_controller c ops.plus; minus = with_controller c ops.minus }
+
+-- the byte before a controller that is to be enabled, or disabled
+abbrev pub sign_byte : Bool → ℕ
+sign_byte true = 43
+sign_byte false = 45
+
+-- the words are operations, and change the first operations to the last
+abbrev pub SpellsOpsAfter : ControlOps → List Word → ControlOps → Type 0
+SpellsOpsAfter ops [] all = all ≡ ops
+SpellsOpsAfter ops (w ∷ ws) all = (enables : Bool) × (c : Controller) × (w ≡ sign_byte enables ∷ controller_word c) × SpellsOpsAfter (with_op enables c ops) ws all
+
+-- the parts of a text between spaces, tabs and newlines
+abbrev pub blank_words : List ℕ → List Word
+blank_words text = filter is_filled (slice_split is_blank text)
+
+-- words that are operations, separated by spaces, tabs or newlines, possibly none (Core Interface Files: cgroup.subtree_control)
+abbrev pub SpellsOps : List ℕ → ControlOps → Type 0
+SpellsOps text ops = SpellsOpsAfter (record { plus = no_controllers; minus = no_controllers }) (blank_words text) ops
+
+-- the name of an interface file
+abbrev pub file_word : FileName → List ℕ
+file_word files.Procs = codes "cgroup.procs"
+file_word files.Controllers = codes "cgroup.controllers"
+file_word files.SubtreeControl = codes "cgroup.subtree_control"
+file_word files.Events = codes "cgroup.events"
+file_word files.Freeze = codes "cgroup.freeze"
+file_word files.Cpus = codes "cpuset.cpus"
+file_word files.EffectiveCpus = codes "cpuset.cpus.effective"
+file_word files.MaxDescendants = codes "cgroup.max.descendants"
+file_word files.MaxDepth = codes "cgroup.max.depth"

@@ -1,0 +1,268 @@
+//! What interface files show: each value as the one text of it. The forms are those of the kernel's cgroup-v2 page,
+//! "Core Interface Files" and "Cpuset Interface Files".
+ghost use Rattle.std.specs.Prelude.{◌≡◌, ◌++◌, ◌∷◌, [], ◌≤◌, IfErr, OnOk, OnErr, length, take};
+ghost use Rattle.std.specs.Fmt.{decimal};
+ghost use Rattle.cg_name.specs.Controller.{controller_word};
+ghost use Rattle.cg_name.specs.declared.refusal.Refusal.TheVariants.{Memory};
+ghost use Rattle.cg_text.specs.FileText.{controllers_text, cpus_line, events_text, flag_text, limit_text, line_text, ops_text, pids_text, quoted_byte, quoted_text};
+ghost use Rattle.cg_text.specs.Reading.{sign_byte};
+ghost use Rattle.cg_text.specs.Writing.{spaced};
+
+use crate::control_ops::ControlOps;
+use crate::controllers::Controllers;
+use crate::limit::Limit;
+use cg_cpus::cpu_set::CpuSet;
+use cg_name::controller::Controller;
+use cg_name::refusal::Refusal;
+use itoa::Buffer;
+
+/// Appends what `cgroup.controllers` and `cgroup.subtree_control` show: the names of the set's controllers in the
+/// profile's order, with single spaces between them and a newline; nothing for no controller. `Memory` leaves `out`
+/// as it was.
+pub fn write_controllers(set: Controllers, out: &mut Vec<u8>) -> Result<(), Refusal>
+    ensures text { OnOk result (out.new.items ≡ out.old.items ++ controllers_text set) }
+    ensures unchanged { OnErr result (out.new.items ≡ out.old.items) }
+    ensures refusals { IfErr result (λ e. e ≡ Memory) }
+{
+    let start = out.len();
+    let written = append_controllers(&set, out);
+    if written.is_err() {
+        out.truncate(start);
+    }
+    written
+}
+
+/// Appends what is written to `cgroup.subtree_control`: a word for each controller of the operations, in the profile's
+/// order, a `+` where it is enabled and else a `-`, and its name; with single spaces between the words, and no
+/// newline. `Memory` leaves `out` as it was.
+pub fn write_ops(ops: ControlOps, out: &mut Vec<u8>) -> Result<(), Refusal>
+    ensures text { OnOk result (out.new.items ≡ out.old.items ++ ops_text ops) }
+    ensures unchanged { OnErr result (out.new.items ≡ out.old.items) }
+    ensures refusals { IfErr result (λ e. e ≡ Memory) }
+{
+    let start = out.len();
+    let written = append_ops(&ops, out);
+    if written.is_err() {
+        out.truncate(start);
+    }
+    written
+}
+
+/// Appends what `cgroup.procs` shows: each PID on a line of its own, in the order given. `Memory` leaves `out` as it
+/// was.
+pub fn write_procs(pids: &[u32], out: &mut Vec<u8>) -> Result<(), Refusal>
+    ensures text { OnOk result (out.new.items ≡ out.old.items ++ pids_text pids.now) }
+    ensures unchanged { OnErr result (out.new.items ≡ out.old.items) }
+    ensures refusals { IfErr result (λ e. e ≡ Memory) }
+{
+    let start = out.len();
+    let written = append_pids(pids, out);
+    if written.is_err() {
+        out.truncate(start);
+    }
+    written
+}
+
+/// Appends what `cgroup.events` shows: whether the group has a live process in it or below it, and whether it is
+/// frozen, each on a line of its own. `Memory` leaves `out` as it was.
+pub fn write_events(populated: bool, frozen: bool, out: &mut Vec<u8>) -> Result<(), Refusal>
+    ensures text { OnOk result (out.new.items ≡ out.old.items ++ events_text populated frozen) }
+    ensures unchanged { OnErr result (out.new.items ≡ out.old.items) }
+    ensures refusals { IfErr result (λ e. e ≡ Memory) }
+{
+    out.extend_from_slice(match (populated, frozen) {
+        (false, false) => b"populated 0\nfrozen 0\n",
+        (false, true) => b"populated 0\nfrozen 1\n",
+        (true, false) => b"populated 1\nfrozen 0\n",
+        (true, true) => b"populated 1\nfrozen 1\n",
+    })?;
+    Ok(())
+}
+
+/// Appends what `cgroup.freeze` shows: `0` or `1`, and a newline. `Memory` leaves `out` as it was.
+pub fn write_flag(flag: bool, out: &mut Vec<u8>) -> Result<(), Refusal>
+    ensures text { OnOk result (out.new.items ≡ out.old.items ++ flag_text flag) }
+    ensures unchanged { OnErr result (out.new.items ≡ out.old.items) }
+    ensures refusals { IfErr result (λ e. e ≡ Memory) }
+{
+    out.extend_from_slice(if flag { b"1\n" } else { b"0\n" })?;
+    Ok(())
+}
+
+/// Appends what `cpuset.cpus` and `cpuset.cpus.effective` show: the set's list, as `0-4,6`, and a newline; the newline
+/// alone for no CPU. `Memory` leaves `out` as it was.
+pub fn write_cpus(cpus: CpuSet, out: &mut Vec<u8>) -> Result<(), Refusal>
+    ensures text { OnOk result (out.new.items ≡ out.old.items ++ cpus_line cpus) }
+    ensures unchanged { OnErr result (out.new.items ≡ out.old.items) }
+    ensures refusals { IfErr result (λ e. e ≡ Memory) }
+{
+    let start = out.len();
+    cpus.write(out)?;
+    end_line(start, out)
+}
+
+/// Appends what `cgroup.max.descendants` and `cgroup.max.depth` show: `max` or the number, and a newline. `Memory`
+/// leaves `out` as it was.
+pub fn write_limit(limit: Limit, out: &mut Vec<u8>) -> Result<(), Refusal>
+    ensures text { OnOk result (out.new.items ≡ out.old.items ++ limit_text limit) }
+    ensures unchanged { OnErr result (out.new.items ≡ out.old.items) }
+    ensures refusals { IfErr result (λ e. e ≡ Memory) }
+{
+    match limit {
+        Limit::Max => {
+            out.extend_from_slice(b"max\n")?;
+            Ok(())
+        }
+        Limit::UpTo(number) => append_number(number, out),
+    }
+}
+
+/// Appends the text between quotation marks. A quotation mark and a backslash get a backslash before them, a
+/// newline is a backslash and an `n`, and every other byte stands for itself. `Memory` leaves `out` as it was.
+pub fn write_quoted(text: &[u8], out: &mut Vec<u8>) -> Result<(), Refusal>
+    ensures text { OnOk result (out.new.items ≡ out.old.items ++ quoted_text text.now) }
+    ensures unchanged { OnErr result (out.new.items ≡ out.old.items) }
+    ensures refusals { IfErr result (λ e. e ≡ Memory) }
+{
+    let start = out.len();
+    let written = append_quoted(text, out);
+    if written.is_err() {
+        out.truncate(start);
+    }
+    written
+}
+
+// What follows appends to `out`, and a refusal leaves what stood there at the front.
+
+// The line of a set of controllers.
+fn append_controllers(set: &Controllers, out: &mut Vec<u8>) -> Result<(), Refusal>
+    ensures text { OnOk result (out.new.items ≡ out.old.items ++ controllers_text set.now) }
+    ensures kept { OnErr result (take (length out.old.items) out.new.items ≡ out.old.items) }
+    ensures refusals { IfErr result (λ e. e ≡ Memory) }
+{
+    let mut behind = false;
+    for controller in &Controller::ALL {
+        if set.contains(*controller) {
+            append_name(behind, *controller, out)?;
+            behind = true;
+        }
+    }
+    if behind {
+        out.push(b'\n')?;
+    }
+    Ok(())
+}
+
+// A controller's name, with a space before it where it stands behind another.
+fn append_name(behind: bool, controller: Controller, out: &mut Vec<u8>) -> Result<(), Refusal>
+    ensures text { OnOk result (out.new.items ≡ out.old.items ++ spaced behind (controller_word controller)) }
+    ensures kept { OnErr result (take (length out.old.items) out.new.items ≡ out.old.items) }
+    ensures refusals { IfErr result (λ e. e ≡ Memory) }
+{
+    if behind {
+        out.push(b' ')?;
+    }
+    out.extend_from_slice(controller.word().as_bytes())?;
+    Ok(())
+}
+
+// The words of operations.
+fn append_ops(ops: &ControlOps, out: &mut Vec<u8>) -> Result<(), Refusal>
+    ensures text { OnOk result (out.new.items ≡ out.old.items ++ ops_text ops.now) }
+    ensures kept { OnErr result (take (length out.old.items) out.new.items ≡ out.old.items) }
+    ensures refusals { IfErr result (λ e. e ≡ Memory) }
+{
+    let mut behind = false;
+    for controller in &Controller::ALL {
+        let enables = ops.plus.contains(*controller);
+        if enables || ops.minus.contains(*controller) {
+            append_op(behind, enables, *controller, out)?;
+            behind = true;
+        }
+    }
+    Ok(())
+}
+
+// An operation's word, with a space before it where it stands behind another.
+fn append_op(
+    behind: bool,
+    enables: bool,
+    controller: Controller,
+    out: &mut Vec<u8>,
+) -> Result<(), Refusal>
+    ensures text { OnOk result (out.new.items ≡ out.old.items ++ spaced behind (sign_byte enables ∷ controller_word controller)) }
+    ensures kept { OnErr result (take (length out.old.items) out.new.items ≡ out.old.items) }
+    ensures refusals { IfErr result (λ e. e ≡ Memory) }
+{
+    if behind {
+        out.push(b' ')?;
+    }
+    out.push(if enables { b'+' } else { b'-' })?;
+    out.extend_from_slice(controller.word().as_bytes())?;
+    Ok(())
+}
+
+// A line for each PID.
+fn append_pids(pids: &[u32], out: &mut Vec<u8>) -> Result<(), Refusal>
+    ensures text { OnOk result (out.new.items ≡ out.old.items ++ pids_text pids.now) }
+    ensures kept { OnErr result (take (length out.old.items) out.new.items ≡ out.old.items) }
+    ensures refusals { IfErr result (λ e. e ≡ Memory) }
+{
+    for pid in pids {
+        append_number(*pid, out)?;
+    }
+    Ok(())
+}
+
+// A number and a newline; a refusal leaves `out` as it was.
+fn append_number(number: u32, out: &mut Vec<u8>) -> Result<(), Refusal>
+    ensures text { OnOk result (out.new.items ≡ out.old.items ++ line_text (decimal number)) }
+    ensures unchanged { OnErr result (out.new.items ≡ out.old.items) }
+    ensures refusals { IfErr result (λ e. e ≡ Memory) }
+{
+    let start = out.len();
+    out.extend_from_slice(Buffer::new().format(number).as_bytes())?;
+    end_line(start, out)
+}
+
+// The newline of the line that begins at `start`; a refusal cuts the line off.
+fn end_line(start: usize, out: &mut Vec<u8>) -> Result<(), Refusal>
+    requires { start ≤ length out.old.items }
+    ensures text { OnOk result (out.new.items ≡ out.old.items ++ 10 ∷ []) }
+    ensures cut { OnErr result (out.new.items ≡ take start out.old.items) }
+    ensures refusals { IfErr result (λ e. e ≡ Memory) }
+{
+    let ended = out.push(b'\n');
+    if ended.is_err() {
+        out.truncate(start);
+    }
+    Ok(ended?)
+}
+
+// The text between quotation marks.
+fn append_quoted(text: &[u8], out: &mut Vec<u8>) -> Result<(), Refusal>
+    ensures text { OnOk result (out.new.items ≡ out.old.items ++ quoted_text text.now) }
+    ensures kept { OnErr result (take (length out.old.items) out.new.items ≡ out.old.items) }
+    ensures refusals { IfErr result (λ e. e ≡ Memory) }
+{
+    out.push(b'"')?;
+    for byte in text {
+        append_byte(*byte, out)?;
+    }
+    out.push(b'"')?;
+    Ok(())
+}
+
+// A byte as it stands between quotation marks; a refusal leaves `out` as it was.
+fn append_byte(byte: u8, out: &mut Vec<u8>) -> Result<(), Refusal>
+    ensures text { OnOk result (out.new.items ≡ out.old.items ++ quoted_byte byte) }
+    ensures unchanged { OnErr result (out.new.items ≡ out.old.items) }
+    ensures refusals { IfErr result (λ e. e ≡ Memory) }
+{
+    match byte {
+        b'\n' => out.extend_from_slice(b"\\n")?,
+        b'"' | b'\\' => out.extend_from_slice(&[b'\\', byte])?,
+        _ => out.push(byte)?,
+    }
+    Ok(())
+}
