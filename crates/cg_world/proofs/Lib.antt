@@ -1,9 +1,9 @@
 pub mod Adding
 mod Appending
-mod Conjunctions
+pub mod Conjunctions
 pub mod Cpus
 pub mod Lines
-mod LinesOfText
+pub mod LinesOfText
 mod Listed
 mod Puts
 mod RoundTrip
@@ -13,4 +13,4 @@ pub mod Stages
 mod Trees
 pub mod Worlds
 mod WrittenCpus
-mod WrittenWords
+pub mod WrittenWords

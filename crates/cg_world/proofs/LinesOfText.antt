@@ -57,7 +57,7 @@ pub all_append : (p : ℕ → Bool) (xs ys : List ℕ) → list_all p xs ≡ tru
 all_append p [] ys h k = k
 all_append p (x ∷ xs) ys h k = and_both _ _ (and_first _ _ h) (all_append p xs ys (and_second (p x) _ h) k)
 
-all_weaker : (p r : ℕ → Bool) → ((b : ℕ) → p b ≡ true → r b ≡ true) → (xs : List ℕ) → list_all p xs ≡ true → list_all r xs ≡ true
+pub all_weaker : (p r : ℕ → Bool) → ((b : ℕ) → p b ≡ true → r b ≡ true) → (xs : List ℕ) → list_all p xs ≡ true → list_all r xs ≡ true
 all_weaker p r f [] h = refl
 all_weaker p r f (x ∷ xs) h = and_both _ _ (f x (and_first _ _ h)) (all_weaker p r f xs (and_second (p x) _ h))
 
@@ -109,7 +109,7 @@ is_line ws g =
     let plain : list_all is_in_line (line_of ws) ≡ true = line_plain ws g.words in
     record { short = g.short; text = subst IsUtf8 (sym (nothing_stripped (line_of ws) plain)) (IsUtf8-from_ascii (line_of ws) (ascii (line_of ws) plain)) }
 
-said : (ws : List Word) → IsGoodLine ws → said_by (line_of ws) ≡ Some ws
+pub said : (ws : List Word) → IsGoodLine ws → said_by (line_of ws) ≡ Some ws
 said [] g = absurd (true≢false g.says)
 said (w ∷ ws) g =
     let read : words_of (strip_carriage_return (line_of (w ∷ ws))) ≡ w ∷ ws = ap words_of (nothing_stripped (line_of (w ∷ ws)) (line_plain (w ∷ ws) g.words)) ∙ words_back w ws g.words in

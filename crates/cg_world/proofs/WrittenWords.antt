@@ -119,7 +119,7 @@ digits_plain : (ds : List ℕ) → AllDigits 10 ds → list_all is_plain ds ≡ 
 digits_plain [] h = refl
 digits_plain (d ∷ ds) h = let r = digit_from_value d h.0 in and_both (is_plain d) _ (in_plain d (omega arith) (omega arith)) (digits_plain ds h.1)
 
-filled : (t : List ℕ) → 0 < length t → is_filled t ≡ true
+pub filled : (t : List ℕ) → 0 < length t → is_filled t ≡ true
 filled [] h = absurd (omega arith)
 filled (b ∷ t) h = refl
 

@@ -5,7 +5,7 @@ use Rattle.std.proofs.lemmas.Option.{IfSome_then}
 use Rattle.std.proofs.lemmas.Result.{on_ok_weaker}
 use Rattle.cg_model.specs.Tree.{Tree}
 use Rattle.cgtx.specs.Program.{PlaysOver, PlaysWhole, PlaysBoth}
-use Rattle.cgtx.specs.WorldPart.{ReadsWorld}
+use Rattle.cg_script.specs.WorldPart.{ReadsWorld}
 
 pub plays_whole : {E : Type 0} (r : Result (Unit {0}) E) (left head rest old new : Option (List ℕ)) (T : Tree) → head ≡ left → IfSome head (λ text. ReadsWorld text T rest) → OnOk r (PlaysOver T rest old new) → OnOk r (IfSome left (λ text. PlaysWhole text old new))
 plays_whole r left head rest old new T e reads played =

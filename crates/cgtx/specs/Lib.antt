@@ -1,12 +1,1 @@
-pub mod Answer
-pub mod Device
-pub mod Fault
-pub mod Lines
 pub mod Program
-pub mod Replay
-pub mod ReplayCode
-pub mod Request
-pub mod Session
-pub mod SessionFields
-pub mod WorldLines
-pub mod WorldPart

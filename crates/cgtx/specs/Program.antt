@@ -3,12 +3,12 @@ use Rattle.std.specs.Prelude.{◌≡◌, ℕ, List, [], ◌∷◌, ◌++◌, Opt
 use Rattle.std.specs.Io.KnownBytes.{Appends}
 use Rattle.cg_name.specs.Refusal.{refusal_text}
 use Rattle.cg_model.specs.Tree.{Tree}
-use Rattle.cgtx.specs.Device.{AppendsFront}
-use Rattle.cgtx.specs.Fault.{refusal_of}
-use Rattle.cgtx.specs.Replay.{IsOutput}
-use Rattle.cgtx.specs.WorldPart.{ReadsWorld}
-use Rattle.cgtx.specs.declared.fault.ScriptFault.{ScriptFault}
-use Rattle.cgtx.specs.declared.fault.ScriptFault.TheVariants.{Syntax, Memory, ReadFault, WriteFault}
+use Rattle.cg_script.specs.Device.{AppendsFront}
+use Rattle.cg_script.specs.Fault.{refusal_of}
+use Rattle.cg_script.specs.Replay.{IsOutput}
+use Rattle.cg_script.specs.WorldPart.{ReadsWorld}
+use Rattle.cg_script.specs.declared.fault.ScriptFault.{ScriptFault}
+use Rattle.cg_script.specs.declared.fault.ScriptFault.TheVariants.{Syntax, Memory, ReadFault, WriteFault}
 
 -- the exit status of a run that stopped
 abbrev pub status_of : ScriptFault → ℕ

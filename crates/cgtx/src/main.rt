@@ -2,22 +2,13 @@
 //! on standard input, and writes the answers and the tree that results.
 #![tactic(auto)]
 
-mod answer;
-mod device;
-mod fault;
-mod lines;
-mod player;
 mod program;
-mod replay;
-mod request;
-mod session;
 #[cfg(test)]
 mod tests;
-mod world_reader;
 
-use crate::device::{FromRead, FromWrite};
 use crate::program::replay_to;
 use cg_name::refusal::Refusal;
+use cg_script::device::{FromRead, FromWrite};
 use std::env;
 use std::io::ErrorKind;
 use std::process::ExitCode;

@@ -1,17 +1,17 @@
 //! A schedule played from a world's text to the end of the run.
 ghost use Rattle.std.specs.Prelude.{◌≡◌, ◌⊎◌, IfErr, IfOk, IfSome, OnOk, MatchOption};
 ghost use Rattle.std.specs.Result.{IsErrOf};
-ghost use Rattle.cgtx.specs.Device.{AppendsFront};
-ghost use Rattle.cgtx.specs.Lines.{pending};
+ghost use Rattle.cg_script.specs.Device.{AppendsFront};
+ghost use Rattle.cg_script.specs.Lines.{pending};
 ghost use Rattle.cgtx.specs.Program.{status_of, fault_line, PlaysBoth, PlaysWhole, Stops};
-ghost use Rattle.cgtx.specs.WorldLines.{HasNoWorld};
-ghost use Rattle.cgtx.specs.declared.fault.ScriptFault.TheVariants as faults;
+ghost use Rattle.cg_script.specs.WorldLines.{HasNoWorld};
+ghost use Rattle.cg_script.specs.declared.fault.ScriptFault.TheVariants as faults;
 
-use crate::device::{Sink, Source, write_all};
-use crate::fault::ScriptFault;
-use crate::lines::LineReader;
-use crate::replay::replay;
-use crate::world_reader::read_world;
+use cg_script::device::{Sink, Source, write_all};
+use cg_script::fault::ScriptFault;
+use cg_script::lines::LineReader;
+use cg_script::replay::replay;
+use cg_script::world_reader::read_world;
 use std::alloc::Global;
 
 /// The most records of a history.

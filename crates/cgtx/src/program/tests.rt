@@ -1,5 +1,5 @@
 use super::*;
-use crate::device::{FromRead, FromWrite};
+use cg_script::device::{FromRead, FromWrite};
 use std::test::Fail;
 
 /// A world that isn't in its grammar, whatever the schedule: nothing is answered.

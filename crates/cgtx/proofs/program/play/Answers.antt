@@ -1,6 +1,6 @@
 use Rattle.std.proofs.Common.{subst, sym}
 use Rattle.std.specs.Prelude.{IfSome, OnOk, MatchOption}
-use Rattle.cgtx.specs.Lines.{pending}
+use Rattle.cg_script.specs.Lines.{pending}
 use Rattle.cgtx.specs.Program.{PlaysWhole, PlaysBoth}
 use Rattle.cgtx.proofs.ProgramLemmas.{plays_whole, plays_both}
 use Rattle.cgtx.proofs.program.play.Goals as goal

@@ -1,7 +1,7 @@
 use Rattle.std.proofs.Common.{ℕ, List, refl}
 use Rattle.std.specs.Prelude.{Option, Some, None}
 use Rattle.std.specs.Io.KnownBytes.{Keeps}
-use Rattle.cgtx.proofs.DeviceLemmas.{AppendsFront-nil}
+use Rattle.cg_script.proofs.DeviceLemmas.{AppendsFront-nil}
 use Rattle.cgtx.proofs.program.tell.Goals as goal
 
 keeps_itself : (known : Option (List ℕ)) → Keeps known known

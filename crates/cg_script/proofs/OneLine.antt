@@ -1,0 +1,117 @@
+-- A line spells one call at most, and so has one answer at most.
+use Rattle.std.proofs.Common.{◌≡◌, ℕ, List, [], ◌∷◌, Option, Some, None, codes, refl, sym, ap, subst, ◌∙◌, inl, inr, arith, Result, Ok, Err, OnOk, OnErr, false, true≢false}
+use Rattle.std.specs.Result.{is_err}
+use Rattle.cg_name.specs.Path.{SpellsPath}
+use Rattle.cg_name.proofs.Pieces.{spells_one}
+use Rattle.cg_text.specs.Words.{Word}
+use Rattle.cg_model.specs.Command.{Command, Create, Remove, Migrate, Subtree, Freeze, Cpus, Show, Online, MaxDescendants, MaxDepth}
+use Rattle.cg_core.specs.Record.{Request, Begin, Do, Commit, Abort}
+use Rattle.cg_script.specs.Request.{SpellsCommand, SpellsRequest, SpellsCall, SpellsLine}
+use Rattle.cg_script.specs.Replay.{Replay, Asked, Answers, IsOneTooMany}
+
+head_same : {X : Type 0} {x y : X} {xs ys : List X} → x ∷ xs ≡ y ∷ ys → x ≡ y
+head_same e = cc
+
+second_same : {X : Type 0} {x y : X} {u v : X} → u ∷ x ∷ [] ≡ v ∷ y ∷ [] → x ≡ y
+second_same e = cc
+
+rest_same : {X : Type 0} {x y : X} {xs ys : List X} → x ∷ xs ≡ y ∷ ys → xs ≡ ys
+rest_same e = cc
+
+-- the third byte of the first word, which tells the words of requests apart
+abbrev third : List Word → ℕ
+third ((a ∷ b ∷ c ∷ w) ∷ ws) = c
+third _ = 0
+
+-- what is asked for is a creation
+asked_word : (ws : List Word) (c : Command) → SpellsCommand ws c → (path : Word) × (ws ≡ codes "create" ∷ path ∷ [])
+asked_word ws (Create p) a = (a.0, a.1)
+asked_word ws (Remove p) a = absurd a
+asked_word ws (Migrate k p) a = absurd a
+asked_word ws (Subtree p ops) a = absurd a
+asked_word ws (Freeze p v) a = absurd a
+asked_word ws (Cpus p v) a = absurd a
+asked_word ws (Show p f) a = absurd a
+asked_word ws (Online v) a = absurd a
+asked_word ws (MaxDescendants p v) a = absurd a
+asked_word ws (MaxDepth p v) a = absurd a
+
+command_one : (ws : List Word) (c d : Command) → SpellsCommand ws c → SpellsCommand ws d → c ≡ d
+command_one ws (Create p) (Create q) a b = ap (λ x. Create x) (spells_one p q a.0 a.2 (subst (λ w. SpellsPath w q) (second_same (sym b.1 ∙ a.1)) b.2))
+command_one ws (Create q) (Remove p) a b = absurd b
+command_one ws (Create q) (Migrate k p) a b = absurd b
+command_one ws (Create q) (Subtree p ops) a b = absurd b
+command_one ws (Create q) (Freeze p v) a b = absurd b
+command_one ws (Create q) (Cpus p v) a b = absurd b
+command_one ws (Create q) (Show p f) a b = absurd b
+command_one ws (Create q) (Online v) a b = absurd b
+command_one ws (Create q) (MaxDescendants p v) a b = absurd b
+command_one ws (Create q) (MaxDepth p v) a b = absurd b
+command_one ws (Remove p) d a b = absurd a
+command_one ws (Migrate k p) d a b = absurd a
+command_one ws (Subtree p ops) d a b = absurd a
+command_one ws (Freeze p v) d a b = absurd a
+command_one ws (Cpus p v) d a b = absurd a
+command_one ws (Show p f) d a b = absurd a
+command_one ws (Online v) d a b = absurd a
+command_one ws (MaxDescendants p v) d a b = absurd a
+command_one ws (MaxDepth p v) d a b = absurd a
+
+request_one : (ws : List Word) (r q : Request) → SpellsRequest ws r → SpellsRequest ws q → r ≡ q
+request_one ws Begin Begin a b = refl
+request_one ws Commit Commit a b = refl
+request_one ws Abort Abort a b = refl
+request_one ws (Do c) (Do d) a b = ap (λ x. Do x) (command_one ws c d a b)
+request_one ws Begin Commit a b = absurd (omega (arith, ap third (sym a ∙ b)))
+request_one ws Begin Abort a b = absurd (omega (arith, ap third (sym a ∙ b)))
+request_one ws Begin (Do d) a b = absurd (omega (arith, ap third (sym a ∙ (asked_word ws d b).1)))
+request_one ws Commit Begin a b = absurd (omega (arith, ap third (sym a ∙ b)))
+request_one ws Commit Abort a b = absurd (omega (arith, ap third (sym a ∙ b)))
+request_one ws Commit (Do d) a b = absurd (omega (arith, ap third (sym a ∙ (asked_word ws d b).1)))
+request_one ws Abort Begin a b = absurd (omega (arith, ap third (sym a ∙ b)))
+request_one ws Abort Commit a b = absurd (omega (arith, ap third (sym a ∙ b)))
+request_one ws Abort (Do d) a b = absurd (omega (arith, ap third (sym a ∙ (asked_word ws d b).1)))
+request_one ws (Do c) Begin a b = absurd (omega (arith, ap third (sym (asked_word ws c a).1 ∙ b)))
+request_one ws (Do c) Commit a b = absurd (omega (arith, ap third (sym (asked_word ws c a).1 ∙ b)))
+request_one ws (Do c) Abort a b = absurd (omega (arith, ap third (sym (asked_word ws c a).1 ∙ b)))
+
+call_one : (ws : List Word) (n m : List ℕ) (r q : Request) → SpellsCall ws n r → SpellsCall ws m q → ◌≡◌ {A = List ℕ × Request} (n, r) (m, q)
+call_one ws n m r q a b =
+    let same : n ∷ a.others ≡ m ∷ b.others = sym a.words ∙ b.words in
+    let requests : r ≡ q = request_one a.others r q a.request (subst (λ ws. SpellsRequest ws q) (sym (rest_same same)) b.request) in
+    λ i. (head_same same i, requests i)
+
+some_same : {X : Type 0} {x y : X} → Some x ≡ Some y → x ≡ y
+some_same e = cc
+
+some_none : {X : Type 0} {x : X} → Some x ≡ None → ⊥
+some_none e = cc
+
+pub line_one : (line : List ℕ) (c d : Option (List ℕ × Request)) → SpellsLine line c → SpellsLine line d → c ≡ d
+line_one line None None a b = refl
+line_one line None (Some d) a b = absurd (some_none (sym b.1.1 ∙ a.1))
+line_one line (Some c) None a b = absurd (some_none (sym a.1.1 ∙ b.1))
+line_one line (Some c) (Some d) a b =
+    let words : a.1.0 ≡ b.1.0 = some_same (sym a.1.1 ∙ b.1.1) in
+    ap (λ x. Some x) (call_one a.1.0 c.0 d.0 c.1 d.1 a.1.2 (subst (λ ws. SpellsCall ws d.0 d.1) (sym words) b.1.2))
+
+-- what a session's request is answered, the line is answered
+pub answers_asked : (s t : Replay) (line n out : List ℕ) (r : Request) → SpellsLine line (Some (n, r)) → Asked s n r out t → Answers s line out t
+answers_asked s t line n out r spelled (inl asked) = inr (inl (n, r, asked.0, spelled, asked.1))
+answers_asked s t line n out r spelled (inr many) =
+    inr (inr ((λ call h. subst (IsOneTooMany s.names) (line_one line (Some (n, r)) call spelled h) many.0), many.1, many.2))
+
+-- what follows from what holds of an outcome that is no error
+pub on_ok_map : {A E P Q : Type 0} (r : Result A E) → (P → Q) → OnOk r P → OnOk r Q
+on_ok_map (Ok x) f p = f p
+on_ok_map (Err e) f p = tt
+
+-- what holds of an outcome that is no error
+pub when_ok : {A E : Type 0} (r : Result A E) {P : Type 0} → is_err r ≡ false → OnOk r P → P
+when_ok (Ok x) e p = p
+when_ok (Err x) e p = absurd (true≢false e)
+
+-- what holds anyway holds of an error
+pub on_any_err : {A E : Type 0} (r : Result A E) {P : Type 0} → P → OnErr r P
+on_any_err (Ok x) p = tt
+on_any_err (Err e) p = p

@@ -1,0 +1,185 @@
+-- A schedule that is played line by line gives its output, and nothing else.
+use Rattle.std.proofs.Common.{◌≡◌, ℕ, ◌≤◌, List, [], ◌∷◌, ◌++◌, length, Some, None, Option, IfSome, refl, sym, ap, subst, ◌∙◌, inl, inr, arith, append_assoc, append-nil, Result, Ok, Err, true, false, true≢false}
+use Rattle.std.specs.Result.{is_err}
+use Rattle.std.specs.Io.KnownBytes.{Appends, Keeps}
+use Rattle.cg_name.specs.Refusal.{refusal_text}
+use Rattle.cg_name.specs.declared.refusal.Refusal.TheVariants.{Syntax}
+use Rattle.cg_core.specs.Record.{Request}
+use Rattle.cg_core.specs.Machine.{stepped}
+use Rattle.cg_script.specs.Device.{AppendsFront, WritesWhole}
+use Rattle.cg_text.specs.Words.{lines_of}
+use Rattle.cg_script.specs.Lines.{TakesKnownLine}
+use Rattle.cg_script.specs.declared.lines.LineKind.TheVariants.{TooLong, Text}
+use Rattle.cg_script.specs.Request.{SpellsLine}
+use Rattle.cg_script.specs.Replay.{Replay, newline, session_number, with_name, IsOneTooMany, Answers, AnswersAll, AnswersFirst, IsOutputFrom, ending_text, answer_line}
+use Rattle.cg_script.proofs.DeviceLemmas.{Appends-nil, Appends-append, AppendsTo-front}
+use Rattle.cg_script.proofs.LinesLaw.{lines_of-begins, lines_of-nil}
+use Rattle.cg_script.proofs.OneLine.{line_one}
+
+-- ---- a line has one answer
+
+none_some : {X : Type 0} {x : X} → None ≡ Some x → ⊥
+none_some e = cc
+
+some_same : {X : Type 0} {x y : X} → Some x ≡ Some y → x ≡ y
+some_same e = cc
+
+pub answers_one : (s t u : Replay) (line a b : List ℕ) → Answers s line a t → Answers s line b u → (a ≡ b) × (t ≡ u)
+answers_one s t u line a b (inl h) (inl k) = (h.1 ∙ sym k.1, h.2 ∙ sym k.2)
+answers_one s t u line a b (inl h) (inr (inl k)) = absurd (none_some (line_one line None (Some (k.0, k.1)) h.0 k.3))
+answers_one s t u line a b (inl h) (inr (inr k)) = absurd (k.0 None h.0)
+answers_one s t u line a b (inr (inl h)) (inl k) = absurd (none_some (line_one line None (Some (h.0, h.1)) k.0 h.3))
+answers_one s t u line a b (inr (inl h)) (inr (inl k)) =
+    let call : ◌≡◌ {A = List ℕ × Request} (h.0, h.1) (k.0, k.1) = some_same (line_one line (Some (h.0, h.1)) (Some (k.0, k.1)) h.3 k.3) in
+    let name : h.0 ≡ k.0 = ap (λ c. c.0) call in
+    let request : h.1 ≡ k.1 = ap (λ c. c.1) call in
+    let number : h.2 ≡ k.2 = some_same (sym h.4.0 ∙ ap (session_number s.names) name ∙ k.4.0) in (
+      h.4.1 ∙ (λ i. answer_line s.machine (number i) (request i)) ∙ sym k.4.1,
+      h.4.2 ∙ (λ i. record { names = with_name s.names (name i); machine = stepped s.machine (number i) (request i) }) ∙ sym k.4.2,
+    )
+answers_one s t u line a b (inr (inl h)) (inr (inr k)) = absurd (none_some (sym (k.0 (Some (h.0, h.1)) h.3) ∙ h.4.0))
+answers_one s t u line a b (inr (inr h)) (inl k) = absurd (h.0 None k.0)
+answers_one s t u line a b (inr (inr h)) (inr (inl k)) = absurd (none_some (sym (h.0 (Some (k.0, k.1)) k.3) ∙ k.4.0))
+answers_one s t u line a b (inr (inr h)) (inr (inr k)) = (h.1 ∙ sym k.1, h.2 ∙ sym k.2)
+
+-- ---- one line of the source
+
+pub answered_too_long : (old new : Option (List ℕ)) (line out : List ℕ) (s : Replay) → TakesKnownLine old TooLong line new → out ≡ refusal_text Syntax ++ newline → IfSome old (λ text. AnswersFirst s text out s new)
+answered_too_long None new line out s h e = tt
+answered_too_long (Some text) None line out s h e = absurd h
+answered_too_long (Some text) (Some rest) line out s h e =
+    (h.1, lines_of-begins text h.1 rest h.3, inr (inr (refused, e, refl)))
+  where
+    too_long : (call : Option (List ℕ × Request)) → SpellsLine h.1 call → length h.1 ≤ 65536
+    too_long None k = k.0.short
+    too_long (Some c) k = k.0.short
+
+    refused : (call : Option (List ℕ × Request)) → SpellsLine h.1 call → IsOneTooMany s.names call
+    refused call k = let long = h.2 in let short = too_long call k in absurd (omega arith)
+
+pub answered_text : (old new : Option (List ℕ)) (line out : List ℕ) (s t : Replay) → TakesKnownLine old Text line new → Answers s line out t → IfSome old (λ text. AnswersFirst s text out t new)
+answered_text None new line out s t h a = tt
+answered_text (Some text) None line out s t h a = absurd h
+answered_text (Some text) (Some rest) line out s t h a = (line, lines_of-begins text line rest h.1, a)
+
+-- ---- all lines so far
+
+-- What was answered to the lines of a text, of which the rest is left: whatever answers the rest completes it,
+-- and whatever answers the whole begins with it.
+pub record Plays (s : Replay) (lines : List (List ℕ)) (done : List ℕ) (t : Replay) (rest : List (List ℕ)) : Type 0 where
+  pub forth : (more : List ℕ) (last : Replay) → AnswersAll t rest more last → AnswersAll s lines (done ++ more) last
+  pub back : (all : List ℕ) (last : Replay) → AnswersAll s lines all last → (more : List ℕ) × (all ≡ done ++ more) × AnswersAll t rest more last
+
+plays_none : (s : Replay) (lines : List (List ℕ)) → Plays s lines [] s lines
+plays_none s lines = record { forth = λ more last h. h; back = λ all last h. (all, refl, h) }
+
+plays_more : (s t u : Replay) (lines rest : List (List ℕ)) (line done out : List ℕ) → Plays s lines done t (line ∷ rest) → Answers t line out u → Plays s lines (done ++ out) u rest
+plays_more s t u lines rest line done out p a = record {
+  forth = λ more last h. subst (λ all. AnswersAll s lines all last) (sym (append_assoc done out more)) (p.forth (out ++ more) last (out, more, u, a, h, refl));
+  back = λ all last h.
+      let before = p.back all last h in
+      let same : (before.2.0 ≡ out) × (before.2.2 ≡ u) = answers_one t before.2.2 u line before.2.0 out before.2.3 a in (
+        before.2.1,
+        before.1 ∙ ap (λ x. done ++ x) (before.2.5 ∙ ap (λ x. x ++ before.2.1) same.0) ∙ sym (append_assoc done out before.2.1),
+        subst (λ v. AnswersAll v rest before.2.1 last) same.1 before.2.4,
+      );
+}
+
+-- the same of a source and a sink, where they tell their bytes
+abbrev pub PlaysKnown : Replay → Option (List ℕ) → Option (List ℕ) → Option (List ℕ) → Replay → Option (List ℕ) → Type 0
+PlaysKnown s None taken taken' t rest = Unit {0}
+PlaysKnown s (Some text) taken taken' t None = ⊥
+PlaysKnown s (Some text) taken taken' t (Some rest) = (done : List ℕ) × Plays s (lines_of text) done t (lines_of rest) × Appends taken taken' done
+
+pub plays_known_none : (s : Replay) (text taken : Option (List ℕ)) → PlaysKnown s text taken taken s text
+plays_known_none s None taken = tt
+plays_known_none s (Some text) taken = ([], plays_none s (lines_of text), Appends-nil taken taken (kept taken))
+  where
+    kept : (o : Option (List ℕ)) → Keeps o o
+    kept None = tt
+    kept (Some xs) = refl
+
+pub plays_known_more : (s t u : Replay) (text rest rest' a b c : Option (List ℕ)) (out : List ℕ) → PlaysKnown s text a b t rest → IfSome rest (λ x. AnswersFirst t x out u rest') → Appends b c out → PlaysKnown s text a c u rest'
+plays_known_more s t u None rest rest' a b c out p h w = tt
+plays_known_more s t u (Some text) None rest' a b c out p h w = absurd p
+plays_known_more s t u (Some text) (Some rest) None a b c out p h w = absurd h
+plays_known_more s t u (Some text) (Some rest) (Some rest') a b c out p h w = (
+  p.0 ++ out,
+  plays_more s t u (lines_of text) (lines_of rest') h.0 p.0 out (subst (λ ls. Plays s (lines_of text) p.0 t ls) h.1 p.1) h.2,
+  Appends-append a b c p.0 out p.2 w,
+)
+
+-- ---- what was written, seen from the whole
+
+-- what was written is the front of any output of the text
+abbrev pub FrontOf : Replay → Option (List ℕ) → Option (List ℕ) → Option (List ℕ) → Type 0
+FrontOf s text a b = IfSome text (λ x. (out : List ℕ) → IsOutputFrom s x out → AppendsFront a b out)
+
+-- more bytes may come behind
+AppendsFront-longer : (a b : Option (List ℕ)) (bytes more : List ℕ) → AppendsFront a b bytes → AppendsFront a b (bytes ++ more)
+AppendsFront-longer a b bytes more h =
+    (h.0 ++ more, (h.1.0, ap (λ x. x ++ more) h.1.1 ∙ append_assoc h.1.0 h.0 more, h.1.2))
+
+-- an output begins with what was answered
+module _ (s : Replay) (text out done : List ℕ) (t : Replay) (rest : List (List ℕ)) (p : Plays s (lines_of text) done t rest) (o : IsOutputFrom s text out) where
+  others : (more : List ℕ) × (o.answers ≡ done ++ more) × AnswersAll t rest more o.last
+  others = p.back o.answers o.last o.answered
+
+  behind_done : out ≡ done ++ (others.0 ++ ending_text o.last.machine)
+  behind_done = o.whole ∙ ap (λ x. x ++ ending_text o.last.machine) others.1 ∙ append_assoc done others.0 (ending_text o.last.machine)
+
+pub front_none : (s : Replay) (text rest a b : Option (List ℕ)) (t : Replay) → PlaysKnown s text a b t rest → FrontOf s text a b
+front_none s None rest a b t p = tt
+front_none s (Some text) None a b t p = absurd p
+front_none s (Some text) (Some rest) a b t p =
+    λ out o. ((others s text out p.0 t (lines_of rest) p.1 o).0 ++ ending_text o.last.machine, (p.0, behind_done s text out p.0 t (lines_of rest) p.1 o, p.2))
+
+first_is : (t u v : Replay) (line first out : List ℕ) → Answers t line first v → Answers t line out u → first ≡ out
+first_is t u v line first out h k = (answers_one t v u line first out h k).0
+
+pub front_line : (s : Replay) (text rest rest' a b c : Option (List ℕ)) (t u : Replay) (written : List ℕ) → PlaysKnown s text a b t rest → IfSome rest (λ x. AnswersFirst t x written u rest') → AppendsFront b c written → FrontOf s text a c
+front_line s None rest rest' a b c t u written p h w = tt
+front_line s (Some text) None rest' a b c t u written p h w = absurd p
+front_line s (Some text) (Some rest) None a b c t u written p h w = absurd h
+front_line s (Some text) (Some rest) (Some rest') a b c t u written p h w = λ out o.
+    let q : Plays s (lines_of text) p.0 t (h.0 ∷ lines_of rest') = subst (λ ls. Plays s (lines_of text) p.0 t ls) h.1 p.1 in
+    let all = others s text out p.0 t (h.0 ∷ lines_of rest') q o in
+    let parts = all.2 in
+    let same : parts.0 ≡ written = first_is t u parts.2 h.0 parts.0 written parts.3 h.2 in
+    let cut : all.0 ++ ending_text o.last.machine ≡ written ++ (parts.1 ++ ending_text o.last.machine) =
+    ap (λ x. x ++ ending_text o.last.machine) (parts.5 ∙ ap (λ x. x ++ parts.1) same) ∙ append_assoc written parts.1 (ending_text o.last.machine) in
+    let whole : out ≡ p.0 ++ (written ++ (parts.1 ++ ending_text o.last.machine)) =
+    behind_done s text out p.0 t (h.0 ∷ lines_of rest') q o ∙ ap (λ x. p.0 ++ x) cut in
+    AppendsTo-front a b c out (written ++ (parts.1 ++ ending_text o.last.machine)) (p.0, whole, p.2)
+    (AppendsFront-longer b c written (parts.1 ++ ending_text o.last.machine) w)
+
+pub front_end : (s : Replay) (text rest a b c : Option (List ℕ)) (t : Replay) → PlaysKnown s text a b t rest → IfSome rest (λ x. x ≡ []) → AppendsFront b c (ending_text t.machine) → FrontOf s text a c
+front_end s None rest a b c t p e w = tt
+front_end s (Some text) None a b c t p e w = absurd p
+front_end s (Some text) (Some rest) a b c t p e w = λ out o.
+    let q : Plays s (lines_of text) p.0 t [] = subst (λ ls. Plays s (lines_of text) p.0 t ls) (ap lines_of e ∙ lines_of-nil) p.1 in
+    let all = others s text out p.0 t [] q o in
+    let cut : all.0 ++ ending_text o.last.machine ≡ ending_text t.machine = (λ i. all.2.0 i ++ ending_text (all.2.1 i).machine) in
+    AppendsTo-front a b c out (ending_text t.machine) (p.0, behind_done s text out p.0 t [] q o ∙ ap (λ x. p.0 ++ x) cut, p.2) w
+
+pub whole_end : (s : Replay) (text rest a b c : Option (List ℕ)) (t : Replay) → PlaysKnown s text a b t rest → IfSome rest (λ x. x ≡ []) → Appends b c (ending_text t.machine) → IfSome text (λ x. (out : List ℕ) × IsOutputFrom s x out × Appends a c out)
+whole_end s None rest a b c t p e w = tt
+whole_end s (Some text) None a b c t p e w = absurd p
+whole_end s (Some text) (Some rest) a b c t p e w =
+    let q : Plays s (lines_of text) p.0 t [] = subst (λ ls. Plays s (lines_of text) p.0 t ls) (ap lines_of e ∙ lines_of-nil) p.1 in (
+      p.0 ++ ending_text t.machine,
+      record { answers = p.0 ++ []; last = t; answered = q.forth [] t (refl, refl); whole = ap (λ x. x ++ ending_text t.machine) (sym (append-nil p.0)) },
+      Appends-append a b c p.0 (ending_text t.machine) p.2 w,
+    )
+
+pub front_nothing : (s : Replay) (text a : Option (List ℕ)) → FrontOf s text a a
+front_nothing s text a = front_none s text text a a s (plays_known_none s text a)
+
+-- what was written in a call that failed, and in one that didn't
+pub wrote_front : {A E : Type 0} (r : Result A E) (old new : Option (List ℕ)) (bytes : List ℕ) → is_err r ≡ true → WritesWhole old new r bytes → AppendsFront old new bytes
+wrote_front (Ok x) old new bytes e h = absurd (true≢false (sym e))
+wrote_front (Err x) old new bytes e h = h
+
+pub wrote_whole : {A E : Type 0} (r : Result A E) (old new : Option (List ℕ)) (bytes : List ℕ) → is_err r ≡ false → WritesWhole old new r bytes → Appends old new bytes
+wrote_whole (Ok x) old new bytes e h = h
+wrote_whole (Err x) old new bytes e h = absurd (true≢false e)

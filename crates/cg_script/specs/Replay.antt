@@ -1,0 +1,108 @@
+-- What a schedule's text is answered, over a world: the whole of what is written.
+use Rattle.std.specs.Prelude.{◌≡◌, ◌⊎◌, ℕ, ◌+◌, nat_eq, nat_lt, if◌then◌else◌, List, [], ◌∷◌, ◌++◌, length, Option, Some, None, position}
+use Rattle.std.specs.List.{list_any}
+use Rattle.std.specs.Cmp.Lexicographic.{pointwise}
+use Rattle.cg_name.specs.Refusal.{refusal_text}
+use Rattle.cg_name.specs.declared.refusal.Refusal.TheVariants.{Syntax}
+use Rattle.cg_text.specs.Words.{lines_of}
+use Rattle.cg_model.specs.Tree.{Tree}
+use Rattle.cg_core.specs.Record.{Request, Abort}
+use Rattle.cg_core.specs.Machine.{Machine, Open, reply, stepped}
+use Rattle.cg_world.specs.World.{world_text}
+use Rattle.cg_script.specs.Answer.{answer_text}
+use Rattle.cg_script.specs.Request.{SpellsLine}
+
+abbrev pub newline : List ℕ
+newline = 10 ∷ []
+
+-- a schedule so far: the names of its sessions in the order in which they first stood in a line, and the machine
+pub record Replay : Type 0 where
+  pub names : List (List ℕ)
+  pub machine : Machine
+
+-- the number after this place
+abbrev pub number_after : Option ℕ → Option ℕ
+number_after None = None
+number_after (Some i) = Some (i + 1)
+
+-- the number of a session: its place among the names from 1 on; a new name has the next one, up to 4,096
+abbrev pub session_number : List (List ℕ) → List ℕ → Option ℕ
+session_number names n =
+    if list_any (pointwise nat_eq n) names then number_after (position (pointwise nat_eq n) names)
+    else (if nat_lt (length names) 4096 then Some (length names + 1) else None)
+
+-- the names with this one
+abbrev pub with_name : List (List ℕ) → List ℕ → List (List ℕ)
+with_name names n = if list_any (pointwise nat_eq n) names then names else names ++ n ∷ []
+
+-- a session of a line has no number: its name is one too many
+abbrev pub IsOneTooMany : List (List ℕ) → Option (List ℕ × Request) → Type 0
+IsOneTooMany names None = ⊥
+IsOneTooMany names (Some call) = session_number names call.0 ≡ None
+
+abbrev pub answer_line : Machine → ℕ → Request → List ℕ
+answer_line m k r = answer_text (reply m k r) ++ newline
+
+-- A line says nothing, and nothing is answered;
+abbrev pub Skips : Replay → List ℕ → List ℕ → Replay → Type 0
+Skips s line out t = SpellsLine line None × (out ≡ []) × (t ≡ s)
+
+-- or it is a session's request, and the machine answers;
+abbrev pub AsksAs : Replay → List ℕ → Request → ℕ → List ℕ → Replay → Type 0
+AsksAs s n r k out t =
+    (session_number s.names n ≡ Some k) × (out ≡ answer_line s.machine k r) × (t ≡ record { names = with_name s.names n; machine = stepped s.machine k r })
+
+abbrev pub Asks : Replay → List ℕ → List ℕ → Replay → Type 0
+Asks s line out t = (n : List ℕ) × (r : Request) × (k : ℕ) × SpellsLine line (Some (n, r)) × AsksAs s n r k out t
+
+-- or it is in the grammar only with a name too many, or not at all, and is refused.
+abbrev pub Fails : Replay → List ℕ → List ℕ → Replay → Type 0
+Fails s line out t =
+    ((call : Option (List ℕ × Request)) → SpellsLine line call → IsOneTooMany s.names call)
+    × (out ≡ refusal_text Syntax ++ newline) × (t ≡ s)
+
+-- a session's request is answered, or refused since its name is one too many
+abbrev pub Asked : Replay → List ℕ → Request → List ℕ → Replay → Type 0
+Asked s n r out t =
+    ((k : ℕ) × AsksAs s n r k out t) ⊎ ((session_number s.names n ≡ None) × (out ≡ refusal_text Syntax ++ newline) × (t ≡ s))
+
+abbrev pub Answers : Replay → List ℕ → List ℕ → Replay → Type 0
+Answers s line out t = Skips s line out t ⊎ (Asks s line out t ⊎ Fails s line out t)
+
+-- the lines are answered one after another
+abbrev pub AnswersAll : Replay → List (List ℕ) → List ℕ → Replay → Type 0
+AnswersAll s [] out t = (out ≡ []) × (t ≡ s)
+AnswersAll s (line ∷ lines) out t =
+    (first : List ℕ) × (others : List ℕ) × (u : Replay) × Answers s line first u × AnswersAll u lines others t × (out ≡ first ++ others)
+
+-- the first line of a text is answered, and the rest is left
+abbrev pub AnswersFirst : Replay → List ℕ → List ℕ → Replay → Option (List ℕ) → Type 0
+AnswersFirst s text out t None = ⊥
+AnswersFirst s text out t (Some rest) = (line : List ℕ) × (lines_of text ≡ line ∷ lines_of rest) × Answers s line out t
+
+-- at the end the open transaction is aborted
+abbrev pub last_answer : Machine → Option Open → List ℕ
+last_answer m None = []
+last_answer m (Some o) = answer_line m o.session Abort
+
+abbrev pub aborted_in : Machine → Option Open → Machine
+aborted_in m None = m
+aborted_in m (Some o) = stepped m o.session Abort
+
+-- the answers to all lines, the answer to the last abort, and the tree
+abbrev pub ending_text : Machine → List ℕ
+ending_text m = last_answer m m.open_one ++ world_text (aborted_in m m.open_one).tree
+
+abbrev pub opened : Tree → ℕ → Replay
+opened T l = record { names = []; machine = record { opening = T; limit = l; tree = T; open_one = None; history = [] } }
+
+-- what is written for a schedule's text from here on
+pub record IsOutputFrom (s : Replay) (text out : List ℕ) : Type 0 where
+  pub answers : List ℕ
+  pub last : Replay
+  pub answered : AnswersAll s (lines_of text) answers last
+  pub whole : out ≡ answers ++ ending_text last.machine
+
+-- what is written for a schedule's text, over a world and a limit of the history
+abbrev pub IsOutput : Tree → ℕ → List ℕ → List ℕ → Type 0
+IsOutput T l text out = IsOutputFrom (opened T l) text out

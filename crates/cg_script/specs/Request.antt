@@ -1,0 +1,61 @@
+-- The lines of a schedule: which session asks for what.
+use Rattle.std.specs.Prelude.{◌≡◌, ℕ, List, [], ◌∷◌, ◌++◌, Option, Some, None, codes, ⊤}
+use Rattle.cg_name.specs.Path.{IsPath, SpellsPath, path_text}
+use Rattle.cg_text.specs.Words.{Word, IsLine, said_by}
+use Rattle.cg_model.specs.Command.{Command, Create}
+use Rattle.cg_core.specs.Record.{Request, Begin, Do, Commit, Abort}
+use Rattle.cg_script.specs.Session.{IsSessionName}
+
+-- the words of a command; the others can't be asked for yet
+abbrev pub SpellsCommand : List Word → Command → Type 0
+SpellsCommand ws (Create p) = (path : Word) × (ws ≡ codes "create" ∷ path ∷ []) × SpellsPath path p
+SpellsCommand ws _ = ⊥
+
+-- the words behind the session's name
+abbrev pub SpellsRequest : List Word → Request → Type 0
+SpellsRequest ws Begin = ws ≡ codes "begin" ∷ []
+SpellsRequest ws (Do c) = SpellsCommand ws c
+SpellsRequest ws Commit = ws ≡ codes "commit" ∷ []
+SpellsRequest ws Abort = ws ≡ codes "abort" ∷ []
+
+-- a line's words spell a session's request
+pub record SpellsCall (ws : List Word) (n : List ℕ) (r : Request) : Type 0 where
+  pub name : IsSessionName n
+  pub others : List Word
+  pub words : ws ≡ n ∷ others
+  pub request : SpellsRequest others r
+
+-- a good line says nothing, or a session's request
+abbrev pub SpellsLine : List ℕ → Option (List ℕ × Request) → Type 0
+SpellsLine line None = IsLine line × (said_by line ≡ None)
+SpellsLine line (Some call) = IsLine line × ((ws : List Word) × (said_by line ≡ Some ws) × SpellsCall ws call.0 call.1)
+
+-- the text of a command, its words with single spaces; the others can't be asked for yet
+abbrev pub command_text : Command → List ℕ
+command_text (Create p) = codes "create " ++ path_text p
+command_text _ = []
+
+-- what stands behind the session's name
+abbrev pub request_text : Request → List ℕ
+request_text Begin = codes "begin"
+request_text (Do c) = command_text c
+request_text Commit = codes "commit"
+request_text Abort = codes "abort"
+
+-- the line in which a session asks, without its newline
+abbrev pub line_text : List ℕ → Request → List ℕ
+line_text n r = n ++ 32 ∷ request_text r
+
+-- a command that can be asked for: a creation, at a path of a group
+abbrev pub CanAskFor : Command → Type 0
+CanAskFor (Create p) = IsPath p
+CanAskFor _ = ⊥
+
+-- a request that can be asked for
+abbrev pub CanBeAsked : Request → Type 0
+CanBeAsked (Do c) = CanAskFor c
+CanBeAsked _ = ⊤
+
+-- the law of written lines: each spells what it was written for
+abbrev pub WrittenLinesAreSpelled : Type 0
+WrittenLinesAreSpelled = (n : List ℕ) (r : Request) → IsSessionName n → CanBeAsked r → SpellsLine (line_text n r) (Some (n, r))

@@ -1,0 +1,142 @@
+//! A schedule being played: its sessions' names and the machine.
+ghost use Rattle.std.specs.Prelude.{◌≡◌, ◌≤◌, ◌++◌, List, ℕ, MatchOption, IfOk, IfErr, OnOk, OnErr};
+ghost use Rattle.cg_name.specs.declared.refusal.Refusal.TheVariants.{Memory, Syntax};
+ghost use Rattle.std.specs.Option.{option_map};
+ghost use Rattle.cg_name.specs.Refusal.{refusal_text};
+ghost use Rattle.cg_core.specs.Meaning.{answer_of, request_of};
+ghost use Rattle.cg_script.specs.Answer.{answer_text};
+ghost use Rattle.cg_world.specs.World.{IsWorld};
+ghost use Rattle.cg_script.specs.Replay.{Answers, Asked, ending_text, opened, newline, session_number, with_name};
+
+use crate::answer::write_answer;
+use crate::request::read_line;
+use crate::session::SessionName;
+use cg_core::machine::Core;
+use cg_core::record::{Answer, Request, SessionId};
+use cg_name::refusal::Refusal;
+use cg_world::world::World;
+use indexmap::IndexSet;
+use std::alloc::Global;
+use std::marker::Model;
+
+/// The most session names of a schedule.
+const MOST_NAMES: usize = 4_096;
+
+/// The sessions of a schedule by the numbers of their names, and the machine that answers them.
+#[derive(Drop)]
+pub struct Player {
+    names: IndexSet<SessionName>,
+    core: Core,
+}
+
+impl Model for Player {
+    ghost use Rattle.std.specs.Prelude.{◌≤◌};
+    ghost use Rattle.indexmap.specs.IndexSet.{index_set_len};
+    ghost use Rattle.cg_script.specs.Replay.{Replay};
+    ghost use Rattle.cg_script.specs.ReplayCode.{replay_code};
+
+    ghost Value = { Replay };
+
+    ghost coded = { replay_code };
+
+    ghost view = { λ p. record { names = p.names.keys; machine = p.core } };
+
+    ghost invariant = { λ p. index_set_len p.names ≤ 4096 };
+}
+
+impl Player {
+    /// A player before the first line.
+    pub fn open(alloc: Global, world: World, limit: u32) -> Result<Player, Refusal>
+        requires low { 2 ≤ limit }
+        requires high { limit ≤ 1048576 }
+        ensures value { IfOk result (λ p. p ≡ opened world limit) }
+        ensures refusals { IfErr result (λ e. e ≡ Memory) }
+    {
+        Ok(Player {
+            names: IndexSet::new(alloc),
+            core: Core::open(alloc, world, limit)?,
+        })
+    }
+
+    /// Answers a line, at the end of `out`: nothing for a line that says nothing. `Memory` is the only refusal.
+    pub fn answer(&mut self, alloc: Global, line: &[u8], out: &mut Vec<u8>) -> Result<(), Refusal>
+        ensures ok { OnOk result ((written : List ℕ) × (out.new.items ≡ out.old.items ++ written) × Answers self.old line.now written self.new) }
+        ensures refusals { IfErr result (λ e. e ≡ Memory) }
+    {
+        match read_line(alloc, line) {
+            Ok(None) => Ok(()),
+            Ok(Some((name, request))) => self.ask(alloc, name, request, out),
+            Err(Refusal::Syntax) => refuse(alloc, out),
+            Err(_) => Err(Refusal::Memory),
+        }
+    }
+
+    /// Answers the end of the schedule: aborts the open transaction, and shows the tree. `Memory` is the only
+    /// refusal.
+    pub fn end(&mut self, alloc: Global, out: &mut Vec<u8>) -> Result<(), Refusal>
+        ensures ok { OnOk result (out.new.items ≡ out.old.items ++ ending_text self.old.machine) }
+        ensures refusals { IfErr result (λ e. e ≡ Memory) }
+    {
+        if let Some(session) = self.core.open_session() {
+            let answer = self.core.step(alloc, session, Request::Abort);
+            end_line(alloc, &answer, out)?;
+        }
+        self.core.tree().write(out)
+    }
+
+    // The session of this name, which gets the next number where it is new: none where it is one too many.
+    fn session(&mut self, name: SessionName) -> Result<Option<SessionId>, Refusal>
+        ensures number { IfOk result (λ s. option_map (λ k. k.0) s ≡ session_number self.old.names name) }
+        ensures names { IfOk result (λ s. MatchOption s (self.new ≡ self.old) (λ _. self.new ≡ record self.old { names = with_name self.old.names name })) }
+        ensures refusals { IfErr result (λ e. e ≡ Memory) }
+    {
+        if let Some(index) = self.names.get_index_of(&name) {
+            return Ok(Some(SessionId(index as u32 + 1)));
+        }
+        let count = self.names.len();
+        if count >= MOST_NAMES {
+            return Ok(None);
+        }
+        self.names.insert(name)?;
+        Ok(Some(SessionId(count as u32 + 1)))
+    }
+
+    // Answers a session's request.
+    fn ask(
+        &mut self,
+        alloc: Global,
+        name: SessionName,
+        request: Request,
+        out: &mut Vec<u8>,
+    ) -> Result<(), Refusal>
+        ensures ok { OnOk result ((written : List ℕ) × (out.new.items ≡ out.old.items ++ written) × Asked self.old name (request_of request) written self.new) }
+        ensures refusals { IfErr result (λ e. e ≡ Memory) }
+    {
+        let Some(session) = self.session(name)? else {
+            return refuse(alloc, out);
+        };
+        let answer = self.core.step(alloc, session, request);
+        if let Answer::Refused(Refusal::Memory) = answer {
+            return Err(Refusal::Memory);
+        }
+        end_line(alloc, &answer, out)
+    }
+}
+
+// Appends the line of an answer.
+fn end_line(alloc: Global, answer: &Answer, out: &mut Vec<u8>) -> Result<(), Refusal>
+    ensures ok { OnOk result (out.new.items ≡ out.old.items ++ (answer_text (answer_of answer.now) ++ newline)) }
+    ensures refusals { IfErr result (λ e. e ≡ Memory) }
+{
+    write_answer(alloc, answer, out)?;
+    out.push(b'\n')?;
+    Ok(())
+}
+
+/// Appends the answer to a line outside the grammar. `Memory` is the only refusal.
+pub fn refuse(alloc: Global, out: &mut Vec<u8>) -> Result<(), Refusal>
+    ensures ok { OnOk result (out.new.items ≡ out.old.items ++ (refusal_text Syntax ++ newline)) }
+    ensures refusals { IfErr result (λ e. e ≡ Memory) }
+{
+    end_line(alloc, &Answer::Refused(Refusal::Syntax), out)
+}

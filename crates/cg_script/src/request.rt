@@ -1,0 +1,104 @@
+//! The lines of a schedule.
+ghost use Rattle.std.specs.Prelude.{◌≡◌, ◌++◌, IfOk, IfErr, OnOk, OnErr, map, take, vec_len, Option, List, ℕ};
+ghost use Rattle.std.specs.Option.{option_map};
+ghost use Rattle.std.specs.Result.{IsErrOf};
+ghost use Rattle.cg_name.specs.Refusal.{IsSyntaxOrMemory};
+ghost use Rattle.cg_name.specs.declared.refusal.Refusal.TheVariants.{Memory};
+ghost use Rattle.cg_core.specs.Meaning.{request_of};
+ghost use Rattle.cg_core.specs.Record as model;
+ghost use Rattle.cg_script.specs.Request.{SpellsLine, SpellsRequest, line_text, request_text, WrittenLinesAreSpelled};
+
+use crate::session::SessionName;
+use cg_core::command::Command;
+use cg_core::record::Request;
+use cg_name::path::Path;
+use cg_name::refusal::Refusal;
+use cg_text::words::read_words;
+use std::alloc::Global;
+
+/// Which session asks for what by this line: `None` where the line is blank or a comment. `Syntax` where it
+/// isn't a line of the grammar, too long, or not UTF-8.
+pub fn read_line(alloc: Global, line: &[u8]) -> Result<Option<(SessionName, Request)>, Refusal>
+    ensures value { IfOk result (λ call. SpellsLine line.now (option_map (λ c. (c.0, request_of c.1)) call)) }
+    ensures syntax { IsErrOf result Refusal.Syntax → (call : Option (List ℕ × model.Request)) → SpellsLine line.now call → ⊥ }
+    ensures refusals { IfErr result IsSyntaxOrMemory }
+{
+    let Some(words) = read_words(alloc, line)? else {
+        return Ok(None);
+    };
+    let [name, others @ ..] = words.as_slice() else {
+        return Err(Refusal::Syntax);
+    };
+    let name = SessionName::read(name)?;
+    let request = read_request(alloc, others)?;
+    Ok(Some((name, request)))
+}
+
+/// The request that the words behind a session's name spell.
+fn read_request(alloc: Global, words: &[&str]) -> Result<Request, Refusal>
+    ensures value { IfOk result (λ r. SpellsRequest (map (λ w. w.now) words.now) (request_of r)) }
+    ensures syntax { IsErrOf result Refusal.Syntax → (r : model.Request) → SpellsRequest (map (λ w. w.now) words.now) r → ⊥ }
+    ensures refusals { IfErr result IsSyntaxOrMemory }
+{
+    match words {
+        ["begin"] => Ok(Request::Begin),
+        ["commit"] => Ok(Request::Commit),
+        ["abort"] => Ok(Request::Abort),
+        ["create", path] => Ok(Request::Do(Command::Create {
+            path: Path::read(alloc, path)?,
+        })),
+        _ => Err(Refusal::Syntax),
+    }
+}
+
+/// Appends the line in which a session asks, without a newline: its words with single spaces. `Memory` leaves the
+/// bytes as they were.
+pub fn write_line(name: SessionName, request: &Request, out: &mut Vec<u8>) -> Result<(), Refusal>
+    ensures ok { OnOk result (out.new.items ≡ out.old.items ++ line_text name (request_of request.now)) }
+    ensures err { OnErr result (out.new.items ≡ out.old.items) }
+    ensures refusals { IfErr result (λ e. e ≡ Memory) }
+{
+    let start = out.len();
+    if append_line(name, request, out).is_err() {
+        out.truncate(start);
+        return Err(Refusal::Memory);
+    }
+    Ok(())
+}
+
+/// The law of written lines: each spells what it was written for.
+pub fn written_lines_are_spelled()
+    ensures { WrittenLinesAreSpelled }
+{}
+
+// The same, but where memory runs out some of the line may stand after what was there.
+fn append_line(name: SessionName, request: &Request, out: &mut Vec<u8>) -> Result<(), Refusal>
+    ensures ok { OnOk result (out.new.items ≡ out.old.items ++ line_text name (request_of request.now)) }
+    ensures kept { take (vec_len out.old) out.new.items ≡ out.old.items }
+    ensures refusals { IfErr result (λ e. e ≡ Memory) }
+{
+    out.extend_from_slice(name.as_bytes())?;
+    out.push(b' ')?;
+    append_request(request, out)
+}
+
+// Appends the words behind the session's name, or some of them where memory runs out.
+fn append_request(request: &Request, out: &mut Vec<u8>) -> Result<(), Refusal>
+    ensures ok { OnOk result (out.new.items ≡ out.old.items ++ request_text (request_of request.now)) }
+    ensures kept { take (vec_len out.old) out.new.items ≡ out.old.items }
+    ensures refusals { IfErr result (λ e. e ≡ Memory) }
+{
+    match request {
+        Request::Begin => out.extend_from_slice(b"begin")?,
+        Request::Commit => out.extend_from_slice(b"commit")?,
+        Request::Abort => out.extend_from_slice(b"abort")?,
+        Request::Do(Command::Create { path }) => {
+            out.extend_from_slice(b"create ")?;
+            path.write(out)?;
+        }
+    }
+    Ok(())
+}
+
+#[cfg(test)]
+mod tests;

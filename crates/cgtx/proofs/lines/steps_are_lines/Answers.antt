@@ -1,5 +1,0 @@
-use Rattle.cgtx.proofs.LinesLaw.{steps_are_lines}
-use Rattle.cgtx.proofs.lines.steps_are_lines.Goals as goal
-
-pub returns : goal.returns
-returns c = steps_are_lines

@@ -1,7 +1,0 @@
-use Rattle.cgtx.specs.Lines.{pending}
-use Rattle.cgtx.specs.Replay.{opened}
-use Rattle.cgtx.proofs.Playing.{front_nothing}
-use Rattle.cgtx.proofs.replay.replay.Goals as goal
-
-pub returns-in_default-clause-front : goal.returns-in_default-clause-front
-returns-in_default-clause-front g c = front_nothing (opened c.args.world c.args.limit) (pending c.args.reader.now) (g.K.Sink.taken c.args.sink.now)
