@@ -18,6 +18,10 @@ without_leading_blanks (b ∷ bs) = if is_blank b then without_leading_blanks bs
 abbrev pub without_trailing_blanks : List ℕ → List ℕ
 without_trailing_blanks bs = reverse (without_leading_blanks (reverse bs))
 
+-- the text without the blanks at both ends
+abbrev pub trimmed : List ℕ → List ℕ
+trimmed text = without_trailing_blanks (without_leading_blanks text)
+
 -- a CPU number: decimal digits, leading zeros allowed, of a value of at most 1,023
 abbrev pub IsCpuNumber : List ℕ → ℕ → Type 0
 IsCpuNumber digits n = IsNumeral 10 digits × (digits_value 10 digits ≡ n) × (n ≤ 1023)
@@ -47,7 +51,7 @@ SpellsTrimmed (b ∷ bs) s = SpellsElements (slice_split (λ c. c == 44) (b ∷ 
 
 -- a text spells a set; blanks at both ends don't count
 abbrev pub SpellsCpus : List ℕ → FiniteSet → Type 0
-SpellsCpus text s = SpellsTrimmed (without_trailing_blanks (without_leading_blanks text)) s
+SpellsCpus text s = SpellsTrimmed (trimmed text) s
 
 -- a number and the runs behind it: it joins the first where that begins with the next number
 abbrev pub onto_runs : ℕ → List (ℕ × ℕ) → List (ℕ × ℕ)

@@ -4,48 +4,12 @@ ghost use Rattle.std.specs.Result.{IsErrOf};
 ghost use Rattle.cg_maps.specs.FiniteSet.{FiniteSet, has};
 ghost use Rattle.cg_name.specs.declared.refusal.Refusal.TheVariants.{Memory, Syntax};
 ghost use Rattle.cg_cpus.specs.Ascending.{separated};
-ghost use Rattle.cg_cpus.specs.Blanks.{starts_blank};
 ghost use Rattle.cg_cpus.specs.CpuList.{cpus_text, IsCpuNumber, run_text, SpellsCpus, SpellsRange, SpellsTrimmed, without_leading_blanks, without_trailing_blanks};
 
+use crate::blanks::trim;
 use crate::cpu_set::CpuSet;
 use cg_name::refusal::Refusal;
 use itoa::Buffer;
-
-// Whether the text begins with a space, a tab or a newline.
-fn starts_blank(text: &str) -> bool
-    ensures { result ≡ starts_blank text.now }
-{
-    matches!(text.as_bytes(), [b' ' | b'\t' | b'\n', ..])
-}
-
-// Whether the text ends with one.
-fn ends_blank(text: &str) -> bool
-    ensures { result ≡ starts_blank (reverse text.now) }
-{
-    matches!(text.as_bytes(), [.., b' ' | b'\t' | b'\n'])
-}
-
-// The text behind its leading blanks.
-fn trim_front(text: &str) -> &str
-    ensures { result.now ≡ without_leading_blanks text.now }
-{
-    let mut rest = text;
-    while starts_blank(rest) {
-        rest = &rest[1..];
-    }
-    rest
-}
-
-// The text before its trailing blanks.
-fn trim_back(text: &str) -> &str
-    ensures { result.now ≡ without_trailing_blanks text.now }
-{
-    let mut rest = text;
-    while ends_blank(rest) {
-        rest = &rest[..rest.len() - 1];
-    }
-    rest
-}
 
 // A number of decimal digits alone, below 1,024.
 fn read_number(digits: &str) -> Result<u16, Refusal>
@@ -106,7 +70,7 @@ pub(crate) fn read(text: &str) -> Result<CpuSet, Refusal>
     ensures refusals { IfErr result (λ e. e ≡ Syntax) }
     ensures below { IfOk result (λ s. (n : ℕ) → IsTrue (has s n) → n < 1024) }
 {
-    read_elements(trim_back(trim_front(text)))
+    read_elements(trim(text))
 }
 
 // Appends a run, with a comma before it where it stands behind another; a refusal leaves what stood there at the front.

@@ -1,14 +1,15 @@
 //! The lines of answers.
-ghost use Rattle.std.specs.Prelude.{◌≡◌, ◌++◌, ◌∷◌, [], codes, IfOk, IfErr, OnOk, OnErr};
-ghost use Rattle.std.specs.List.{flat_map};
+ghost use Rattle.std.specs.Prelude.{◌≡◌, ◌++◌, codes, IfOk, IfErr, OnOk, OnErr};
 ghost use Rattle.std.specs.Fmt.{decimal};
 ghost use Rattle.cg_name.specs.Refusal.{refusal_text};
 ghost use Rattle.cg_name.specs.declared.refusal.Refusal.TheVariants.{Memory};
 ghost use Rattle.cg_core.specs.Meaning.{answer_of};
-ghost use Rattle.cg_script.specs.Answer.{answer_text, quoted, quoted_byte};
+ghost use Rattle.cg_text.specs.FileText.{quoted_text};
+ghost use Rattle.cg_script.specs.Answer.{answer_text};
 
 use cg_core::record::Answer;
 use cg_name::refusal::{Refusal, TxnNumber};
+use cg_text::writing::write_quoted;
 use std::alloc::Global;
 
 /// Appends the answer's line, without a newline. `Memory` leaves the bytes as they were.
@@ -51,18 +52,10 @@ fn refused(alloc: Global, refusal: Refusal) -> Result<Vec<u8>, Refusal>
 
 // The line that shows a text.
 fn text_line(alloc: Global, text: &[u8]) -> Result<Vec<u8>, Refusal>
-    ensures value { IfOk result (λ line. line.items ≡ codes "text " ++ quoted text.now) }
+    ensures value { IfOk result (λ line. line.items ≡ codes "text " ++ quoted_text text.now) }
     ensures refusals { IfErr result (λ e. e ≡ Memory) }
 {
-    let mut line = Vec::from_slice(alloc, b"text \"")?;
-    for byte in text {
-        match *byte {
-            b'\n' => line.extend_from_slice(b"\\n")?,
-            b'"' => line.extend_from_slice(b"\\\"")?,
-            b'\\' => line.extend_from_slice(b"\\\\")?,
-            byte => line.push(byte)?,
-        }
-    }
-    line.push(b'"')?;
+    let mut line = Vec::from_slice(alloc, b"text ")?;
+    write_quoted(text, &mut line)?;
     Ok(line)
 }

@@ -7,12 +7,12 @@ use Rattle.std.proofs.lemmas.Fmt.{decimal_is_IsNumeral}
 use Rattle.std.proofs.lemmas.List.{reverse-append, reverse-reverse}
 use Rattle.std.proofs.lemmas.Str.Parse.{digit_from_value, digit_at}
 use Rattle.cg_cpus.specs.Blanks.{starts_blank}
-use Rattle.cg_cpus.specs.CpuList.{is_blank, without_leading_blanks, without_trailing_blanks}
+use Rattle.cg_cpus.specs.CpuList.{is_blank, without_leading_blanks, without_trailing_blanks, trimmed}
 use Rattle.cg_cpus.proofs.Trimmed.{front_end, last_test}
 use Rattle.cg_name.specs.declared.controller.Controller.{Controller}
 use Rattle.cg_text.specs.Controllers.{has, no_controllers}
 use Rattle.cg_text.specs.Laws.{AreApart, LimitIsSpelled, OneOps, OpsAreApart}
-use Rattle.cg_text.specs.Reading.{blank_words, SpellsOpsAfter, trimmed, with_op}
+use Rattle.cg_text.specs.Reading.{blank_words, SpellsOpsAfter, with_op}
 use Rattle.cg_text.specs.Words.{Word}
 use Rattle.cg_text.specs.declared.control_ops.ControlOps.{ControlOps}
 use Rattle.cg_text.specs.declared.limit.Limit.TheVariants.{Max, UpTo}

@@ -4,7 +4,7 @@ use Rattle.std.specs.List.{slice_split}
 use Rattle.std.specs.Str.Parse.{IsNumeral, digits_value}
 use Rattle.cg_name.specs.Controller.{controller_word}
 use Rattle.cg_name.specs.declared.controller.Controller.{Controller}
-use Rattle.cg_cpus.specs.CpuList.{is_blank, without_leading_blanks, without_trailing_blanks}
+use Rattle.cg_cpus.specs.CpuList.{is_blank, trimmed}
 use Rattle.cg_text.specs.Controllers.{with_controller, without_controller, no_controllers}
 use Rattle.cg_text.specs.FileText.{flag_word}
 use Rattle.cg_text.specs.Words.{Word, is_filled}
@@ -13,10 +13,6 @@ use Rattle.cg_text.specs.declared.file_name.FileName.{FileName}
 use Rattle.cg_text.specs.declared.file_name.FileName.TheVariants as files
 use Rattle.cg_text.specs.declared.limit.Limit.{Limit}
 use Rattle.cg_text.specs.declared.limit.Limit.TheVariants.{Max, UpTo}
-
--- a text without the spaces, tabs and newlines at both ends
-abbrev pub trimmed : List ℕ → List ℕ
-trimmed text = without_trailing_blanks (without_leading_blanks text)
 
 -- `0` or `1` (Core Interface Files: cgroup.freeze)
 abbrev pub SpellsFlag : List ℕ → Bool → Type 0

@@ -12,6 +12,5 @@ pub mod reading;
 pub mod settings;
 #[cfg(test)]
 mod tests;
-mod trimming;
 pub mod words;
 pub mod writing;

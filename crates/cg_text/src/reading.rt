@@ -13,7 +13,7 @@ ghost use Rattle.cg_text.specs.declared.limit.Limit as limit;
 
 use crate::control_ops::ControlOps;
 use crate::limit::Limit;
-use crate::trimming::{is_blank, trim};
+use cg_cpus::blanks::{is_blank, trim};
 use cg_name::controller::Controller;
 use cg_name::refusal::Refusal;
 

@@ -7,4 +7,4 @@ use Rattle.cg_cpus.proofs.list.read.Goals as goal
 
 pub returns-clause-below : goal.returns-clause-below
 returns-clause-below c =
-    IfOk-weaker c.read_elements.result (SpellsTrimmed c.trim_back.result.now) (λ s. (n : ℕ) → IsTrue (has s n) → n < 1024) (spelled_below c.trim_back.result.now) c.read_elements.ensures.value
+    IfOk-weaker c.read_elements.result (SpellsTrimmed c.trim.result.now) (λ s. (n : ℕ) → IsTrue (has s n) → n < 1024) (spelled_below c.trim.result.now) c.read_elements.ensures.value

@@ -1,18 +1,17 @@
-//! Texts without the blanks at their ends.
+//! Texts without the blanks at their ends: spaces, tabs and newlines, as the kernel strips what it is written.
 ghost use Rattle.std.specs.Prelude.{◌≡◌, reverse};
 ghost use Rattle.cg_cpus.specs.Blanks.{starts_blank};
-ghost use Rattle.cg_cpus.specs.CpuList.{is_blank, without_leading_blanks, without_trailing_blanks};
-ghost use Rattle.cg_text.specs.Reading.{trimmed};
+ghost use Rattle.cg_cpus.specs.CpuList.{is_blank, trimmed, without_leading_blanks, without_trailing_blanks};
 
 /// The text without the spaces, tabs and newlines at both ends.
-pub(crate) fn trim(text: &str) -> &str
+pub fn trim(text: &str) -> &str
     ensures { result.now ≡ trimmed text.now }
 {
     trim_back(trim_front(text))
 }
 
 /// Whether the byte is a space, a tab or a newline.
-pub(crate) fn is_blank(byte: u8) -> bool
+pub fn is_blank(byte: u8) -> bool
     ensures { result ≡ is_blank byte }
 {
     matches!(byte, b' ' | b'\t' | b'\n')

@@ -2,7 +2,7 @@ use Rattle.std.proofs.Common.{◌≡◌, true, sym, ◌∙◌}
 use Rattle.std.proofs.lemmas.Str.{IsCharBoundary-after_ascii}
 use Rattle.cg_cpus.specs.Blanks.{starts_blank}
 use Rattle.cg_cpus.proofs.Trimmed.{blank_is_ascii, first_is_blank, nonempty}
-use Rattle.cg_text.proofs.trimming.trim_front.Goals as goal
+use Rattle.cg_cpus.proofs.blanks.trim_front.Goals as goal
 
 pub range_from-rest-requires : goal.range_from-rest-requires
 range_from-rest-requires c = λ _.
