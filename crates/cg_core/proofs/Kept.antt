@@ -17,7 +17,7 @@ use Rattle.cg_model.specs.Sound.{Sound, IsChildOf, admits}
 use Rattle.cg_model.specs.Command.{Create, IsAccepted}
 use Rattle.cg_model.specs.Effect.{effect}
 use Rattle.cg_model.specs.Groups.{create_effect, too_many, too_deep}
-use Rattle.cg_world.specs.World.{IsWorld, IsSettingsOfOne}
+use Rattle.cg_world.specs.World.{IsWorld, IsWorldSettings}
 use Rattle.cg_core.proofs.Creating.{created, parent_is}
 
 -- a parent's path is its child's without the last name
@@ -139,7 +139,7 @@ module _ (T : Tree) (world : IsWorld T) (p : Path) (valid : IsPath p) (a : IsAcc
     sound = sound_kept;
     online = world.online;
     groups = λ q s e. elim (was q s e) [
-      | inl new ↦ (subst IsPath (sym new.0) valid, subst IsSettingsOfOne (sym new.1) (record { cpus = λ n h. absurd (true≢false (sym h ∙ has-no_members n)); max_descendants = refl; max_depth = refl }))
+      | inl new ↦ (subst IsPath (sym new.0) valid, subst IsWorldSettings (sym new.1) (record { cpus = λ n h. absurd (true≢false (sym h ∙ has-no_members n)); max_descendants = tt; max_depth = tt }))
       | inr old ↦ world.groups q s old
     ];
     processes = world.processes;

@@ -7,6 +7,7 @@ ghost use Rattle.cg_model.specs.Command.{IsAccepted, ChangesTo};
 ghost use Rattle.cg_model.specs.Command as model;
 ghost use Rattle.cg_world.specs.World.{IsWorld};
 
+use crate::limits::{too_deep, too_many};
 use crate::tree::Tree;
 use cg_name::path::Path;
 use cg_name::refusal::Refusal;
@@ -40,7 +41,6 @@ impl Command {
 
     /// Whether the tree accepts the command: its own checks, in order. `Memory` says nothing of the command.
     pub fn check(&self, alloc: Global, tree: &Tree) -> Result<(), Refusal>
-        requires { IsWorld tree.now }
         ensures accepted { OnOk result (IsAccepted (effect (command_of self.now) tree.now)) }
         ensures refused { IfErr result (λ e. e ≢ Memory → effect (command_of self.now) tree.now ≡ Refuse e) }
     {
@@ -63,10 +63,9 @@ impl Command {
     }
 }
 
-/// The checks of Create: the path isn't the root's, its parent is there, and it is free. A tree without limits
-/// has room below each group.
+/// The checks of Create: the path isn't the root's, its parent is there, it is free, and no group above it is full
+/// or too far above.
 fn check_create(alloc: Global, path: &Path, tree: &Tree) -> Result<(), Refusal>
-    requires { IsWorld tree.now }
     ensures accepted { OnOk result (IsAccepted (effect (model.Create path.now) tree.now)) }
     ensures refused { IfErr result (λ e. e ≢ Memory → effect (model.Create path.now) tree.now ≡ Refuse e) }
 {
@@ -78,6 +77,12 @@ fn check_create(alloc: Global, path: &Path, tree: &Tree) -> Result<(), Refusal>
     }
     if tree.find(path) {
         return Err(Refusal::Exists);
+    }
+    if too_many(alloc, path, tree)? {
+        return Err(Refusal::TooMany);
+    }
+    if too_deep(alloc, path, tree)? {
+        return Err(Refusal::TooDeep);
     }
     Ok(())
 }

@@ -4,6 +4,7 @@
 pub mod command;
 pub mod history;
 pub mod laws;
+mod limits;
 pub mod machine;
 pub mod record;
 #[cfg(test)]

@@ -125,3 +125,33 @@ fn copies_a_count(rt: HostRuntime) -> Result<(), Fail> {
     assert!(rt; matches!(Answer::Back(2).copy(alloc)?, Answer::Back(2)));
     Ok(())
 }
+
+#[test]
+fn limits_above_a_new_group_count(rt: HostRuntime) -> Result<(), Fail> {
+    let alloc = rt.alloc();
+    for (root, child, path, refusal) in [
+        ("2 1", "0 0", "/b", None),
+        ("2 2", "1 1", "/a/x", None),
+        ("1 max", "max max", "/b", Some(Refusal::TooMany)),
+        ("max max", "0 max", "/a/x", Some(Refusal::TooMany)),
+        ("2 max", "max 0", "/a/x", Some(Refusal::TooDeep)),
+        ("2 1", "max max", "/a/x", Some(Refusal::TooDeep)),
+        ("1 max", "max 0", "/a/x", Some(Refusal::TooMany)),
+        ("max 0", "0 max", "/a/x", Some(Refusal::TooMany)),
+    ] {
+        let text = format!(in alloc;
+            "world 2\ncontrollers\nonline 0\ngroup / - 0 - {root}\ngroup /a - 0 - {child}\nend\n"
+        )?;
+        let mut core = Core::open(alloc, World::read(alloc, text.as_bytes())?, 8)?;
+        let _ = core.step(alloc, SessionId(3), Request::Begin);
+        let create = Request::Do(Command::Create {
+            path: Path::read(alloc, path)?,
+        });
+        let refused = match core.step(alloc, SessionId(3), create) {
+            Answer::Refused(refused) => Some(refused),
+            _ => None,
+        };
+        assert_eq!(rt; refused, refusal, "{root}, {child}: {path}");
+    }
+    Ok(())
+}

@@ -1,8 +1,9 @@
 //! The tree that the machine changes.
-ghost use Rattle.std.specs.Prelude.{◌≡◌, ◌++◌, is_some, Some, IfOk, IfErr, OnOk, OnErr};
+ghost use Rattle.std.specs.Prelude.{◌≡◌, ◌++◌, nat_le, is_some, Some, IfOk, IfErr, OnOk, OnErr};
 ghost use Rattle.cg_maps.specs.FiniteMap.{set_at};
 ghost use Rattle.cg_name.specs.declared.refusal.Refusal.TheVariants.{Memory};
 ghost use Rattle.cg_model.specs.Tree.{group};
+ghost use Rattle.cg_model.specs.Derived.{descendants};
 ghost use Rattle.cg_world.specs.World.{IsWorld, world_text};
 
 use cg_name::path::Path;
@@ -72,6 +73,13 @@ impl Tree {
         ensures { result ≡ group self.now path.now }
     {
         self.plain.settings(path)
+    }
+
+    /// Whether so many groups, or more, are below this path.
+    pub fn has_descendants(&self, path: &Path, count: u32) -> bool
+        ensures { result ≡ nat_le count (descendants self.now path.now) }
+    {
+        self.plain.has_descendants(path, count)
     }
 
     /// Makes the group at this path, or gives it these settings. `Memory` leaves the tree as it was.

@@ -1,10 +1,13 @@
 pub mod Adding
 mod Appending
+pub mod Below
 pub mod Conjunctions
 pub mod Cpus
+pub mod Limits
 pub mod Lines
 pub mod LinesOfText
 mod Listed
+pub mod LowCpus
 mod Puts
 mod RoundTrip
 mod SoundTrees
@@ -13,4 +16,5 @@ pub mod Stages
 mod Trees
 pub mod Worlds
 mod WrittenCpus
+mod WrittenLimits
 pub mod WrittenWords

@@ -6,6 +6,7 @@ use Rattle.std.specs.Str.Lines.{strip_carriage_return}
 use Rattle.std.proofs.lemmas.Bool.Decides.{nat_tests}
 use Rattle.std.proofs.lemmas.Str.{IsUtf8-from_ascii}
 use Rattle.std.proofs.lemmas.Str.Ascii.{IsAscii-nil, IsAscii-cons}
+use Rattle.cg_cpus.specs.CpuList as cpus
 use Rattle.cg_text.specs.Words.{Line, Word, is_newline, is_blank, is_filled, without_empty_last, lines_of, words_of, is_comment, IsLine, said_by, statements_of}
 use Rattle.cg_world.proofs.Conjunctions.{and_first, and_second, and_both}
 
@@ -38,6 +39,10 @@ is_in_line b = nat_le 32 b && nat_le b 126
 
 plain_in_line : (b : ℕ) → is_plain b ≡ true → is_in_line b ≡ true
 plain_in_line b e = let l : nat_le 33 b ≡ true = and_first (nat_le 33 b) (nat_le b 126) e in let r : nat_le b 126 ≡ true = and_second (nat_le 33 b) _ e in and_both (nat_le 32 b) _ (grind (arith, nat_tests)) r
+
+-- a plain byte is no blank, of lines or of lists
+pub plain_is_no_space : (b : ℕ) → is_plain b ≡ true → cpus.is_blank b ≡ false
+plain_is_no_space b e = let l : nat_le 33 b ≡ true = and_first (nat_le 33 b) (nat_le b 126) e in grind (arith, nat_tests)
 
 plain_is_no_blank : (b : ℕ) → is_plain b ≡ true → is_blank b ≡ false
 plain_is_no_blank b e = let l : nat_le 33 b ≡ true = and_first (nat_le 33 b) (nat_le b 126) e in grind (arith, nat_tests)

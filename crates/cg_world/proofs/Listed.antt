@@ -15,7 +15,7 @@ use Rattle.cg_world.specs.Statement.{AddsControllers}
 use Rattle.cg_world.specs.World.{Lists}
 use Rattle.cg_world.proofs.Puts.{puts, puts-entries}
 
-all_both : {A : Type 0} (P Q S : A → Type 0) → ((x : A) → P x → Q x → S x) → (xs : List A) → AllByRecursion P xs → AllByRecursion Q xs → AllByRecursion S xs
+pub all_both : {A : Type 0} (P Q S : A → Type 0) → ((x : A) → P x → Q x → S x) → (xs : List A) → AllByRecursion P xs → AllByRecursion Q xs → AllByRecursion S xs
 all_both P Q S f [] h k = tt
 all_both P Q S f (x ∷ xs) h k = (f x h.0 k.0, all_both P Q S f xs h.1 k.1)
 

@@ -18,21 +18,29 @@ use Rattle.cg_name.proofs.Text.{path_text-plain}
 use Rattle.cg_name.specs.declared.controller.Controller.{Controller}
 use Rattle.cg_name.specs.declared.controller.Controller.TheVariants.{Cpuset, Cpu, Io, Memory, Hugetlb, Pids, Rdma, Misc}
 use Rattle.cg_cpus.specs.CpuList.{cpus_text}
+use Rattle.cg_cpus.proofs.Canonical.{canonical_spells}
 use Rattle.cg_text.specs.Controllers.{members, no_controllers, has, all_controllers}
 use Rattle.cg_text.specs.Words.{Word, IsLine}
 use Rattle.cg_text.specs.declared.controllers.Controllers as sets
+use Rattle.cg_text.specs.declared.limit.Limit.{Limit}
+use Rattle.cg_text.specs.declared.limit.Limit.TheVariants.{Max, UpTo}
 use Rattle.cg_text.specs.declared.settings.Settings.{Settings}
 use Rattle.cg_model.specs.Tree.{Tree}
 use Rattle.cg_world.specs.declared.statement.Statement.{Statement}
 use Rattle.cg_world.specs.declared.statement.Statement.TheVariants.{Version, Controllers, Online, End}
-use Rattle.cg_world.specs.Statement.{AddsControllers, SpellsControl, SpellsFlag, PrintsAskedCpus, SpellsStatement}
-use Rattle.cg_world.specs.World.{IsWorld, IsSettingsOfOne, IsCpusOfOne, Arranges, SpellsEach, SpellsWorld, group_of, process_of, text_or_minus, control_text, flag_text, asked_cpus_text, world_text}
+use Rattle.cg_world.specs.declared.version.Version as versions
+use Rattle.cg_world.specs.declared.version.Version.TheVariants.{One, Two}
+use Rattle.cg_world.specs.Version.{version_word, last_cpu}
+use Rattle.cg_world.specs.Statement.{AddsControllers, SpellsControl, SpellsFlag, AreCpusUpTo, SpellsSomeCpus, SpellsAskedCpus, SpellsLimits, SpellsStatement}
+use Rattle.cg_world.specs.World.{IsWorld, IsWorldSettings, Arranges, SpellsEach, SpellsWorld, group_of, process_of, text_or_minus, control_text, flag_text, asked_cpus_text, cpus_fit_one, is_max, settings_fit_one, fits_version_one, limit_word, text_of_version, world_text}
 use Rattle.cg_world.proofs.Appending.{control_some, control_none}
 use Rattle.cg_world.proofs.LinesOfText.{IsGoodLine, line_of, split_at, split_none, are_lines, lines_back, statements_back}
-use Rattle.cg_world.proofs.Listed.{adds_members, lists_entries}
-use Rattle.cg_world.proofs.Conjunctions.{and_first}
+use Rattle.cg_world.proofs.LowCpus.{fits_up_to}
+use Rattle.cg_world.proofs.Listed.{all_both, adds_members, lists_entries}
+use Rattle.cg_world.proofs.Conjunctions.{and_first, and_second}
 use Rattle.cg_world.proofs.WrittenCpus.{cpus_short, cpus_plain, asked_plain, asked_short}
-use Rattle.cg_world.proofs.WrittenWords.{group_words, process_words, controllers_words, world_words, written, words_plain, control_plain, flag_plain, path_plain, decimal_plain}
+use Rattle.cg_world.proofs.WrittenLimits.{limit_short, limits_plain, spells_limit}
+use Rattle.cg_world.proofs.WrittenWords.{limit_words, group_words, process_words, controllers_words, world_words, written, words_plain, control_plain, flag_plain, path_plain, decimal_plain}
 
 -- ---- lists
 
@@ -92,26 +100,40 @@ path_short (n ∷ p) h = omega (arith, h.depth, row_short (n ∷ p) h.names)
 
 -- ---- the lines are good
 
-record IsGoodGroup (e : Path × Settings) : Type 0 where
+-- what a version asks of settings beside what a world does
+abbrev Suits : versions.Version → Settings → Type 0
+Suits One s = AreCpusUpTo 127 s.cpus × (s.max_descendants ≡ Max) × (s.max_depth ≡ Max)
+Suits Two s = Unit {0}
+
+record IsGoodGroup (v : versions.Version) (e : Path × Settings) : Type 0 where
   path : IsPath e.0
-  settings : IsSettingsOfOne e.1
+  settings : IsWorldSettings e.1
+  suits : Suits v e.1
 
 record IsGoodProcess (e : ℕ × Path) : Type 0 where
   low : 1 ≤ e.0
   high : e.0 ≤ 4194303
   path : IsPath e.1
 
-group_good : (e : Path × Settings) → IsGoodGroup e → IsGoodLine (group_words e)
-group_good e h =
+group_good : (v : versions.Version) (e : Path × Settings) → IsGoodGroup v e → IsGoodLine (group_words v e)
+group_good v e h =
     let p : List ℕ = path_text e.0 in
     let c : List ℕ = control_text e.1.control in
     let f : List ℕ = flag_text e.1.freeze in
     let u : List ℕ = asked_cpus_text e.1.cpus in
     record {
-      words = (record { some = refl; plain = refl }, (path_plain e.0 (path_text-plain e.0 h.path), (control_plain e.1.control, (flag_plain e.1.freeze, (asked_plain e.1.cpus h.settings.cpus, tt)))));
+      words = (record { some = refl; plain = refl }, (path_plain e.0 (path_text-plain e.0 h.path), (control_plain e.1.control, (flag_plain e.1.freeze, (asked_plain e.1.cpus h.settings.cpus, limits_plain v e.1 h.settings.max_descendants h.settings.max_depth)))));
       says = refl;
-      short = omega (arith, path_short e.0 h.path, control_short e.1.control, flag_short e.1.freeze, asked_short e.1.cpus h.settings.cpus, length-append p (32 ∷ (c ++ 32 ∷ (f ++ 32 ∷ u))), length-append c (32 ∷ (f ++ 32 ∷ u)), length-append f (32 ∷ u));
+      short = row v p c f u (path_short e.0 h.path) (control_short e.1.control) (flag_short e.1.freeze) (asked_short e.1.cpus h.settings.cpus);
     }
+  where
+    row : (v : versions.Version) (p c f u : List ℕ) → length p ≤ 16384 → length c ≤ 65 → length f ≤ 1 → length u ≤ 10240 → length (line_of (codes "group" ∷ p ∷ c ∷ f ∷ u ∷ limit_words v e.1)) ≤ 65536
+    row One p c f u lp lc lf lu = omega (arith, lp, lc, lf, lu, length-append p (32 ∷ (c ++ 32 ∷ (f ++ 32 ∷ u))), length-append c (32 ∷ (f ++ 32 ∷ u)), length-append f (32 ∷ u))
+    row Two p c f u lp lc lf lu =
+        let a : List ℕ = limit_word e.1.max_descendants in
+        let b : List ℕ = limit_word e.1.max_depth in
+        let t : List ℕ = u ++ 32 ∷ (a ++ 32 ∷ b) in
+        omega (arith, lp, lc, lf, lu, limit_short e.1.max_descendants h.settings.max_descendants, limit_short e.1.max_depth h.settings.max_depth, length-append p (32 ∷ (c ++ 32 ∷ (f ++ 32 ∷ t))), length-append c (32 ∷ (f ++ 32 ∷ t)), length-append f (32 ∷ t), length-append u (32 ∷ (a ++ 32 ∷ b)), length-append a (32 ∷ b))
 
 process_good : (e : ℕ × Path) → IsGoodProcess e → IsGoodLine (process_words e)
 process_good e h =
@@ -123,8 +145,9 @@ process_good e h =
       short = omega (arith, path_short e.1 h.path, length-decimal-le 7 e.0 (omega arith) (omega (arith, h.high)) (omega (arith, h.high)), length-append d (32 ∷ p));
     }
 
-version_good : IsGoodLine (codes "world" ∷ codes "1" ∷ [])
-version_good = record { words = (record { some = refl; plain = refl }, (record { some = refl; plain = refl }, tt)); says = refl; short = omega arith }
+version_good : (v : versions.Version) → IsGoodLine (codes "world" ∷ version_word v ∷ [])
+version_good One = record { words = (record { some = refl; plain = refl }, (record { some = refl; plain = refl }, tt)); says = refl; short = omega arith }
+version_good Two = record { words = (record { some = refl; plain = refl }, (record { some = refl; plain = refl }, tt)); says = refl; short = omega arith }
 
 end_good : IsGoodLine (codes "end" ∷ [])
 end_good = record { words = (record { some = refl; plain = refl }, tt); says = refl; short = omega arith }
@@ -140,7 +163,7 @@ controllers_good s = record {
     names_line [] l = omega arith
     names_line (c ∷ cs) l = omega (arith, names_short 32 (c ∷ cs))
 
-online_good : (s : FiniteSet) → IsCpusOfOne s → is_empty_set s ≡ false → IsGoodLine (codes "online" ∷ cpus_text s ∷ [])
+online_good : (s : FiniteSet) → AreCpusUpTo 1023 s → is_empty_set s ≡ false → IsGoodLine (codes "online" ∷ cpus_text s ∷ [])
 online_good s low some = record { words = (record { some = refl; plain = refl }, (cpus_plain s low some, tt)); says = refl; short = omega (arith, cpus_short s low) }
 
 -- ---- each line's words spell its statement
@@ -181,45 +204,57 @@ spells_flag : (b : Bool) → SpellsFlag (flag_text b) b
 spells_flag true = refl
 spells_flag false = refl
 
-prints_asked : (s : FiniteSet) → IsCpusOfOne s → PrintsAskedCpus (asked_cpus_text s) s
-prints_asked s low = elim (is_empty_set s) as (λ b. is_empty_set s ≡ b → PrintsAskedCpus (cond b (codes "-") (cpus_text s)) s) [
+spells_some : (most : ℕ) (s : FiniteSet) → AreCpusUpTo 1023 s → AreCpusUpTo most s → is_empty_set s ≡ false → SpellsSomeCpus most (cpus_text s) s
+spells_some most s low fit some = (canonical_spells s (λ n k. omega (arith, low n k)), some, fit)
+
+spells_asked : (most : ℕ) (s : FiniteSet) → AreCpusUpTo 1023 s → AreCpusUpTo most s → SpellsAskedCpus most (asked_cpus_text s) s
+spells_asked most s low fit = elim (is_empty_set s) as (λ b. is_empty_set s ≡ b → SpellsAskedCpus most (cond b (codes "-") (cpus_text s)) s) [
   | true ↦ λ e. inl (refl, empty_set-is s e)
-  | false ↦ λ e. inr (refl, e, low)
+  | false ↦ λ e. inr (spells_some most s low fit e)
 ] refl
 
-each_spelled : (ws vs : List (List Word)) (ss ts : List Statement) → SpellsEach ws ss → SpellsEach vs ts → SpellsEach (ws ++ vs) (ss ++ ts)
-each_spelled [] vs [] ts h k = k
-each_spelled [] vs (s ∷ ss) ts h k = absurd h
-each_spelled (w ∷ ws) vs [] ts h k = absurd h
-each_spelled (w ∷ ws) vs (s ∷ ss) ts h k = (h.0, each_spelled ws vs ss ts h.1 k)
+suiting_cpus : (v : versions.Version) (s : Settings) → IsWorldSettings s → Suits v s → AreCpusUpTo (last_cpu v) s.cpus
+suiting_cpus One s h f = f.0
+suiting_cpus Two s h f = h.cpus
 
-spelled_by : {E : Type 0} (words : E → List Word) (says : E → Statement) (es : List E) → AllByRecursion (λ e. SpellsStatement (words e) (says e)) es → SpellsEach (map words es) (map says es)
-spelled_by words says [] h = tt
-spelled_by words says (e ∷ es) h = (h.0, spelled_by words says es h.1)
+spells_limits : (v : versions.Version) (s : Settings) → IsWorldSettings s → Suits v s → SpellsLimits v (limit_words v s) s.max_descendants s.max_depth
+spells_limits One s h f = (refl, f.1, f.2)
+spells_limits Two s h f = (limit_word s.max_descendants, limit_word s.max_depth, refl, spells_limit s.max_descendants h.max_descendants, spells_limit s.max_depth h.max_depth)
 
-spells_group : (e : Path × Settings) → IsPath e.0 → IsSettingsOfOne e.1 → SpellsStatement (group_words e) (group_of e)
-spells_group e p s = (
+each_spelled : (v : versions.Version) (ws vs : List (List Word)) (ss ts : List Statement) → SpellsEach v ws ss → SpellsEach v vs ts → SpellsEach v (ws ++ vs) (ss ++ ts)
+each_spelled v [] vs [] ts h k = k
+each_spelled v [] vs (s ∷ ss) ts h k = absurd h
+each_spelled v (w ∷ ws) vs [] ts h k = absurd h
+each_spelled v (w ∷ ws) vs (s ∷ ss) ts h k = (h.0, each_spelled v ws vs ss ts h.1 k)
+
+spelled_by : {E : Type 0} (v : versions.Version) (words : E → List Word) (says : E → Statement) (es : List E) → AllByRecursion (λ e. SpellsStatement v (words e) (says e)) es → SpellsEach v (map words es) (map says es)
+spelled_by v words says [] h = tt
+spelled_by v words says (e ∷ es) h = (h.0, spelled_by v words says es h.1)
+
+spells_group : (v : versions.Version) (e : Path × Settings) → IsGoodGroup v e → SpellsStatement v (group_words v e) (group_of e)
+spells_group v e h = (
   path_text e.0,
   control_text e.1.control,
   flag_text e.1.freeze,
   asked_cpus_text e.1.cpus,
+  limit_words v e.1,
   refl,
-  (p, refl),
+  (h.path, refl),
   spells_control e.1.control,
   spells_flag e.1.freeze,
-  prints_asked e.1.cpus s.cpus,
-  s.max_descendants,
-  s.max_depth,
+  spells_asked (last_cpu v) e.1.cpus h.settings.cpus (suiting_cpus v e.1 h.settings h.suits),
+  spells_limits v e.1 h.settings h.suits,
 )
 
-spells_process : (e : ℕ × Path) → 1 ≤ e.0 → e.0 ≤ 4194303 → IsPath e.1 → SpellsStatement (process_words e) (process_of e)
-spells_process e l h p =
-    let n = decimal_is_IsNumeral e.0 (omega arith) in
-    (decimal e.0, path_text e.1, refl, (n.0, n.1, l, h), (p, refl))
+spells_process : (v : versions.Version) (e : ℕ × Path) → IsGoodProcess e → SpellsStatement v (process_words e) (process_of e)
+spells_process v e h =
+    let n = decimal_is_IsNumeral e.0 (omega (arith, h.high)) in
+    (decimal e.0, path_text e.1, refl, (n.0, n.1, h.low, h.high), (h.path, refl))
 
-module _ (T : Tree) (world : IsWorld T) where
-  groups_are : AllByRecursion IsGoodGroup (entries T.groups)
-  groups_are = all_map (λ e at. let h = world.groups e.0 e.1 at in record { path = h.0; settings = h.1 }) (entries T.groups) (each_entry path_cmp_total T.groups)
+module _ (v : versions.Version) (T : Tree) (world : IsWorld T) (online : AreCpusUpTo (last_cpu v) T.online) (suits : AllByRecursion (λ e. Suits v e.1) (entries T.groups)) where
+  groups_are : AllByRecursion (IsGoodGroup v) (entries T.groups)
+  groups_are = all_both (λ e. IsPath e.0 × IsWorldSettings e.1) (λ e. Suits v e.1) (IsGoodGroup v) (λ e h k. record { path = h.0; settings = h.1; suits = k }) (entries T.groups)
+      (all_map (λ e at. world.groups e.0 e.1 at) (entries T.groups) (each_entry path_cmp_total T.groups)) suits
 
   processes_are : AllByRecursion IsGoodProcess (entries T.places)
   processes_are = all_map (λ e at.
@@ -227,18 +262,18 @@ module _ (T : Tree) (world : IsWorld T) where
       let there = world.sound.process e.0 e.1 at in
       record { low = h.0; high = h.1; path = (world.groups e.1 there.0 there.1).0 }) (entries T.places) (each_entry nat_cmp_total T.places)
 
-  lines_good : AllByRecursion IsGoodLine (world_words T)
+  lines_good : AllByRecursion IsGoodLine (world_words v T)
   lines_good =
-      let G : List (List Word) = map group_words (entries T.groups) in
+      let G : List (List Word) = map (group_words v) (entries T.groups) in
       let P : List (List Word) = map process_words (entries T.places) in (
-        version_good,
+        version_good v,
         (
           controllers_good T.controllers,
           (
             online_good T.online world.online world.sound.online,
             both IsGoodLine (G ++ P) ((codes "end" ∷ []) ∷ [])
                 (both IsGoodLine G P
-                (each_mapped group_words IsGoodLine (entries T.groups) (all_map group_good (entries T.groups) groups_are))
+                (each_mapped (group_words v) IsGoodLine (entries T.groups) (all_map (group_good v) (entries T.groups) groups_are))
                 (each_mapped process_words IsGoodLine (entries T.places) (all_map process_good (entries T.places) processes_are)))
                 (end_good, tt),
           ),
@@ -246,28 +281,28 @@ module _ (T : Tree) (world : IsWorld T) where
       )
 
   statements : List Statement
-  statements = Version ∷ Controllers T.controllers ∷ Online T.online ∷ (map group_of (entries T.groups) ++ map process_of (entries T.places) ++ End ∷ [])
+  statements = Version v ∷ Controllers T.controllers ∷ Online T.online ∷ (map group_of (entries T.groups) ++ map process_of (entries T.places) ++ End ∷ [])
 
-  spelled : SpellsEach (world_words T) statements
+  spelled : SpellsEach v (world_words v T) statements
   unfolding statements
   spelled =
-      let G : List (List Word) = map group_words (entries T.groups) in
+      let G : List (List Word) = map (group_words v) (entries T.groups) in
       let P : List (List Word) = map process_words (entries T.places) in (
         refl,
         (
           (map controller_word (members T.controllers), refl, adds_members T.controllers),
           (
-            (cpus_text T.online, refl, (refl, world.sound.online, world.online)),
-            each_spelled (G ++ P) ((codes "end" ∷ []) ∷ []) (map group_of (entries T.groups) ++ map process_of (entries T.places)) (End ∷ [])
-                (each_spelled G P (map group_of (entries T.groups)) (map process_of (entries T.places))
-                (spelled_by group_words group_of (entries T.groups) (all_map (λ e h. spells_group e h.path h.settings) (entries T.groups) groups_are))
-                (spelled_by process_words process_of (entries T.places) (all_map (λ e h. spells_process e h.low h.high h.path) (entries T.places) processes_are)))
+            (cpus_text T.online, refl, spells_some (last_cpu v) T.online world.online online world.sound.online),
+            each_spelled v (G ++ P) ((codes "end" ∷ []) ∷ []) (map group_of (entries T.groups) ++ map process_of (entries T.places)) (End ∷ [])
+                (each_spelled v G P (map group_of (entries T.groups)) (map process_of (entries T.places))
+                (spelled_by v (group_words v) group_of (entries T.groups) (all_map (spells_group v) (entries T.groups) groups_are))
+                (spelled_by v process_words process_of (entries T.places) (all_map (spells_process v) (entries T.places) processes_are)))
                 (refl, tt),
           ),
         ),
       )
 
-  arranged : Arranges statements T
+  arranged : Arranges v statements T
   unfolding statements
   arranged = record {
     groups = entries T.groups;
@@ -277,12 +312,39 @@ module _ (T : Tree) (world : IsWorld T) where
     listed_processes = lists_entries nat_cmp_total nat_cmp-IsAntisymmetric T.places;
   }
 
-  pub written_spelled : length (world_text T) ≤ 16777216 → SpellsWorld (world_text T) T
-  written_spelled = subst (λ t. length t ≤ 16777216 → SpellsWorld t T) (sym (written T)) (λ short. record {
+  spelled_in : length (text_of_version v T) ≤ 16777216 → SpellsWorld (text_of_version v T) T
+  spelled_in = subst (λ t. length t ≤ 16777216 → SpellsWorld t T) (sym (written v T)) (λ short. record {
     short = short;
-    lines = subst (AllByRecursion IsLine) (sym (lines_back (world_words T) lines_good)) (are_lines (world_words T) lines_good);
+    lines = subst (AllByRecursion IsLine) (sym (lines_back (world_words v T) lines_good)) (are_lines (world_words v T) lines_good);
+    version = v;
     statements = statements;
-    spelled = subst (λ ws. SpellsEach ws statements) (sym (statements_back (world_words T) lines_good)) spelled;
+    spelled = subst (λ ws. SpellsEach v ws statements) (sym (statements_back (world_words v T) lines_good)) spelled;
     arranged = arranged;
     sound = world.sound;
   })
+
+-- ---- the version that is written serves
+
+none_limited : (l : Limit) → is_max l ≡ true → l ≡ Max
+none_limited Max e = refl
+none_limited (UpTo n) e = absurd (cc e)
+
+suits_one : (s : Settings) → settings_fit_one s ≡ true → Suits One s
+suits_one s e =
+    let front : (cpus_fit_one s.cpus && is_max s.max_descendants) ≡ true = and_first _ (is_max s.max_depth) e in
+    (fits_up_to s.cpus (and_first (cpus_fit_one s.cpus) _ front), none_limited s.max_descendants (and_second (cpus_fit_one s.cpus) _ front), none_limited s.max_depth (and_second (cpus_fit_one s.cpus && is_max s.max_descendants) _ e))
+
+all_suit : (es : List (Path × Settings)) → list_all (λ e. settings_fit_one e.1) es ≡ true → AllByRecursion (λ e. Suits One e.1) es
+all_suit [] h = tt
+all_suit (e ∷ es) h = (suits_one e.1 (and_first (settings_fit_one e.1) _ h), all_suit es (and_second (settings_fit_one e.1) _ h))
+
+any_suits : (es : List (Path × Settings)) → AllByRecursion (λ e. Suits Two e.1) es
+any_suits [] = tt
+any_suits (e ∷ es) = (tt, any_suits es)
+
+pub written_spelled : (T : Tree) → IsWorld T → length (world_text T) ≤ 16777216 → SpellsWorld (world_text T) T
+unfolding world_text
+written_spelled T world = elim (fits_version_one T) as (λ b. fits_version_one T ≡ b → length (text_of_version (cond b One Two) T) ≤ 16777216 → SpellsWorld (text_of_version (cond b One Two) T) T) [
+  | true ↦ λ e. spelled_in One T world (fits_up_to T.online (and_first (cpus_fit_one T.online) _ e)) (all_suit (entries T.groups) (and_second (cpus_fit_one T.online) _ e))
+  | false ↦ λ e. spelled_in Two T world world.online (any_suits (entries T.groups))
+] refl

@@ -1,5 +1,5 @@
 -- What a text can say stays within the limits of worlds.
-use Rattle.std.proofs.Common.{◌≡◌, ℕ, ◌≤◌, inl, inr, Some, None, List, [], ◌∷◌, ◌++◌, map, sym, ap, subst, ◌∙◌, true≢false, Ordering}
+use Rattle.std.proofs.Common.{◌≡◌, ℕ, ◌≤◌, arith, inl, inr, Some, None, List, [], ◌∷◌, ◌++◌, map, sym, ap, subst, ◌∙◌, true≢false, Ordering}
 use Rattle.std.specs.List.{AllByRecursion}
 use Rattle.std.specs.Cmp.{IsTotalOrder, nat_cmp_total}
 use Rattle.std.specs.FinMap.{IsAntisymmetric, nat_cmp-IsAntisymmetric}
@@ -14,33 +14,46 @@ use Rattle.cg_text.specs.declared.settings.Settings.{Settings}
 use Rattle.cg_model.specs.Tree.{Tree}
 use Rattle.cg_world.specs.declared.statement.Statement.{Statement}
 use Rattle.cg_world.specs.declared.statement.Statement.TheVariants.{Version, Controllers, Online, Group, Process, End}
-use Rattle.cg_world.specs.Statement.{PrintsAskedCpus, SpellsStatement}
-use Rattle.cg_world.specs.World.{Lists, group_of, process_of, SpellsEach, SpellsWorld, IsCpusOfOne, IsSettingsOfOne, IsWorld}
+use Rattle.cg_world.specs.declared.version.Version as versions
+use Rattle.cg_world.specs.declared.version.Version.TheVariants.{One, Two}
+use Rattle.cg_world.specs.Version.{last_cpu}
+use Rattle.cg_world.specs.Statement.{AreCpusUpTo, SpellsAskedCpus, SpellsStatement}
+use Rattle.cg_world.specs.World.{Lists, group_of, process_of, SpellsEach, SpellsWorld, IsWorldSettings, IsWorld}
+use Rattle.cg_world.proofs.Limits.{are_limits}
 
 -- what a line says is within the limits
 abbrev Fits : Statement → Type 0
-Fits (Online s) = IsCpusOfOne s
-Fits (Group p s) = IsPath p × IsSettingsOfOne s
+Fits (Online s) = AreCpusUpTo 1023 s
+Fits (Group p s) = IsPath p × IsWorldSettings s
 Fits (Process k p) = (1 ≤ k) × (k ≤ 4194303)
 Fits _ = Unit {0}
 
-asked : (w : Word) (s : FiniteSet) → PrintsAskedCpus w s → IsCpusOfOne s
-asked w s (inl h) n k = absurd (true≢false (sym k ∙ ap (λ t. has t n) h.1 ∙ has-no_members n))
-asked w s (inr h) n k = h.2 n k
+no_greater : (v : versions.Version) → last_cpu v ≤ 1023
+no_greater One = omega arith
+no_greater Two = omega arith
 
-fits : (ws : List Word) (s : Statement) → SpellsStatement ws s → Fits s
-fits ws Version h = tt
-fits ws (Controllers s) h = tt
-fits ws (Online s) h = h.2.2
-fits ws (Group p s) h = (h.5.0, record { cpus = asked h.3 s.cpus h.8; max_descendants = h.9; max_depth = h.10 })
-fits ws (Process k p) h = (h.3.2, h.3.3)
-fits ws End h = tt
+up_to : (v : versions.Version) (s : FiniteSet) → AreCpusUpTo (last_cpu v) s → AreCpusUpTo 1023 s
+up_to v s h n k = omega (arith, h n k, no_greater v)
 
-all_fit : (wss : List (List Word)) (ss : List Statement) → SpellsEach wss ss → AllByRecursion Fits ss
-all_fit [] [] h = tt
-all_fit [] (s ∷ ss) h = absurd h
-all_fit (ws ∷ wss) [] h = absurd h
-all_fit (ws ∷ wss) (s ∷ ss) h = (fits ws s h.0, all_fit wss ss h.1)
+asked : (most : ℕ) (w : Word) (s : FiniteSet) → SpellsAskedCpus most w s → AreCpusUpTo most s
+asked most w s (inl h) n k = absurd (true≢false (sym k ∙ ap (λ t. has t n) h.1 ∙ has-no_members n))
+asked most w s (inr h) n k = h.2 n k
+
+fits : (v : versions.Version) (ws : List Word) (s : Statement) → SpellsStatement v ws s → Fits s
+fits v ws (Version n) h = tt
+fits v ws (Controllers s) h = tt
+fits v ws (Online s) h = up_to v s h.2.2
+fits v ws (Group p s) h =
+    let limits = are_limits v h.4 s.max_descendants s.max_depth h.10 in
+    (h.6.0, record { cpus = up_to v s.cpus (asked (last_cpu v) h.3 s.cpus h.9); max_descendants = limits.0; max_depth = limits.1 })
+fits v ws (Process k p) h = (h.3.2, h.3.3)
+fits v ws End h = tt
+
+all_fit : (v : versions.Version) (wss : List (List Word)) (ss : List Statement) → SpellsEach v wss ss → AllByRecursion Fits ss
+all_fit v [] [] h = tt
+all_fit v [] (s ∷ ss) h = absurd h
+all_fit v (ws ∷ wss) [] h = absurd h
+all_fit v (ws ∷ wss) (s ∷ ss) h = (fits v ws s h.0, all_fit v wss ss h.1)
 
 front : (xs ys : List Statement) → AllByRecursion Fits (xs ++ ys) → AllByRecursion Fits xs
 front [] ys h = tt
@@ -50,7 +63,7 @@ back : (xs ys : List Statement) → AllByRecursion Fits (xs ++ ys) → AllByRecu
 back [] ys h = h
 back (x ∷ xs) ys h = back xs ys h.1
 
-groups_fit : (gs : List (Path × Settings)) → AllByRecursion Fits (map group_of gs) → AllByRecursion (λ e. IsPath e.0 × IsSettingsOfOne e.1) gs
+groups_fit : (gs : List (Path × Settings)) → AllByRecursion Fits (map group_of gs) → AllByRecursion (λ e. IsPath e.0 × IsWorldSettings e.1) gs
 groups_fit [] h = tt
 groups_fit (g ∷ gs) h = (h.0, groups_fit gs h.1)
 
@@ -82,7 +95,7 @@ module _ {K X : Type 0} {R : K → K → Ordering} (o : IsTotalOrder R) (same : 
 pub is_world : (text : List ℕ) (T : Tree) → SpellsWorld text T → IsWorld T
 is_world text T h =
     let a = h.arranged in
-    let all = subst (AllByRecursion Fits) a.order (all_fit (statements_of text) h.statements h.spelled) in
+    let all = subst (AllByRecursion Fits) a.order (all_fit h.version (statements_of text) h.statements h.spelled) in
     let rest : AllByRecursion Fits (map group_of a.groups ++ map process_of a.processes ++ End ∷ []) = all.1.1.1 in
     let entries = front (map group_of a.groups ++ map process_of a.processes) (End ∷ []) rest in
     let gs = groups_fit a.groups (front (map group_of a.groups) (map process_of a.processes) entries) in
@@ -90,6 +103,6 @@ is_world text T h =
     record {
       sound = h.sound;
       online = all.1.1.0;
-      groups = held path_cmp_total path_cmp_exact (λ p s. IsPath p × IsSettingsOfOne s) a.groups empty T.groups (none_held path_cmp_total path_cmp_exact _) gs a.listed_groups;
+      groups = held path_cmp_total path_cmp_exact (λ p s. IsPath p × IsWorldSettings s) a.groups empty T.groups (none_held path_cmp_total path_cmp_exact _) gs a.listed_groups;
       processes = held nat_cmp_total nat_cmp-IsAntisymmetric (λ k p. (1 ≤ k) × (k ≤ 4194303)) a.processes empty T.places (none_held nat_cmp_total nat_cmp-IsAntisymmetric _) ps a.listed_processes;
     }

@@ -1,4 +1,4 @@
--- The text of a set of CPU numbers up to 127 is one short plain word.
+-- The text of a set of CPU numbers up to 1,023 is one short plain word.
 use Rattle.std.proofs.Common.{◌≡◌, ℕ, ◌+◌, ◌*◌, ◌≤◌, Bool, true, false, not, ◌==◌, ◌||◌, cond, List, [], ◌∷◌, ◌++◌, map, length, refl, sym, ap, ◌∙◌, arith, Less, length-append, eq-eqb, true≢false}
 use Rattle.std.specs.Fmt.{decimal}
 use Rattle.std.specs.List.{AllByRecursion, list_any, join_with_byte}
@@ -12,7 +12,8 @@ use Rattle.cg_maps.specs.FiniteSet.{FiniteSet, members, is_empty_set}
 use Rattle.cg_maps.proofs.Sets.{has-members, members_ascend}
 use Rattle.cg_cpus.specs.CpuList.{onto_runs, runs, run_text, cpus_text}
 use Rattle.cg_text.specs.Words.{Word, is_filled}
-use Rattle.cg_world.specs.World.{IsCpusOfOne, asked_cpus_text}
+use Rattle.cg_world.specs.Statement.{AreCpusUpTo}
+use Rattle.cg_world.specs.World.{asked_cpus_text}
 use Rattle.cg_world.proofs.LinesOfText.{is_plain, IsPlainWord, all_append}
 use Rattle.cg_world.proofs.WrittenWords.{decimal_plain, joined_plain}
 
@@ -28,8 +29,8 @@ all_found P (x ∷ xs) h = (
   all_found P xs (λ n e. h n (ap (λ b. (n == x) || b) e ∙ or_true (n == x))),
 )
 
-members_low : (s : FiniteSet) → IsCpusOfOne s → AllByRecursion (λ n. n ≤ 127) (members s)
-members_low s low = all_found (λ n. n ≤ 127) (members s) (λ n e. low n (has-members s n ∙ e))
+members_low : (s : FiniteSet) → AreCpusUpTo 1023 s → AllByRecursion (λ n. n ≤ 1023) (members s)
+members_low s low = all_found (λ n. n ≤ 1023) (members s) (λ n e. low n (has-members s n ∙ e))
 
 -- ---- how many there are
 
@@ -37,10 +38,10 @@ above : (n : ℕ) (ns : List ℕ) → AllByRecursion (λ y. nat_cmp n y ≡ Less
 above n [] h = tt
 above n (y ∷ ns) h = (grind (arith, nat_tests), above n ns h.1)
 
-few : (low : ℕ) (ns : List ℕ) → low ≤ 128 → IsStrictlySortedBy nat_cmp ns → AllByRecursion (λ n. low ≤ n) ns → AllByRecursion (λ n. n ≤ 127) ns → length ns + low ≤ 128
+few : (low : ℕ) (ns : List ℕ) → low ≤ 1024 → IsStrictlySortedBy nat_cmp ns → AllByRecursion (λ n. low ≤ n) ns → AllByRecursion (λ n. n ≤ 1023) ns → length ns + low ≤ 1024
 unfolding IsStrictlySortedBy
 few low [] l s a h = omega arith
-few low (n ∷ ns) l s a h = let r : length ns + (n + 1) ≤ 128 = few (n + 1) ns (omega (arith, h.0)) s.1 (above n ns s.0) h.1 in omega (arith, a.0)
+few low (n ∷ ns) l s a h = let r : length ns + (n + 1) ≤ 1024 = few (n + 1) ns (omega (arith, h.0)) s.1 (above n ns s.0) h.1 in omega (arith, a.0)
 
 all_from_zero : (ns : List ℕ) → AllByRecursion (λ n. 0 ≤ n) ns
 all_from_zero [] = tt
@@ -49,16 +50,16 @@ all_from_zero (n ∷ ns) = (omega arith, all_from_zero ns)
 -- ---- the runs
 
 abbrev IsLow : ℕ × ℕ → Type 0
-IsLow r = (r.0 ≤ 127) × (r.1 ≤ 127)
+IsLow r = (r.0 ≤ 1023) × (r.1 ≤ 1023)
 
-onto_low : (n : ℕ) (rs : List (ℕ × ℕ)) → n ≤ 127 → AllByRecursion IsLow rs → AllByRecursion IsLow (onto_runs n rs)
+onto_low : (n : ℕ) (rs : List (ℕ × ℕ)) → n ≤ 1023 → AllByRecursion IsLow rs → AllByRecursion IsLow (onto_runs n rs)
 onto_low n [] l h = ((l, l), tt)
 onto_low n (r ∷ rs) l h = elim (r.0 == n + 1) as (λ b. AllByRecursion IsLow (cond b ((n, r.1) ∷ rs) ((n, n) ∷ r ∷ rs))) [
   | true ↦ ((l, h.0.1), h.1)
   | false ↦ ((l, l), h)
 ]
 
-runs_low : (ns : List ℕ) → AllByRecursion (λ n. n ≤ 127) ns → AllByRecursion IsLow (runs ns)
+runs_low : (ns : List ℕ) → AllByRecursion (λ n. n ≤ 1023) ns → AllByRecursion IsLow (runs ns)
 runs_low [] h = tt
 runs_low (n ∷ ns) h = onto_low n (runs ns) h.0 (runs_low ns h.1)
 
@@ -85,7 +86,7 @@ runs_some (n ∷ ns) h = onto_some n (runs ns)
 
 record IsShortWord (w : Word) : Type 0 where
   word : IsPlainWord w
-  short : length w ≤ 7
+  short : length w ≤ 9
 
 filled_append : (v w : List ℕ) → is_filled v ≡ true → is_filled (v ++ w) ≡ true
 filled_append [] w h = absurd (true≢false (sym h))
@@ -95,8 +96,8 @@ run_short : (r : ℕ × ℕ) → IsLow r → IsShortWord (run_text r)
 run_short r low =
     let a : IsPlainWord (decimal r.0) = decimal_plain r.0 (omega (arith, low.0)) in
     let b : IsPlainWord (decimal r.1) = decimal_plain r.1 (omega (arith, low.1)) in
-    let la : length (decimal r.0) ≤ 3 = length-decimal-le 3 r.0 (omega arith) (omega (arith, low.0)) (omega (arith, low.0)) in
-    let lb : length (decimal r.1) ≤ 3 = length-decimal-le 3 r.1 (omega arith) (omega (arith, low.1)) (omega (arith, low.1)) in
+    let la : length (decimal r.0) ≤ 4 = length-decimal-le 4 r.0 (omega arith) (omega (arith, low.0)) (omega (arith, low.0)) in
+    let lb : length (decimal r.1) ≤ 4 = length-decimal-le 4 r.1 (omega arith) (omega (arith, low.1)) (omega (arith, low.1)) in
     elim (r.0 == r.1) as (λ e. IsShortWord (cond e (decimal r.0) (decimal r.0 ++ 45 ∷ decimal r.1))) [
       | true ↦ record { word = a; short = omega arith }
       | false ↦ record {
@@ -113,7 +114,7 @@ plain_words : (ws : List Word) → AllByRecursion IsShortWord ws → AllByRecurs
 plain_words [] h = tt
 plain_words (w ∷ ws) h = (h.0.word, plain_words ws h.1)
 
-joined_short : (ws : List Word) → AllByRecursion IsShortWord ws → length (join_with_byte 44 ws) ≤ 8 * length ws
+joined_short : (ws : List Word) → AllByRecursion IsShortWord ws → length (join_with_byte 44 ws) ≤ 10 * length ws
 joined_short [] h = omega arith
 joined_short (w ∷ []) h = omega (arith, h.0.short)
 joined_short (w ∷ v ∷ ws) h = let r = joined_short (v ∷ ws) h.1 in omega (arith, h.0.short, length-append w (44 ∷ join_with_byte 44 (v ∷ ws)))
@@ -123,14 +124,14 @@ joined_some [] h e = absurd (true≢false (sym e))
 joined_some (r ∷ []) h e = (run_short r h.0).word.some
 joined_some (r ∷ q ∷ rs) h e = filled_append (run_text r) (44 ∷ join_with_byte 44 (map run_text (q ∷ rs))) (run_short r h.0).word.some
 
-pub cpus_short : (s : FiniteSet) → IsCpusOfOne s → length (cpus_text s) ≤ 1024
+pub cpus_short : (s : FiniteSet) → AreCpusUpTo 1023 s → length (cpus_text s) ≤ 10240
 cpus_short s low =
     let rs : List (ℕ × ℕ) = runs (members s) in
     let each = all_short rs (runs_low (members s) (members_low s low)) in
-    let count : length (members s) + 0 ≤ 128 = few 0 (members s) (omega arith) (members_ascend s) (all_from_zero (members s)) (members_low s low) in
+    let count : length (members s) + 0 ≤ 1024 = few 0 (members s) (omega arith) (members_ascend s) (all_from_zero (members s)) (members_low s low) in
     omega (arith, joined_short (map run_text rs) each, length-map rs run_text, runs_few (members s))
 
-pub cpus_plain : (s : FiniteSet) → IsCpusOfOne s → is_empty_set s ≡ false → IsPlainWord (cpus_text s)
+pub cpus_plain : (s : FiniteSet) → AreCpusUpTo 1023 s → is_empty_set s ≡ false → IsPlainWord (cpus_text s)
 cpus_plain s low some =
     let rs : List (ℕ × ℕ) = runs (members s) in
     let runs_are = runs_low (members s) (members_low s low) in
@@ -143,14 +144,14 @@ cpus_plain s low some =
     not_false true e = refl
     not_false false e = sym e
 
-pub asked_plain : (s : FiniteSet) → IsCpusOfOne s → IsPlainWord (asked_cpus_text s)
+pub asked_plain : (s : FiniteSet) → AreCpusUpTo 1023 s → IsPlainWord (asked_cpus_text s)
 asked_plain s low = elim (is_empty_set s) as (λ b. is_empty_set s ≡ b → IsPlainWord (cond b (45 ∷ []) (cpus_text s))) [
   | true ↦ λ e. record { some = refl; plain = refl }
   | false ↦ λ e. cpus_plain s low e
 ] refl
 
-pub asked_short : (s : FiniteSet) → IsCpusOfOne s → length (asked_cpus_text s) ≤ 1024
-asked_short s low = elim (is_empty_set s) as (λ b. length (cond b (45 ∷ []) (cpus_text s)) ≤ 1024) [
+pub asked_short : (s : FiniteSet) → AreCpusUpTo 1023 s → length (asked_cpus_text s) ≤ 10240
+asked_short s low = elim (is_empty_set s) as (λ b. length (cond b (45 ∷ []) (cpus_text s)) ≤ 10240) [
   | true ↦ omega arith
   | false ↦ cpus_short s low
 ]

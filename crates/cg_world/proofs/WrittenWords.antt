@@ -19,13 +19,21 @@ use Rattle.cg_text.specs.Words.{Word, is_filled}
 use Rattle.cg_text.specs.declared.controllers.Controllers.{Controllers}
 use Rattle.cg_text.specs.declared.settings.Settings.{Settings}
 use Rattle.cg_model.specs.Tree.{Tree}
-use Rattle.cg_world.specs.World.{newline, space, text_or_minus, control_text, flag_text, asked_cpus_text, group_line, process_line, world_text}
+use Rattle.cg_world.specs.World.{newline, space, text_or_minus, control_text, flag_text, asked_cpus_text, limit_word, group_line, process_line, text_of_version}
+use Rattle.cg_world.specs.declared.version.Version.{Version}
+use Rattle.cg_world.specs.declared.version.Version.TheVariants.{One, Two}
+use Rattle.cg_world.specs.Version.{version_word}
 use Rattle.cg_world.proofs.Appending.{append_none}
 use Rattle.cg_world.proofs.LinesOfText.{is_plain, IsPlainWord, line_of, text_of, all_append}
 use Rattle.cg_world.proofs.Conjunctions.{and_both}
 
-abbrev pub group_words : Path × Settings → List Word
-group_words e = codes "group" ∷ path_text e.0 ∷ control_text e.1.control ∷ flag_text e.1.freeze ∷ asked_cpus_text e.1.cpus ∷ []
+-- the words behind a group's CPUs
+abbrev pub limit_words : Version → Settings → List Word
+limit_words One s = []
+limit_words Two s = limit_word s.max_descendants ∷ limit_word s.max_depth ∷ []
+
+abbrev pub group_words : Version → Path × Settings → List Word
+group_words v e = codes "group" ∷ path_text e.0 ∷ control_text e.1.control ∷ flag_text e.1.freeze ∷ asked_cpus_text e.1.cpus ∷ limit_words v e.1
 
 abbrev pub process_words : ℕ × Path → List Word
 process_words e = codes "proc" ∷ decimal e.0 ∷ path_text e.1 ∷ []
@@ -33,16 +41,30 @@ process_words e = codes "proc" ∷ decimal e.0 ∷ path_text e.1 ∷ []
 abbrev pub controllers_words : Controllers → List Word
 controllers_words s = codes "controllers" ∷ map controller_word (members s)
 
-abbrev pub world_words : Tree → List (List Word)
-world_words T = (codes "world" ∷ codes "1" ∷ []) ∷ controllers_words T.controllers ∷ (codes "online" ∷ cpus_text T.online ∷ []) ∷ (map group_words (entries T.groups) ++ map process_words (entries T.places) ++ (codes "end" ∷ []) ∷ [])
+abbrev pub world_words : Version → Tree → List (List Word)
+world_words v T = (codes "world" ∷ version_word v ∷ []) ∷ controllers_words T.controllers ∷ (codes "online" ∷ cpus_text T.online ∷ []) ∷ (map (group_words v) (entries T.groups) ++ map process_words (entries T.places) ++ (codes "end" ∷ []) ∷ [])
 
 -- ---- the text is that of the words
 
-group_is : (e : Path × Settings) → group_line e ≡ line_of (group_words e) ++ 10 ∷ []
-group_is e = regroup (path_text e.0) (control_text e.1.control) (flag_text e.1.freeze) (asked_cpus_text e.1.cpus)
-  where
-    regroup : (p c f u : List ℕ) → codes "group " ++ p ++ space ++ c ++ space ++ f ++ space ++ u ++ newline ≡ line_of (codes "group" ∷ p ∷ c ∷ f ∷ u ∷ []) ++ 10 ∷ []
-    regroup p c f u = simp append_assoc
+-- a group's line, whatever stands behind its CPUs
+row : (p c f u t : List ℕ) → codes "group " ++ p ++ space ++ c ++ space ++ f ++ space ++ u ++ t ++ newline ≡ (codes "group" ++ 32 ∷ (p ++ 32 ∷ (c ++ 32 ∷ (f ++ 32 ∷ (u ++ t))))) ++ 10 ∷ []
+row p c f u t = simp append_assoc
+
+group_is : (v : Version) (e : Path × Settings) → group_line v e ≡ line_of (group_words v e) ++ 10 ∷ []
+group_is One e =
+    let p : List ℕ = path_text e.0 in
+    let c : List ℕ = control_text e.1.control in
+    let f : List ℕ = flag_text e.1.freeze in
+    let u : List ℕ = asked_cpus_text e.1.cpus in
+    row p c f u [] ∙ ap (λ t. (codes "group" ++ 32 ∷ (p ++ 32 ∷ (c ++ 32 ∷ (f ++ 32 ∷ t)))) ++ 10 ∷ []) (append_none u)
+group_is Two e =
+    let p : List ℕ = path_text e.0 in
+    let c : List ℕ = control_text e.1.control in
+    let f : List ℕ = flag_text e.1.freeze in
+    let u : List ℕ = asked_cpus_text e.1.cpus in
+    let a : List ℕ = limit_word e.1.max_descendants in
+    let b : List ℕ = limit_word e.1.max_depth in
+    row p c f u (space ++ a ++ space ++ b) ∙ ap (λ t. (codes "group" ++ 32 ∷ (p ++ 32 ∷ (c ++ 32 ∷ (f ++ 32 ∷ (u ++ 32 ∷ t))))) ++ 10 ∷ []) (append_assoc a space b)
 
 process_is : (e : ℕ × Path) → process_line e ≡ line_of (process_words e) ++ 10 ∷ []
 process_is e = regroup (decimal e.0) (path_text e.1)
@@ -58,18 +80,18 @@ lines_are : {E : Type 0} (line : E → List ℕ) (words : E → List Word) → (
 lines_are line words h [] = refl
 lines_are line words h (e ∷ es) = λ i. h e i ++ lines_are line words h es i
 
-whole : (w k f n o u g p e : List ℕ) → w ++ n ++ k ++ f ++ n ++ o ++ u ++ n ++ g ++ p ++ e ++ n ≡ (w ++ n) ++ (((k ++ f) ++ n) ++ (((o ++ u) ++ n) ++ ((g ++ p) ++ ((e ++ n) ++ []))))
-whole w k f n o u g p e = simp (append_assoc, append_none)
+whole : (w d k f n o u g p e : List ℕ) → w ++ d ++ n ++ k ++ f ++ n ++ o ++ u ++ n ++ g ++ p ++ e ++ n ≡ ((w ++ d) ++ n) ++ (((k ++ f) ++ n) ++ (((o ++ u) ++ n) ++ ((g ++ p) ++ ((e ++ n) ++ []))))
+whole w d k f n o u g p e = simp (append_assoc, append_none)
 
-pub written : (T : Tree) → world_text T ≡ text_of (world_words T)
-unfolding world_text
-written T =
-    let G : List (List Word) = map group_words (entries T.groups) in
+pub written : (v : Version) (T : Tree) → text_of_version v T ≡ text_of (world_words v T)
+unfolding text_of_version
+written v T =
+    let G : List (List Word) = map (group_words v) (entries T.groups) in
     let P : List (List Word) = map process_words (entries T.places) in
     let E : List (List Word) = (codes "end" ∷ []) ∷ [] in
-    let front : List ℕ → List ℕ → List ℕ = λ c r. (codes "world 1" ++ newline) ++ ((c ++ newline) ++ (((codes "online " ++ cpus_text T.online) ++ newline) ++ r)) in
-    whole (codes "world 1") (codes "controllers") (flat_map (λ c. space ++ controller_word c) (members T.controllers)) newline (codes "online ") (cpus_text T.online) (flat_map group_line (entries T.groups)) (flat_map process_line (entries T.places)) (codes "end")
-    ∙ (λ i. front (names_are (codes "controllers") (members T.controllers) i) ((lines_are group_line group_words group_is (entries T.groups) i ++ lines_are process_line process_words process_is (entries T.places) i) ++ text_of E))
+    let front : List ℕ → List ℕ → List ℕ = λ c r. ((codes "world " ++ version_word v) ++ newline) ++ ((c ++ newline) ++ (((codes "online " ++ cpus_text T.online) ++ newline) ++ r)) in
+    whole (codes "world ") (version_word v) (codes "controllers") (flat_map (λ c. space ++ controller_word c) (members T.controllers)) newline (codes "online ") (cpus_text T.online) (flat_map (group_line v) (entries T.groups)) (flat_map process_line (entries T.places)) (codes "end")
+    ∙ (λ i. front (names_are (codes "controllers") (members T.controllers) i) ((lines_are (group_line v) (group_words v) (group_is v) (entries T.groups) i ++ lines_are process_line process_words process_is (entries T.places) i) ++ text_of E))
     ∙ ap (front (line_of (controllers_words T.controllers))) (ap (λ t. t ++ text_of E) (sym (flat_map-append (λ ws. line_of ws ++ 10 ∷ []) G P)) ∙ sym (flat_map-append (λ ws. line_of ws ++ 10 ∷ []) (G ++ P) E))
 
 -- ---- each word is plain
@@ -123,5 +145,5 @@ pub filled : (t : List ℕ) → 0 < length t → is_filled t ≡ true
 filled [] h = absurd (omega arith)
 filled (b ∷ t) h = refl
 
-pub decimal_plain : (n : ℕ) → n < 4194304 → IsPlainWord (decimal n)
+pub decimal_plain : (n : ℕ) → n < 2147483648 → IsPlainWord (decimal n)
 decimal_plain n l = let h = decimal_is_IsNumeral n (omega arith) in record { some = filled (decimal n) h.0.0; plain = digits_plain (decimal n) h.0.1 }

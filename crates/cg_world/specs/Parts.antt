@@ -1,11 +1,12 @@
 -- The settings that the words of a group's line spell.
-use Rattle.std.specs.Prelude.{◌≡◌}
+use Rattle.std.specs.Prelude.{List}
 use Rattle.cg_text.specs.Words.{Word}
-use Rattle.cg_text.specs.declared.limit.Limit.TheVariants.{Max}
 use Rattle.cg_text.specs.declared.settings.Settings.{Settings}
-use Rattle.cg_world.specs.Statement.{SpellsControl, SpellsFlag, PrintsAskedCpus}
+use Rattle.cg_world.specs.declared.version.Version.{Version}
+use Rattle.cg_world.specs.Version.{last_cpu}
+use Rattle.cg_world.specs.Statement.{SpellsControl, SpellsFlag, SpellsAskedCpus, SpellsLimits}
 
--- the three words behind a group's path spell its settings
-abbrev pub SpellsSettings : Word → Word → Word → Settings → Type 0
-SpellsSettings control freeze cpus s =
-    SpellsControl control s.control × SpellsFlag freeze s.freeze × PrintsAskedCpus cpus s.cpus × (s.max_descendants ≡ Max) × (s.max_depth ≡ Max)
+-- the words behind a group's path spell its settings
+abbrev pub SpellsSettings : Version → Word → Word → Word → List Word → Settings → Type 0
+SpellsSettings v control freeze cpus limits s =
+    SpellsControl control s.control × SpellsFlag freeze s.freeze × SpellsAskedCpus (last_cpu v) cpus s.cpus × SpellsLimits v limits s.max_descendants s.max_depth

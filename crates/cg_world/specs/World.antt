@@ -1,23 +1,29 @@
 -- World texts: which tree a text spells, and the one text that is written for a tree.
-use Rattle.std.specs.Prelude.{◌≡◌, ℕ, ◌≤◌, Bool, true, false, cond, List, [], ◌∷◌, ◌++◌, map, length, Some, None, codes}
-use Rattle.std.specs.List.{flat_map, AllByRecursion, join_with_byte}
+use Rattle.std.specs.Prelude.{◌≡◌, ℕ, ◌≤◌, ◌&&◌, nat_le, Bool, true, false, cond, List, [], ◌∷◌, ◌++◌, map, length, Some, None, codes}
+use Rattle.std.specs.List.{flat_map, AllByRecursion, join_with_byte, list_all}
 use Rattle.std.specs.Fmt.{decimal}
 use Rattle.std.specs.declared.cmp.Ordering.{Ordering}
 use Rattle.cg_maps.specs.FiniteMap.{FiniteMap, get, set_at, entries, empty}
-use Rattle.cg_maps.specs.FiniteSet.{FiniteSet, has, is_empty_set}
+use Rattle.cg_maps.specs.FiniteSet as sets
+use Rattle.cg_maps.specs.FiniteSet.{FiniteSet, is_empty_set}
 use Rattle.cg_name.specs.Controller.{controller_word}
 use Rattle.cg_name.specs.Path.{Path, IsPath, path_text}
 use Rattle.cg_cpus.specs.CpuList.{cpus_text}
 use Rattle.cg_text.specs.Words.{Word, IsLine, lines_of, statements_of}
 use Rattle.cg_text.specs.Controllers.{members}
 use Rattle.cg_text.specs.declared.controllers.Controllers as controllers
-use Rattle.cg_text.specs.declared.limit.Limit.TheVariants.{Max}
+use Rattle.cg_text.specs.Laws.{IsLimit}
+use Rattle.cg_text.specs.declared.limit.Limit.{Limit}
+use Rattle.cg_text.specs.declared.limit.Limit.TheVariants.{Max, UpTo}
 use Rattle.cg_text.specs.declared.settings.Settings.{Settings}
 use Rattle.cg_model.specs.Tree.{Tree, group, place_of}
 use Rattle.cg_model.specs.Sound.{Sound}
 use Rattle.cg_world.specs.declared.statement.Statement.{Statement}
 use Rattle.cg_world.specs.declared.statement.Statement.TheVariants.{Version, Controllers, Online, Group, Process, End}
-use Rattle.cg_world.specs.Statement.{SpellsStatement}
+use Rattle.cg_world.specs.declared.version.Version as versions
+use Rattle.cg_world.specs.declared.version.Version.TheVariants.{One, Two}
+use Rattle.cg_world.specs.Version.{version_word}
+use Rattle.cg_world.specs.Statement.{SpellsStatement, AreCpusUpTo}
 
 -- the entries are put into the map one after another, each at a key that is still free
 abbrev pub Lists : {K X : Type 0} {R : K → K → Ordering} → FiniteMap R X → List (K × X) → FiniteMap R X → Type 0
@@ -31,43 +37,59 @@ abbrev pub process_of : ℕ × Path → Statement
 process_of e = Process e.0 e.1
 
 -- a world's lines in their order: its groups and its processes, none of them twice
-pub record Arranges (lines : List Statement) (T : Tree) : Type 0 where
+pub record Arranges (version : versions.Version) (lines : List Statement) (T : Tree) : Type 0 where
   pub groups : List (Path × Settings)
   pub processes : List (ℕ × Path)
-  pub order : lines ≡ Version ∷ Controllers T.controllers ∷ Online T.online ∷ (map group_of groups ++ map process_of processes ++ End ∷ [])
+  pub order : lines ≡ Version version ∷ Controllers T.controllers ∷ Online T.online ∷ (map group_of groups ++ map process_of processes ++ End ∷ [])
   pub listed_groups : Lists empty groups T.groups
   pub listed_processes : Lists empty processes T.places
 
 -- each line's words spell what the line says
-abbrev pub SpellsEach : List (List Word) → List Statement → Type 0
-SpellsEach [] [] = Unit {0}
-SpellsEach [] (s ∷ ss) = ⊥
-SpellsEach (w ∷ ws) [] = ⊥
-SpellsEach (w ∷ ws) (s ∷ ss) = SpellsStatement w s × SpellsEach ws ss
+abbrev pub SpellsEach : versions.Version → List (List Word) → List Statement → Type 0
+SpellsEach v [] [] = Unit {0}
+SpellsEach v [] (s ∷ ss) = ⊥
+SpellsEach v (w ∷ ws) [] = ⊥
+SpellsEach v (w ∷ ws) (s ∷ ss) = SpellsStatement v w s × SpellsEach v ws ss
 
--- a text of at most 16 MiB, of good lines, spells a sound tree
+-- a text of at most 16 MiB, of good lines, spells a sound tree in one of the versions
 pub record SpellsWorld (text : List ℕ) (T : Tree) : Type 0 where
   pub short : length text ≤ 16777216
   pub lines : AllByRecursion IsLine (lines_of text)
+  pub version : versions.Version
   pub statements : List Statement
-  pub spelled : SpellsEach (statements_of text) statements
-  pub arranged : Arranges statements T
+  pub spelled : SpellsEach version (statements_of text) statements
+  pub arranged : Arranges version statements T
   pub sound : Sound T
 
--- what a world of version 1 can hold: paths and PIDs within their limits, CPU numbers up to 127, and no limits on groups
-abbrev pub IsCpusOfOne : FiniteSet → Type 0
-IsCpusOfOne s = (n : ℕ) → has s n ≡ true → n ≤ 127
-
-pub record IsSettingsOfOne (s : Settings) : Type 0 where
-  pub cpus : IsCpusOfOne s.cpus
-  pub max_descendants : s.max_descendants ≡ Max
-  pub max_depth : s.max_depth ≡ Max
+-- what a world can hold: paths and PIDs within their limits, CPU numbers up to 1,023, and limits that a text can name
+pub record IsWorldSettings (s : Settings) : Type 0 where
+  pub cpus : AreCpusUpTo 1023 s.cpus
+  pub max_descendants : IsLimit s.max_descendants
+  pub max_depth : IsLimit s.max_depth
 
 pub record IsWorld (T : Tree) : Type 0 where
   pub sound : Sound T
-  pub online : IsCpusOfOne T.online
-  pub groups : (p : Path) (s : Settings) → group T p ≡ Some s → IsPath p × IsSettingsOfOne s
+  pub online : AreCpusUpTo 1023 T.online
+  pub groups : (p : Path) (s : Settings) → group T p ≡ Some s → IsPath p × IsWorldSettings s
   pub processes : (k : ℕ) (p : Path) → place_of T k ≡ Some p → (1 ≤ k) × (k ≤ 4194303)
+
+-- ---- the version that is written: 1 where no CPU number is above 127 and no group has a limit
+
+abbrev pub cpus_fit_one : FiniteSet → Bool
+cpus_fit_one s = list_all (λ n. nat_le n 127) (sets.members s)
+
+abbrev pub is_max : Limit → Bool
+is_max Max = true
+is_max (UpTo n) = false
+
+abbrev pub settings_fit_one : Settings → Bool
+settings_fit_one s = cpus_fit_one s.cpus && is_max s.max_descendants && is_max s.max_depth
+
+abbrev pub fits_version_one : Tree → Bool
+fits_version_one T = cpus_fit_one T.online && list_all (λ e. settings_fit_one e.1) (entries T.groups)
+
+abbrev pub written_version : Tree → versions.Version
+written_version T = cond (fits_version_one T) One Two
 
 -- ---- the text that is written
 
@@ -92,18 +114,33 @@ flag_text true = codes "1"
 abbrev pub asked_cpus_text : FiniteSet → List ℕ
 asked_cpus_text s = cond (is_empty_set s) (codes "-") (cpus_text s)
 
-abbrev pub group_line : Path × Settings → List ℕ
-group_line e = codes "group " ++ path_text e.0 ++ space ++ control_text e.1.control ++ space ++ flag_text e.1.freeze ++ space ++ asked_cpus_text e.1.cpus ++ newline
+abbrev pub limit_word : Limit → List ℕ
+limit_word Max = codes "max"
+limit_word (UpTo n) = decimal n
+
+-- the limits on descendants and on depth, which version 1 has not
+abbrev pub limits_text : versions.Version → Settings → List ℕ
+limits_text One s = []
+limits_text Two s = space ++ limit_word s.max_descendants ++ space ++ limit_word s.max_depth
+
+abbrev pub group_line : versions.Version → Path × Settings → List ℕ
+group_line v e =
+    codes "group " ++ path_text e.0 ++ space ++ control_text e.1.control ++ space ++ flag_text e.1.freeze ++ space ++ asked_cpus_text e.1.cpus
+    ++ limits_text v e.1 ++ newline
 
 abbrev pub process_line : ℕ × Path → List ℕ
 process_line e = codes "proc " ++ decimal e.0 ++ space ++ path_text e.1 ++ newline
 
--- the groups in the order of their paths, the processes by ascending PID
-unfoldable pub world_text : Tree → List ℕ
-world_text T =
-    codes "world 1" ++ newline
+-- the text of one version: the groups in the order of their paths, the processes by ascending PID
+unfoldable pub text_of_version : versions.Version → Tree → List ℕ
+text_of_version v T =
+    codes "world " ++ version_word v ++ newline
     ++ codes "controllers" ++ flat_map (λ c. space ++ controller_word c) (members T.controllers) ++ newline
     ++ codes "online " ++ cpus_text T.online ++ newline
-    ++ flat_map group_line (entries T.groups)
+    ++ flat_map (group_line v) (entries T.groups)
     ++ flat_map process_line (entries T.places)
     ++ codes "end" ++ newline
+
+-- the text that is written
+unfoldable pub world_text : Tree → List ℕ
+world_text T = text_of_version (written_version T) T

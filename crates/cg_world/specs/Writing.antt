@@ -6,12 +6,14 @@ use Rattle.cg_name.specs.Controller.{controller_word}
 use Rattle.cg_cpus.specs.CpuList.{cpus_text}
 use Rattle.cg_text.specs.Controllers.{members}
 use Rattle.cg_text.specs.declared.controllers.Controllers.{Controllers}
+use Rattle.cg_world.specs.declared.version.Version.{Version}
+use Rattle.cg_world.specs.Version.{version_word}
 use Rattle.cg_world.specs.World.{newline, space}
 
 -- the lines of the version, the machine's controllers and the CPUs that are online
-abbrev pub machine_lines : Controllers → FiniteSet → List ℕ
-machine_lines s online =
-    codes "world 1" ++ newline
+abbrev pub machine_lines : Version → Controllers → FiniteSet → List ℕ
+machine_lines v s online =
+    codes "world " ++ version_word v ++ newline
     ++ codes "controllers" ++ flat_map (λ c. space ++ controller_word c) (members s) ++ newline
     ++ codes "online " ++ cpus_text online ++ newline
 

@@ -1,6 +1,8 @@
 //! Worlds: plain trees and their text.
 #![tactic(auto)]
 
+mod counting;
+mod fitting;
 pub mod laws;
 mod parts;
 pub mod plain;
@@ -10,5 +12,6 @@ mod stage;
 pub mod statement;
 #[cfg(test)]
 mod tests;
+pub mod version;
 pub mod world;
 mod writing;

@@ -1,26 +1,24 @@
 //! The words of which the lines of a world text are made.
 ghost use Rattle.std.specs.Prelude.{◌≡◌, ◌∷◌, [], IfOk, IfErr, OnOk, OnErr, List, ℕ, Bool, map};
-ghost use Rattle.std.specs.Result.{IsErrOf};
 ghost use Rattle.cg_maps.specs.FiniteSet.{FiniteSet};
 ghost use Rattle.cg_name.specs.declared.refusal.Refusal.TheVariants.{Syntax};
-ghost use Rattle.cg_name.specs.Refusal.{IsSyntaxOrMemory};
 ghost use Rattle.cg_text.specs.Words.{Word};
 ghost use Rattle.cg_text.specs.Controllers.{no_controllers};
 ghost use Rattle.cg_text.specs.declared.controllers.Controllers as controllers;
+ghost use Rattle.cg_text.specs.declared.limit.Limit as limit;
 ghost use Rattle.cg_text.specs.declared.settings.Settings as settings;
-ghost use Rattle.cg_world.specs.Statement.{AddsControllers, SpellsControl, SpellsFlag, PrintsCpus, PrintsAskedCpus, SpellsPid};
+ghost use Rattle.cg_world.specs.Statement.{AddsControllers, SpellsControl, SpellsFlag, SpellsSomeCpus, SpellsAskedCpus, SpellsLimits, SpellsPid};
+ghost use Rattle.cg_world.specs.Version.{last_cpu};
 ghost use Rattle.cg_world.specs.Parts.{SpellsSettings};
 
+use crate::version::Version;
 use cg_cpus::cpu_set::CpuSet;
 use cg_name::controller::Controller;
 use cg_name::refusal::Refusal;
 use cg_text::controllers::Controllers;
 use cg_text::limit::Limit;
+use cg_text::reading::read_limit;
 use cg_text::settings::Settings;
-use std::alloc::Global;
-
-// The greatest CPU number of a world of version 1.
-const LAST_CPU: u16 = 127;
 
 // The greatest PID.
 const LAST_PID: u32 = 4_194_303;
@@ -81,56 +79,71 @@ fn read_flag(word: &str) -> Result<bool, Refusal>
     }
 }
 
-// The CPUs of a list in its printed form: at least one, none above 127.
-pub(crate) fn read_cpus(alloc: Global, word: &str) -> Result<CpuSet, Refusal>
-    ensures value { IfOk result (λ cpus. PrintsCpus word.now cpus) }
-    ensures syntax { IsErrOf result Refusal.Syntax → (cpus : FiniteSet) → PrintsCpus word.now cpus → ⊥ }
-    ensures refusals { IfErr result IsSyntaxOrMemory }
+// The CPUs of a list: at least one, none above the version's greatest.
+pub(crate) fn read_cpus(version: Version, word: &str) -> Result<CpuSet, Refusal>
+    ensures value { IfOk result (λ cpus. SpellsSomeCpus (last_cpu version) word.now cpus) }
+    ensures syntax { OnErr result ((cpus : FiniteSet) → SpellsSomeCpus (last_cpu version) word.now cpus → ⊥) }
+    ensures refusals { IfErr result (λ e. e ≡ Syntax) }
 {
     let cpus = CpuSet::read(word)?;
     let Some(last) = cpus.last() else {
         return Err(Refusal::Syntax);
     };
-    if last > LAST_CPU {
-        return Err(Refusal::Syntax);
-    }
-    let mut printed = Vec::new(alloc);
-    cpus.write(&mut printed)?;
-    if printed.as_slice() != word.as_bytes() {
+    if last > version.last_cpu() {
         return Err(Refusal::Syntax);
     }
     Ok(cpus)
 }
 
 // Such a list, or no CPU for a minus.
-fn read_asked_cpus(alloc: Global, word: &str) -> Result<CpuSet, Refusal>
-    ensures value { IfOk result (λ cpus. PrintsAskedCpus word.now cpus) }
-    ensures syntax { IsErrOf result Refusal.Syntax → (cpus : FiniteSet) → PrintsAskedCpus word.now cpus → ⊥ }
-    ensures refusals { IfErr result IsSyntaxOrMemory }
+fn read_asked_cpus(version: Version, word: &str) -> Result<CpuSet, Refusal>
+    ensures value { IfOk result (λ cpus. SpellsAskedCpus (last_cpu version) word.now cpus) }
+    ensures syntax { OnErr result ((cpus : FiniteSet) → SpellsAskedCpus (last_cpu version) word.now cpus → ⊥) }
+    ensures refusals { IfErr result (λ e. e ≡ Syntax) }
 {
     match word {
         "-" => Ok(CpuSet::empty()),
-        _ => read_cpus(alloc, word),
+        _ => read_cpus(version, word),
     }
 }
 
-// The settings of a group, from the three words behind its path.
+// The limits on descendants and on depth, from the words behind a group's CPUs.
+fn read_limits(version: Version, words: &[&str]) -> Result<(Limit, Limit), Refusal>
+    ensures value { IfOk result (λ limits. SpellsLimits version (map (λ w. w.now) words.now) limits.0 limits.1) }
+    ensures syntax { OnErr result ((descendants depth : limit.Limit) → SpellsLimits version (map (λ w. w.now) words.now) descendants depth → ⊥) }
+    ensures refusals { IfErr result (λ e. e ≡ Syntax) }
+{
+    match version {
+        Version::One => match words {
+            [] => Ok((Limit::Max, Limit::Max)),
+            _ => Err(Refusal::Syntax),
+        },
+        Version::Two => match words {
+            [descendants, depth] => Ok((read_limit(descendants)?, read_limit(depth)?)),
+            _ => Err(Refusal::Syntax),
+        },
+    }
+}
+
+// The settings of a group, from the words behind its path.
 pub(crate) fn read_settings(
-    alloc: Global,
+    version: Version,
     control: &str,
     freeze: &str,
     cpus: &str,
+    limits: &[&str],
 ) -> Result<Settings, Refusal>
-    ensures value { IfOk result (λ s. SpellsSettings control.now freeze.now cpus.now s) }
-    ensures syntax { IsErrOf result Refusal.Syntax → (s : settings.Settings) → SpellsSettings control.now freeze.now cpus.now s → ⊥ }
-    ensures refusals { IfErr result IsSyntaxOrMemory }
+    ensures value { IfOk result (λ s. SpellsSettings version control.now freeze.now cpus.now (map (λ w. w.now) limits.now) s) }
+    ensures syntax { OnErr result ((s : settings.Settings) → SpellsSettings version control.now freeze.now cpus.now (map (λ w. w.now) limits.now) s → ⊥) }
+    ensures refusals { IfErr result (λ e. e ≡ Syntax) }
 {
+    let (max_descendants, max_depth) = read_limits(version, limits)?;
     Ok(Settings {
         control: read_control(control)?,
         freeze: read_flag(freeze)?,
-        cpus: read_asked_cpus(alloc, cpus)?,
-        max_descendants: Limit::Max,
-        max_depth: Limit::Max,
+        cpus: read_asked_cpus(version, cpus)?,
+        max_descendants,
+        max_depth,
     })
 }
 

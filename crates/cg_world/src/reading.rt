@@ -51,7 +51,7 @@ fn read_tree(alloc: Global, text: &[u8]) -> Result<PlainTree, Refusal>
         stage = take_line(alloc, stage, line)?;
     }
     match stage {
-        Stage::Ended(tree) => Ok(tree),
+        Stage::Ended(_, tree) => Ok(tree),
         _ => Err(Refusal::Syntax),
     }
 }
@@ -65,6 +65,6 @@ fn take_line(alloc: Global, stage: Stage, line: &[u8]) -> Result<Stage, Refusal>
     let Some(words) = read_words(alloc, line)? else {
         return Ok(stage);
     };
-    let statement = Statement::read(alloc, words.as_slice())?;
+    let statement = Statement::read(alloc, stage.version(), words.as_slice())?;
     stage.take(alloc, statement)
 }

@@ -4,10 +4,11 @@ ghost use Rattle.std.specs.Result.{IsErrOf};
 ghost use Rattle.cg_name.specs.Refusal.{IsSyntaxOrMemory};
 ghost use Rattle.cg_world.specs.declared.stage.Stage.TheVariants.{Groups, Processes};
 ghost use Rattle.cg_world.specs.declared.statement.Statement.TheVariants.{Group, Process};
-ghost use Rattle.cg_world.specs.Stage.{taken};
+ghost use Rattle.cg_world.specs.Stage.{taken, version_at};
 
 use crate::plain::PlainTree;
 use crate::statement::Statement;
+use crate::version::Version;
 use cg_name::path::Path;
 use cg_name::refusal::Refusal;
 use cg_text::controllers::Controllers;
@@ -20,18 +21,32 @@ pub(crate) enum Stage {
     /// Nothing.
     Begun,
     /// The version.
-    Versioned,
+    Versioned(Version),
     /// The machine's controllers too.
-    Controlled(Controllers),
+    Controlled(Version, Controllers),
     /// The online CPUs too, and these groups.
-    Groups(PlainTree),
+    Groups(Version, PlainTree),
     /// All groups, and these processes.
-    Processes(PlainTree),
+    Processes(Version, PlainTree),
     /// All.
-    Ended(PlainTree),
+    Ended(Version, PlainTree),
 }
 
 impl Stage {
+    /// The version by which the next line is read: the one that was named, and either before that.
+    pub(crate) fn version(&self) -> Version
+        ensures { result ≡ version_at self.now }
+    {
+        match self {
+            Stage::Versioned(version)
+            | Stage::Controlled(version, _)
+            | Stage::Groups(version, _)
+            | Stage::Processes(version, _)
+            | Stage::Ended(version, _) => *version,
+            Stage::Begun => Version::One,
+        }
+    }
+
     /// The stage behind one line more; `Syntax` where the line can't stand there.
     pub(crate) fn take(self, alloc: Global, statement: Statement) -> Result<Stage, Refusal>
         ensures value { IfOk result (λ next. taken self statement ≡ Some next) }
@@ -40,57 +55,68 @@ impl Stage {
     {
         match self {
             Stage::Begun => match statement {
-                Statement::Version => Ok(Stage::Versioned),
+                Statement::Version(version) => Ok(Stage::Versioned(version)),
                 _ => Err(Refusal::Syntax),
             },
-            Stage::Versioned => match statement {
-                Statement::Controllers(controllers) => Ok(Stage::Controlled(controllers)),
+            Stage::Versioned(version) => match statement {
+                Statement::Controllers(controllers) => Ok(Stage::Controlled(version, controllers)),
                 _ => Err(Refusal::Syntax),
             },
-            Stage::Controlled(controllers) => match statement {
-                Statement::Online(online) => {
-                    Ok(Stage::Groups(PlainTree::new(alloc, controllers, online)))
-                }
+            Stage::Controlled(version, controllers) => match statement {
+                Statement::Online(online) => Ok(Stage::Groups(
+                    version,
+                    PlainTree::new(alloc, controllers, online),
+                )),
                 _ => Err(Refusal::Syntax),
             },
-            Stage::Groups(tree) => match statement {
-                Statement::Group(path, settings) => add_group(tree, path, settings),
-                Statement::Process(pid, path) => add_process(tree, pid, path),
-                Statement::End => Ok(Stage::Ended(tree)),
+            Stage::Groups(version, tree) => match statement {
+                Statement::Group(path, settings) => add_group(version, tree, path, settings),
+                Statement::Process(pid, path) => add_process(version, tree, pid, path),
+                Statement::End => Ok(Stage::Ended(version, tree)),
                 _ => Err(Refusal::Syntax),
             },
-            Stage::Processes(tree) => match statement {
-                Statement::Process(pid, path) => add_process(tree, pid, path),
-                Statement::End => Ok(Stage::Ended(tree)),
+            Stage::Processes(version, tree) => match statement {
+                Statement::Process(pid, path) => add_process(version, tree, pid, path),
+                Statement::End => Ok(Stage::Ended(version, tree)),
                 _ => Err(Refusal::Syntax),
             },
-            Stage::Ended(_) => Err(Refusal::Syntax),
+            Stage::Ended(_, _) => Err(Refusal::Syntax),
         }
     }
 }
 
 // The stage behind a group's line.
-fn add_group(mut tree: PlainTree, path: Path, settings: Settings) -> Result<Stage, Refusal>
-    ensures value { IfOk result (λ next. taken (Groups tree) (Group path settings) ≡ Some next) }
-    ensures syntax { IsErrOf result Refusal.Syntax → taken (Groups tree) (Group path settings) ≡ None }
+fn add_group(
+    version: Version,
+    mut tree: PlainTree,
+    path: Path,
+    settings: Settings,
+) -> Result<Stage, Refusal>
+    ensures value { IfOk result (λ next. taken (Groups version tree) (Group path settings) ≡ Some next) }
+    ensures syntax { IsErrOf result Refusal.Syntax → taken (Groups version tree) (Group path settings) ≡ None }
     ensures refusals { IfErr result IsSyntaxOrMemory }
 {
     if tree.settings(&path).is_some() {
         return Err(Refusal::Syntax);
     }
     tree.set_group(path, settings)?;
-    Ok(Stage::Groups(tree))
+    Ok(Stage::Groups(version, tree))
 }
 
 // The stage behind a process's line.
-fn add_process(mut tree: PlainTree, pid: u32, path: Path) -> Result<Stage, Refusal>
-    ensures value { IfOk result (λ next. taken (Processes tree) (Process pid path) ≡ Some next) }
-    ensures syntax { IsErrOf result Refusal.Syntax → taken (Processes tree) (Process pid path) ≡ None }
+fn add_process(
+    version: Version,
+    mut tree: PlainTree,
+    pid: u32,
+    path: Path,
+) -> Result<Stage, Refusal>
+    ensures value { IfOk result (λ next. taken (Processes version tree) (Process pid path) ≡ Some next) }
+    ensures syntax { IsErrOf result Refusal.Syntax → taken (Processes version tree) (Process pid path) ≡ None }
     ensures refusals { IfErr result IsSyntaxOrMemory }
 {
     if tree.location(pid).is_some() {
         return Err(Refusal::Syntax);
     }
     tree.set_place(pid, path)?;
-    Ok(Stage::Processes(tree))
+    Ok(Stage::Processes(version, tree))
 }

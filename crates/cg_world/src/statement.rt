@@ -7,6 +7,7 @@ ghost use Rattle.cg_world.specs.declared.statement.Statement as statement;
 ghost use Rattle.cg_world.specs.Statement.{SpellsStatement};
 
 use crate::parts::{read_controllers, read_cpus, read_pid, read_settings};
+use crate::version::Version;
 use cg_cpus::cpu_set::CpuSet;
 use cg_name::path::Path;
 use cg_name::refusal::Refusal;
@@ -17,8 +18,8 @@ use std::alloc::Global;
 /// What one line of a world text says.
 #[derive(Drop)]
 pub enum Statement {
-    /// `world 1`
-    Version,
+    /// `world` and the version.
+    Version(Version),
     /// `controllers` and the machine's controllers.
     Controllers(Controllers),
     /// `online` and the CPUs that are online.
@@ -32,71 +33,72 @@ pub enum Statement {
 }
 
 impl Statement {
-    /// What the words of a line say; `Syntax` where they say nothing that a world text may, `Memory` where there
-    /// is none for a path.
-    pub fn read(alloc: Global, words: &[&str]) -> Result<Statement, Refusal>
-        ensures value { IfOk result (λ s. SpellsStatement (map (λ w. w.now) words.now) s) }
-        ensures syntax { IsErrOf result Refusal.Syntax → (s : statement.Statement) → SpellsStatement (map (λ w. w.now) words.now) s → ⊥ }
+    /// What the words of a line say in a text of the version; `Syntax` where they say nothing that it may, `Memory`
+    /// where there is none for a path.
+    pub fn read(alloc: Global, version: Version, words: &[&str]) -> Result<Statement, Refusal>
+        ensures value { IfOk result (λ s. SpellsStatement version (map (λ w. w.now) words.now) s) }
+        ensures syntax { IsErrOf result Refusal.Syntax → (s : statement.Statement) → SpellsStatement version (map (λ w. w.now) words.now) s → ⊥ }
         ensures refusals { IfErr result IsSyntaxOrMemory }
     {
         let [keyword, rest @ ..] = words else {
             return Err(Refusal::Syntax);
         };
         match *keyword {
-            "world" => read_version(rest),
+            "world" => read_version(version, rest),
             "controllers" => Ok(Statement::Controllers(read_controllers(rest)?)),
-            "online" => read_online(alloc, rest),
-            "group" => read_group(alloc, rest),
-            "proc" => read_process(alloc, rest),
-            "end" => read_end(rest),
+            "online" => read_online(version, rest),
+            "group" => read_group(alloc, version, rest),
+            "proc" => read_process(alloc, version, rest),
+            "end" => read_end(version, rest),
             _ => Err(Refusal::Syntax),
         }
     }
 }
 
-// The version, from what stands behind `world`.
-fn read_version(rest: &[&str]) -> Result<Statement, Refusal>
-    ensures value { IfOk result (λ s. SpellsStatement (codes "world" ∷ map (λ w. w.now) rest.now) s) }
-    ensures syntax { OnErr result ((s : statement.Statement) → SpellsStatement (codes "world" ∷ map (λ w. w.now) rest.now) s → ⊥) }
+// The version that is named, from what stands behind `world`.
+fn read_version(version: Version, rest: &[&str]) -> Result<Statement, Refusal>
+    ensures value { IfOk result (λ s. SpellsStatement version (codes "world" ∷ map (λ w. w.now) rest.now) s) }
+    ensures syntax { OnErr result ((s : statement.Statement) → SpellsStatement version (codes "world" ∷ map (λ w. w.now) rest.now) s → ⊥) }
     ensures refusals { IfErr result (λ e. e ≡ Syntax) }
 {
     match rest {
-        ["1"] => Ok(Statement::Version),
+        ["1"] => Ok(Statement::Version(Version::One)),
+        ["2"] => Ok(Statement::Version(Version::Two)),
         _ => Err(Refusal::Syntax),
     }
 }
 
 // The online CPUs, from what stands behind `online`.
-fn read_online(alloc: Global, rest: &[&str]) -> Result<Statement, Refusal>
-    ensures value { IfOk result (λ s. SpellsStatement (codes "online" ∷ map (λ w. w.now) rest.now) s) }
-    ensures syntax { IsErrOf result Refusal.Syntax → (s : statement.Statement) → SpellsStatement (codes "online" ∷ map (λ w. w.now) rest.now) s → ⊥ }
-    ensures refusals { IfErr result IsSyntaxOrMemory }
+fn read_online(version: Version, rest: &[&str]) -> Result<Statement, Refusal>
+    ensures value { IfOk result (λ s. SpellsStatement version (codes "online" ∷ map (λ w. w.now) rest.now) s) }
+    ensures syntax { OnErr result ((s : statement.Statement) → SpellsStatement version (codes "online" ∷ map (λ w. w.now) rest.now) s → ⊥) }
+    ensures refusals { IfErr result (λ e. e ≡ Syntax) }
 {
     match rest {
-        [cpus] => Ok(Statement::Online(read_cpus(alloc, cpus)?)),
+        [cpus] => Ok(Statement::Online(read_cpus(version, cpus)?)),
         _ => Err(Refusal::Syntax),
     }
 }
 
 // A group, from what stands behind `group`.
-fn read_group(alloc: Global, rest: &[&str]) -> Result<Statement, Refusal>
-    ensures value { IfOk result (λ s. SpellsStatement (codes "group" ∷ map (λ w. w.now) rest.now) s) }
-    ensures syntax { IsErrOf result Refusal.Syntax → (s : statement.Statement) → SpellsStatement (codes "group" ∷ map (λ w. w.now) rest.now) s → ⊥ }
+fn read_group(alloc: Global, version: Version, rest: &[&str]) -> Result<Statement, Refusal>
+    ensures value { IfOk result (λ s. SpellsStatement version (codes "group" ∷ map (λ w. w.now) rest.now) s) }
+    ensures syntax { IsErrOf result Refusal.Syntax → (s : statement.Statement) → SpellsStatement version (codes "group" ∷ map (λ w. w.now) rest.now) s → ⊥ }
     ensures refusals { IfErr result IsSyntaxOrMemory }
 {
     match rest {
-        [path, control, freeze, cpus] => Ok(Statement::Group(
+        [path, control, freeze, cpus, limits @ ..] => Ok(Statement::Group(
             Path::read(alloc, path)?,
-            read_settings(alloc, control, freeze, cpus)?,
+            read_settings(version, control, freeze, cpus, limits)?,
         )),
         _ => Err(Refusal::Syntax),
     }
 }
 
 // A process, from what stands behind `proc`.
-fn read_process(alloc: Global, rest: &[&str]) -> Result<Statement, Refusal>
-    ensures value { IfOk result (λ s. SpellsStatement (codes "proc" ∷ map (λ w. w.now) rest.now) s) }
-    ensures syntax { IsErrOf result Refusal.Syntax → (s : statement.Statement) → SpellsStatement (codes "proc" ∷ map (λ w. w.now) rest.now) s → ⊥ }
+fn read_process(alloc: Global, version: Version, rest: &[&str]) -> Result<Statement, Refusal>
+    ensures value { IfOk result (λ s. SpellsStatement version (codes "proc" ∷ map (λ w. w.now) rest.now) s) }
+    ensures syntax { IsErrOf result Refusal.Syntax → (s : statement.Statement) → SpellsStatement version (codes "proc" ∷ map (λ w. w.now) rest.now) s → ⊥ }
     ensures refusals { IfErr result IsSyntaxOrMemory }
 {
     match rest {
@@ -106,9 +108,9 @@ fn read_process(alloc: Global, rest: &[&str]) -> Result<Statement, Refusal>
 }
 
 // The end, behind which the line has no word.
-fn read_end(rest: &[&str]) -> Result<Statement, Refusal>
-    ensures value { IfOk result (λ s. SpellsStatement (codes "end" ∷ map (λ w. w.now) rest.now) s) }
-    ensures syntax { OnErr result ((s : statement.Statement) → SpellsStatement (codes "end" ∷ map (λ w. w.now) rest.now) s → ⊥) }
+fn read_end(version: Version, rest: &[&str]) -> Result<Statement, Refusal>
+    ensures value { IfOk result (λ s. SpellsStatement version (codes "end" ∷ map (λ w. w.now) rest.now) s) }
+    ensures syntax { OnErr result ((s : statement.Statement) → SpellsStatement version (codes "end" ∷ map (λ w. w.now) rest.now) s → ⊥) }
     ensures refusals { IfErr result (λ e. e ≡ Syntax) }
 {
     match rest {

@@ -1,5 +1,6 @@
 //! Trees that are built by hand, copied, tested for soundness and written.
 use crate::plain::PlainTree;
+use crate::version::Version;
 use crate::world::World;
 use cg_cpus::cpu_set::CpuSet;
 use cg_name::controller::Controller;
@@ -205,6 +206,112 @@ fn worlds_are_copied_and_written(rt: HostRuntime) -> Result<(), Fail> {
         let mut out = Vec::new(alloc);
         copy.write(&mut out)?;
         assert_eq!(rt; out.as_slice(), text.as_bytes());
+    }
+    Ok(())
+}
+
+// The tree of four groups with the limits of a group set.
+fn limited(
+    alloc: Global,
+    path: &str,
+    max_descendants: Limit,
+    max_depth: Limit,
+) -> Result<PlainTree, Refusal> {
+    let mut tree = four_groups(alloc)?;
+    let at = Path::read(alloc, path)?;
+    if let Some(found) = tree.settings(&at) {
+        tree.set_group(
+            at,
+            Settings {
+                max_descendants,
+                max_depth,
+                ..found
+            },
+        )?;
+    }
+    Ok(tree)
+}
+
+const LIMITED: &str = "world 2
+controllers cpuset cpu io memory hugetlb pids rdma misc
+online 0-3,8
+group / cpuset,cpu 0 - max max
+group /a cpuset 1 0-2,8 0 2147483646
+group /a/x - 0 - max max
+group /a.b - 0 3 max max
+proc 7 /a/x
+proc 300 /
+end
+";
+
+#[test]
+fn limits_are_written_in_version_2(rt: HostRuntime) -> Result<(), Fail> {
+    let alloc = rt.alloc();
+    let tree = limited(alloc, "/a", Limit::UpTo(0), Limit::UpTo(2_147_483_646))?;
+    let mut out = Vec::new(alloc);
+    tree.write(&mut out)?;
+    assert_eq!(rt; out.as_slice(), LIMITED.as_bytes());
+    Ok(())
+}
+
+#[test]
+fn a_limit_asks_for_version_2(rt: HostRuntime) -> Result<(), Fail> {
+    let alloc = rt.alloc();
+    for (path, descendants, depth, version) in [
+        ("/", Limit::Max, Limit::Max, Version::One),
+        ("/", Limit::UpTo(9), Limit::Max, Version::Two),
+        ("/a.b", Limit::Max, Limit::UpTo(9), Version::Two),
+    ] {
+        let tree = limited(alloc, path, descendants, depth)?;
+        assert_eq!(rt; tree.version(), version, "{path}");
+    }
+    Ok(())
+}
+
+#[test]
+fn a_great_cpu_number_asks_for_version_2(rt: HostRuntime) -> Result<(), Fail> {
+    let alloc = rt.alloc();
+    for (online, cpus, version) in [
+        ("0-127", "127", Version::One),
+        ("128", "0", Version::Two),
+        ("0", "0,128", Version::Two),
+    ] {
+        let mut tree = PlainTree::new(alloc, Controllers::empty(), CpuSet::read(online)?);
+        tree.set_group(Path::root(alloc), settings(&[], false, cpus)?)?;
+        assert_eq!(rt; tree.version(), version, "{online} {cpus}");
+    }
+    Ok(())
+}
+
+#[test]
+fn worlds_are_written_in_one_form(rt: HostRuntime) -> Result<(), Fail> {
+    let alloc = rt.alloc();
+    for (text, written) in [
+        // lists of any order, with overlaps and leading zeros
+        (
+            "world 1\ncontrollers cpuset\nonline 007,0-3,2-5\ngroup /a - 0 9,0000000000000000000000008,1-3,3\ngroup / cpuset 0 -\nend\n",
+            "world 1\ncontrollers cpuset\nonline 0-5,7\ngroup / cpuset 0 -\ngroup /a - 0 1-3,8-9\nend\n",
+        ),
+        // a text of version 2 that could have been of version 1
+        (
+            "world 2\ncontrollers cpu\nonline 0-127\ngroup / cpu 0 - max 2147483647\nproc 1 /\nend\n",
+            "world 1\ncontrollers cpu\nonline 0-127\ngroup / cpu 0 -\nproc 1 /\nend\n",
+        ),
+        // limits, the greatest of them as a number and as `max`
+        (
+            "world 2\ncontrollers\nonline 0\ngroup / - 0 - 07 2147483646\ngroup /a - 0 - 2147483647 0\nend\n",
+            "world 2\ncontrollers\nonline 0\ngroup / - 0 - 7 2147483646\ngroup /a - 0 - max 0\nend\n",
+        ),
+        // CPU numbers that version 1 has not
+        (
+            "world 2\ncontrollers cpuset\nonline 0-1023\ngroup / cpuset 0 - max max\ngroup /a - 0 200-201 max max\nend\n",
+            "world 2\ncontrollers cpuset\nonline 0-1023\ngroup / cpuset 0 - max max\ngroup /a - 0 200-201 max max\nend\n",
+        ),
+    ] {
+        let world = World::read(alloc, text.as_bytes())?;
+        let mut out = Vec::new(alloc);
+        world.write(&mut out)?;
+        assert_eq!(rt; out.as_slice(), written.as_bytes(), "{text}");
     }
     Ok(())
 }

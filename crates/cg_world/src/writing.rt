@@ -1,5 +1,5 @@
 //! The one text that is written for a world.
-ghost use Rattle.std.specs.Prelude.{◌≡◌, ◌++◌, [], ◌∷◌, IfErr, OnOk, OnErr, length, take};
+ghost use Rattle.std.specs.Prelude.{◌≡◌, ◌++◌, [], ◌∷◌, IfErr, OnOk, OnErr, codes, length, take};
 ghost use Rattle.std.specs.List.{flat_map};
 ghost use Rattle.std.specs.Ordering.{nat_cmp};
 ghost use Rattle.cg_maps.specs.FiniteMap.{entries, from_entries};
@@ -7,23 +7,26 @@ ghost use Rattle.cg_name.specs.Controller.{controller_word};
 ghost use Rattle.cg_name.specs.Path.{path_cmp};
 ghost use Rattle.cg_name.specs.declared.refusal.Refusal.TheVariants.{Memory};
 ghost use Rattle.cg_text.specs.Controllers.{members};
-ghost use Rattle.cg_world.specs.World.{asked_cpus_text, control_text, flag_text, group_line, process_line, world_text};
+ghost use Rattle.cg_world.specs.Version.{version_word};
+ghost use Rattle.cg_world.specs.World.{asked_cpus_text, control_text, flag_text, group_line, limit_word, limits_text, newline, process_line, space, text_of_version, world_text};
 ghost use Rattle.cg_world.specs.Writing.{machine_lines, separated};
 
 use crate::plain::PlainTree;
+use crate::version::Version;
 use crate::world::World;
 use cg_cpus::cpu_set::CpuSet;
 use cg_name::controller::Controller;
 use cg_name::path::Path;
 use cg_name::refusal::Refusal;
 use cg_text::controllers::Controllers;
+use cg_text::limit::Limit;
 use cg_text::settings::Settings;
 use itoa::Buffer;
 use std::collections::BTreeMap;
 
 impl World {
-    /// Appends the world's text: its groups in the order of their paths, its processes by ascending PID.
-    /// `Memory` leaves `out` as it was.
+    /// Appends the world's text, in version 1 where it can be: its groups in the order of their paths, its
+    /// processes by ascending PID. `Memory` leaves `out` as it was.
     pub fn write(&self, out: &mut Vec<u8>) -> Result<(), Refusal>
         ensures ok { OnOk result (out.new.items ≡ out.old.items ++ world_text self.now) }
         ensures err { OnErr result (out.new.items ≡ out.old.items) }
@@ -34,15 +37,15 @@ impl World {
 }
 
 impl PlainTree {
-    /// Appends the tree's text as a world's: its groups in the order of their paths, its processes by ascending
-    /// PID. `Memory` leaves `out` as it was.
+    /// Appends the tree's text as a world's, in version 1 where it can be: its groups in the order of their paths,
+    /// its processes by ascending PID. `Memory` leaves `out` as it was.
     pub fn write(&self, out: &mut Vec<u8>) -> Result<(), Refusal>
         ensures ok { OnOk result (out.new.items ≡ out.old.items ++ world_text self.now) }
         ensures err { OnErr result (out.new.items ≡ out.old.items) }
         ensures refusals { IfErr result (λ e. e ≡ Memory) }
     {
         let start = out.len();
-        let written = append_world(self, out);
+        let written = append_world(self.version(), self, out);
         if written.is_err() {
             out.truncate(start);
         }
@@ -52,14 +55,14 @@ impl PlainTree {
 
 // What follows appends to `out`, and a refusal leaves what stood there at the front.
 
-// All lines of the tree's text.
-fn append_world(tree: &PlainTree, out: &mut Vec<u8>) -> Result<(), Refusal>
-    ensures ok { OnOk result (out.new.items ≡ out.old.items ++ world_text tree.now) }
+// All lines of the tree's text in one version.
+fn append_world(version: Version, tree: &PlainTree, out: &mut Vec<u8>) -> Result<(), Refusal>
+    ensures ok { OnOk result (out.new.items ≡ out.old.items ++ text_of_version version tree.now) }
     ensures kept { OnErr result (take (length out.old.items) out.new.items ≡ out.old.items) }
     ensures refusals { IfErr result (λ e. e ≡ Memory) }
 {
-    append_machine(&tree.controllers(), &tree.online(), out)?;
-    append_groups(tree.groups(), out)?;
+    append_machine(version, &tree.controllers(), &tree.online(), out)?;
+    append_groups(version, tree.groups(), out)?;
     append_processes(tree.places(), out)?;
     out.extend_from_slice(b"end\n")?;
     Ok(())
@@ -67,18 +70,32 @@ fn append_world(tree: &PlainTree, out: &mut Vec<u8>) -> Result<(), Refusal>
 
 // The first three lines: the version, the machine's controllers and the CPUs that are online.
 fn append_machine(
+    version: Version,
     controllers: &Controllers,
     online: &CpuSet,
     out: &mut Vec<u8>,
 ) -> Result<(), Refusal>
-    ensures ok { OnOk result (out.new.items ≡ out.old.items ++ machine_lines controllers.now online.now) }
+    ensures ok { OnOk result (out.new.items ≡ out.old.items ++ machine_lines version controllers.now online.now) }
     ensures kept { OnErr result (take (length out.old.items) out.new.items ≡ out.old.items) }
     ensures refusals { IfErr result (λ e. e ≡ Memory) }
 {
-    out.extend_from_slice(b"world 1\ncontrollers")?;
+    append_version(version, out)?;
+    out.extend_from_slice(b"controllers")?;
     append_names(controllers, out)?;
     out.extend_from_slice(b"\nonline ")?;
     online.write(out)?;
+    out.push(b'\n')?;
+    Ok(())
+}
+
+// The line of the version.
+fn append_version(version: Version, out: &mut Vec<u8>) -> Result<(), Refusal>
+    ensures ok { OnOk result (out.new.items ≡ out.old.items ++ (codes "world " ++ version_word version ++ newline)) }
+    ensures kept { OnErr result (take (length out.old.items) out.new.items ≡ out.old.items) }
+    ensures refusals { IfErr result (λ e. e ≡ Memory) }
+{
+    out.extend_from_slice(b"world ")?;
+    out.extend_from_slice(version.word().as_bytes())?;
     out.push(b'\n')?;
     Ok(())
 }
@@ -99,20 +116,29 @@ fn append_names(controllers: &Controllers, out: &mut Vec<u8>) -> Result<(), Refu
 }
 
 // The line of each group.
-fn append_groups(groups: &BTreeMap<Path, Settings>, out: &mut Vec<u8>) -> Result<(), Refusal>
-    ensures ok { OnOk result (out.new.items ≡ out.old.items ++ flat_map group_line (entries (from_entries path_cmp groups.now.entries))) }
+fn append_groups(
+    version: Version,
+    groups: &BTreeMap<Path, Settings>,
+    out: &mut Vec<u8>,
+) -> Result<(), Refusal>
+    ensures ok { OnOk result (out.new.items ≡ out.old.items ++ flat_map (group_line version) (entries (from_entries path_cmp groups.now.entries))) }
     ensures kept { OnErr result (take (length out.old.items) out.new.items ≡ out.old.items) }
     ensures refusals { IfErr result (λ e. e ≡ Memory) }
 {
     for (path, settings) in groups {
-        append_group(path, settings, out)?;
+        append_group(version, path, settings, out)?;
     }
     Ok(())
 }
 
 // The line of a group.
-fn append_group(path: &Path, settings: &Settings, out: &mut Vec<u8>) -> Result<(), Refusal>
-    ensures ok { OnOk result (out.new.items ≡ out.old.items ++ group_line (path.now, settings.now)) }
+fn append_group(
+    version: Version,
+    path: &Path,
+    settings: &Settings,
+    out: &mut Vec<u8>,
+) -> Result<(), Refusal>
+    ensures ok { OnOk result (out.new.items ≡ out.old.items ++ group_line version (path.now, settings.now)) }
     ensures kept { OnErr result (take (length out.old.items) out.new.items ≡ out.old.items) }
     ensures refusals { IfErr result (λ e. e ≡ Memory) }
 {
@@ -124,7 +150,40 @@ fn append_group(path: &Path, settings: &Settings, out: &mut Vec<u8>) -> Result<(
     out.push(flag(settings.freeze))?;
     out.push(b' ')?;
     append_asked_cpus(&settings.cpus, out)?;
+    append_limits(version, settings, out)?;
     out.push(b'\n')?;
+    Ok(())
+}
+
+// The limits on descendants and on depth, each with a space before it, which version 1 has not.
+fn append_limits(version: Version, settings: &Settings, out: &mut Vec<u8>) -> Result<(), Refusal>
+    ensures ok { OnOk result (out.new.items ≡ out.old.items ++ limits_text version settings.now) }
+    ensures kept { OnErr result (take (length out.old.items) out.new.items ≡ out.old.items) }
+    ensures refusals { IfErr result (λ e. e ≡ Memory) }
+{
+    match version {
+        Version::One => Ok(()),
+        Version::Two => {
+            append_limit(settings.max_descendants, out)?;
+            append_limit(settings.max_depth, out)
+        }
+    }
+}
+
+// A limit, with a space before it.
+fn append_limit(limit: Limit, out: &mut Vec<u8>) -> Result<(), Refusal>
+    ensures ok { OnOk result (out.new.items ≡ out.old.items ++ (space ++ limit_word limit)) }
+    ensures kept { OnErr result (take (length out.old.items) out.new.items ≡ out.old.items) }
+    ensures refusals { IfErr result (λ e. e ≡ Memory) }
+{
+    out.push(b' ')?;
+    match limit {
+        Limit::Max => out.extend_from_slice(b"max")?,
+        Limit::UpTo(most) => {
+            let mut buffer = Buffer::new();
+            out.extend_from_slice(buffer.format(most).as_bytes())?;
+        }
+    }
     Ok(())
 }
 

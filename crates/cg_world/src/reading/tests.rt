@@ -3,6 +3,7 @@ use crate::world::World;
 use cg_cpus::cpu_set::CpuSet;
 use cg_name::path::Path;
 use cg_name::refusal::Refusal;
+use cg_text::limit::Limit;
 
 const SMALL: &str =
     "world 1\ncontrollers cpuset cpu memory\nonline 0-7\ngroup / - 0 -\nproc 10 /\nproc 11 /\nend\n";
@@ -79,9 +80,15 @@ fn a_world_is_what_its_lines_say(rt: HostRuntime) {
 #[test]
 fn other_texts_are_no_worlds(rt: HostRuntime) {
     for text in [
-        // a CPU above 127
+        // a CPU above 127 in version 1, above 1,023 in version 2
         "world 1\ncontrollers cpuset cpu memory\nonline 128\ngroup / - 0 -\nproc 10 /\nproc 11 /\nend\n",
         "world 1\ncontrollers cpuset\nonline 0-127\ngroup / cpuset 0 -\ngroup /a - 0 0-128\nend\n",
+        "world 2\ncontrollers cpuset\nonline 1024\ngroup / - 0 - max max\nend\n",
+        "world 2\ncontrollers cpuset\nonline 0\ngroup / cpuset 0 - max max\ngroup /a - 0 1023-1024 max max\nend\n",
+        // a list that begins with a comma, goes down or has no CPU
+        "world 1\ncontrollers cpuset\nonline ,0\ngroup / - 0 -\nend\n",
+        "world 1\ncontrollers cpuset\nonline 3-2\ngroup / - 0 -\nend\n",
+        "world 2\ncontrollers\nonline -\ngroup / - 0 - max max\nend\n",
         // a process twice
         "world 1\ncontrollers cpuset cpu memory\nonline 0-7\ngroup / - 0 -\nproc 10 /\nproc 10 /\nproc 11 /\nend\n",
         "world 1\ncontrollers cpuset\nonline 0\ngroup / - 0 -\nproc 10 /\nproc 010 /\nend\n",
@@ -105,10 +112,23 @@ fn other_texts_are_no_worlds(rt: HostRuntime) {
         "world 1\ncontrollers\nonline 0\ngroup / - 0 -\nproc 4194304 /\nend\n",
         "world 1\ncontrollers\nonline 0\ngroup / - 0 -\nproc +1 /\nend\n",
         "world 1\ncontrollers\nonline 0\ngroup / - 0 -\nproc 99999999999999999999 /\nend\n",
-        // a version that isn't read, a word too many, one too few
-        "world 2\ncontrollers\nonline 0\ngroup / - 0 - max max\nend\n",
+        // a version that isn't known, two versions
+        "world 3\ncontrollers\nonline 0\ngroup / - 0 - max max\nend\n",
+        "world 02\ncontrollers\nonline 0\ngroup / - 0 - max max\nend\n",
+        "world 1\nworld 1\ncontrollers\nonline 0\ngroup / - 0 -\nend\n",
+        // a group's words of the other version, a word too many, one too few
+        "world 2\ncontrollers\nonline 0\ngroup / - 0 -\nend\n",
+        "world 1\ncontrollers\nonline 0\ngroup / - 0 - max max\nend\n",
         "world 1\ncontrollers\nonline 0\ngroup / - 0 - -\nend\n",
         "world 1\ncontrollers\nonline 0\ngroup / - 0\nend\n",
+        "world 2\ncontrollers\nonline 0\ngroup / - 0 - max\nend\n",
+        "world 2\ncontrollers\nonline 0\ngroup / - 0 - max max max\nend\n",
+        // a limit that is too great, with a sign, or that is no number
+        "world 2\ncontrollers\nonline 0\ngroup / - 0 - 2147483648 max\nend\n",
+        "world 2\ncontrollers\nonline 0\ngroup / - 0 - max 2147483648\nend\n",
+        "world 2\ncontrollers\nonline 0\ngroup / - 0 - +1 max\nend\n",
+        "world 2\ncontrollers\nonline 0\ngroup / - 0 - max -\nend\n",
+        "world 2\ncontrollers\nonline 0\ngroup / - 0 - Max max\nend\n",
         // no end
         "world 1\ncontrollers cpuset cpu memory\nonline 0-7\ngroup / - 0 -\nproc 10 /\nproc 11 /\n",
         // two carriage returns
@@ -117,4 +137,41 @@ fn other_texts_are_no_worlds(rt: HostRuntime) {
         let got = World::read(rt.alloc(), text.as_bytes());
         assert_eq!(rt; got.err(), Some(Refusal::Syntax), "{text}");
     }
+}
+
+const LIMITED: &str = "world 2
+controllers memory cpuset
+online 0-1023
+group / cpuset 0 - 00012 max
+group /a - 0 01023,5-6,6-7 2147483646 0
+group /b - 1 - 2147483647 0000000000002147483647
+end
+";
+
+#[test]
+fn limits_and_great_cpu_numbers_are_read(rt: HostRuntime) {
+    let world = World::read(rt.alloc(), LIMITED.as_bytes()).expect(&rt, "a world");
+    let tree = world.tree();
+    assert_eq!(rt; tree.online().last(), Some(1023));
+    for (path, descendants, depth, cpus) in [
+        ("/", Limit::UpTo(12), Limit::Max, ""),
+        ("/a", Limit::UpTo(2_147_483_646), Limit::UpTo(0), "5-7,1023"),
+        ("/b", Limit::Max, Limit::Max, ""),
+    ] {
+        let at = Path::read(rt.alloc(), path).expect(&rt, "a path");
+        let settings = tree.settings(&at).expect(&rt, "a group");
+        assert_eq!(rt; settings.max_descendants, descendants, "{path}");
+        assert_eq!(rt; settings.max_depth, depth, "{path}");
+        assert!(rt;
+            settings.cpus == CpuSet::read(cpus).expect(&rt, "a list"),
+            "{path}"
+        );
+    }
+}
+
+#[test]
+fn a_great_cpu_number_is_read_in_version_2(rt: HostRuntime) {
+    let text = "world 2\ncontrollers\nonline 128\ngroup / - 0 - max max\nend\n";
+    let world = World::read(rt.alloc(), text.as_bytes()).expect(&rt, "a world");
+    assert_eq!(rt; world.tree().online().last(), Some(128));
 }

@@ -35,7 +35,7 @@ returns-in-Ended-clause-value c =
     let t = YieldsList-end (YieldsList-at c.into_iter-line-iterator.ensures.into_iter_gives (YieldsList-from_slice_split _ is_newline c.args.text.now c.split-line-items.ensures.rest c.split-line-items.ensures.done c.split-line-items.ensures.closure (λ x b q k. search (rules, tests)))) c.loop-line.yielded _ c.loop-line.yielded_by _ _ c.in-None.is c.next.ensures.steps in
     let none = ap (λ n. drop n parts) t.1 ∙ drop-length parts in
     (c.loop-line.invariant c.in-Ended.tree).1
-    (subst (λ ls. Leads c.loop-line.stage ls c.in-Ended.tree) (sym none) (subst (λ st. Leads st [] c.in-Ended.tree) (sym c.in-Ended.is) (leads_itself c.in-Ended.tree)))
+    (subst (λ ls. Leads c.loop-line.stage ls c.in-Ended.tree) (sym none) (subst (λ st. Leads st [] c.in-Ended.tree) (sym c.in-Ended.is) (leads_itself _ c.in-Ended.tree)))
 
 pub returns : goal.returns
 returns c =
@@ -44,6 +44,6 @@ returns c =
     let none = ap (λ n. drop n parts) t.1 ∙ drop-length parts in
     record {
       value = tt;
-      syntax = λ e T h. c.in_default.not-Ended T (at_end c.loop-line.stage T (subst (λ ls. Leads c.loop-line.stage ls T) none ((c.loop-line.invariant T).0 h)));
+      syntax = λ e T h. let e = at_end c.loop-line.stage T (subst (λ ls. Leads c.loop-line.stage ls T) none ((c.loop-line.invariant T).0 h)) in c.in_default.not-Ended e.0 T e.1;
       refusals = tt;
     }

@@ -1,16 +1,19 @@
 -- A line of words says what the statement read says.
-use Rattle.std.proofs.Common.{Some, map, ap, sym, ◌∙◌}
+use Rattle.std.proofs.Common.{Some, map, ap, subst, sym, ◌∙◌}
 use Rattle.std.specs.Option.{option_map}
 use Rattle.std.proofs.lemmas.Result.{IfOk-weaker}
+use Rattle.cg_world.specs.Statement.{SpellsStatement}
 use Rattle.cg_world.proofs.Lines.{spoken, misplaced}
 use Rattle.cg_world.proofs.reading.take_line.Goals as goal
 
 pub returns-clause-value : goal.returns-clause-value
 returns-clause-value c =
     let said = sym c.in_ok-words.ensures.value ∙ ap (option_map (λ words. map (λ w. w.now) words.items)) c.in-Some.is ∙ ap (λ ws. Some (map (λ w. w.now) ws)) (sym c.as_slice.ensures.value) in
-    IfOk-weaker c.take.result _ _ (λ next e. spoken c.args.stage next c.args.line.now _ c.in_ok-statement.statement c.in_ok-words.ensures.line said c.in_ok-statement.ensures.value e) c.take.ensures.value
+    let says = subst (λ v. SpellsStatement v (map (λ w. w.now) c.as_slice.result.now) c.in_ok-statement.statement) c.version.ensures c.in_ok-statement.ensures.value in
+    IfOk-weaker c.take.result _ _ (λ next e. spoken c.args.stage next c.args.line.now _ c.in_ok-statement.statement c.in_ok-words.ensures.line said says e) c.take.ensures.value
 
 pub returns-clause-syntax : goal.returns-clause-syntax
 returns-clause-syntax c =
     let said = sym c.in_ok-words.ensures.value ∙ ap (option_map (λ words. map (λ w. w.now) words.items)) c.in-Some.is ∙ ap (λ ws. Some (map (λ w. w.now) ws)) (sym c.as_slice.ensures.value) in
-    λ e lines T h. misplaced c.args.stage c.args.line.now _ c.in_ok-statement.statement said c.in_ok-statement.ensures.value (c.take.ensures.syntax e) lines T h
+    let says = subst (λ v. SpellsStatement v (map (λ w. w.now) c.as_slice.result.now) c.in_ok-statement.statement) c.version.ensures c.in_ok-statement.ensures.value in
+    λ e lines T h. misplaced c.args.stage c.args.line.now _ c.in_ok-statement.statement said says (c.take.ensures.syntax e) lines T h

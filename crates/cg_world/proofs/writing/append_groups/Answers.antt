@@ -11,6 +11,6 @@ use Rattle.cg_world.proofs.writing.append_groups.Goals as goal
 pub returns-clause-ok : goal.returns-clause-ok
 returns-clause-ok c =
     sym (append_none c.loop-path.out.items)
-    ∙ ap (λ es. c.loop-path.out.items ++ flat_map group_line es) (sym (rest_all deref_pair _ _ _ c.in-None.is c.next.ensures.steps))
+    ∙ ap (λ es. c.loop-path.out.items ++ flat_map (group_line c.args.version) es) (sym (rest_all deref_pair _ _ _ c.in-None.is c.next.ensures.steps))
     ∙ c.loop-path.invariant.text
-    ∙ ap (λ es. c.args.out.now.items ++ flat_map group_line es) (sym (entries-view path_cmp_total path_cmp_exact c.args.groups.now c.into_iter-path-iterator.ensures.into_iter_gives.5))
+    ∙ ap (λ es. c.args.out.now.items ++ flat_map (group_line c.args.version) es) (sym (entries-view path_cmp_total path_cmp_exact c.args.groups.now c.into_iter-path-iterator.ensures.into_iter_gives.5))

@@ -6,6 +6,6 @@ use Rattle.cg_world.proofs.writing.append_groups.Given as goal
 -- the lines so far and those of the entries that are left are all of them
 abbrev pub invariant-loop-path : goal.invariant-loop-path
 invariant-loop-path l = record {
-  text : l.out.items ++ flat_map group_line l.path-iterator ≡ l.fn.out.items ++ flat_map group_line l.groups.entries;
+  text : l.out.items ++ flat_map (group_line l.version) l.path-iterator ≡ l.fn.out.items ++ flat_map (group_line l.version) l.groups.entries;
   kept : take (length l.fn.out.items) l.out.items ≡ l.fn.out.items;
 }
