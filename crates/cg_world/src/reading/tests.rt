@@ -4,6 +4,7 @@ use cg_cpus::cpu_set::CpuSet;
 use cg_name::path::Path;
 use cg_name::refusal::Refusal;
 use cg_text::limit::Limit;
+use std::test::Fail;
 
 const SMALL: &str =
     "world 1\ncontrollers cpuset cpu memory\nonline 0-7\ngroup / - 0 -\nproc 10 /\nproc 11 /\nend\n";
@@ -19,6 +20,27 @@ fn a_text_that_is_cut_is_no_world(rt: HostRuntime) {
             assert!(rt; got.is_ok(), "{length}");
         }
     }
+}
+
+#[test]
+fn a_text_of_a_byte_too_many_is_no_world(rt: HostRuntime) -> Result<(), Fail> {
+    let mut comment = [b'#'; 1024];
+    comment[1023] = b'\n';
+    let mut text = Vec::from_slice(rt.alloc(), SMALL.as_bytes())?;
+    for _ in 0..16_383 {
+        text.extend_from_slice(&comment)?;
+    }
+    for _ in 0..937 {
+        text.push(b'\n')?;
+    }
+    assert_eq!(rt; text.len(), 16_777_216);
+    assert!(rt; World::read(rt.alloc(), text.as_slice()).is_ok());
+    text.push(b'\n')?;
+    assert_eq!(rt;
+        World::read(rt.alloc(), text.as_slice()).err(),
+        Some(Refusal::Syntax)
+    );
+    Ok(())
 }
 
 const LARGE: &str = "# a job and its two parts\r
