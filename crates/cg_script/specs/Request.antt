@@ -59,3 +59,7 @@ CanBeAsked _ = ⊤
 -- the law of written lines: each spells what it was written for
 abbrev pub WrittenLinesAreSpelled : Type 0
 WrittenLinesAreSpelled = (n : List ℕ) (r : Request) → IsSessionName n → CanBeAsked r → SpellsLine (line_text n r) (Some (n, r))
+
+-- the law of lines: each says one thing at most
+abbrev pub OneCall : Type 0
+OneCall = (line : List ℕ) (c d : Option (List ℕ × Request)) → SpellsLine line c → SpellsLine line d → c ≡ d

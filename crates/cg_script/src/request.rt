@@ -6,7 +6,7 @@ ghost use Rattle.cg_name.specs.Refusal.{IsSyntaxOrMemory};
 ghost use Rattle.cg_name.specs.declared.refusal.Refusal.TheVariants.{Memory};
 ghost use Rattle.cg_core.specs.Meaning.{request_of};
 ghost use Rattle.cg_core.specs.Record as model;
-ghost use Rattle.cg_script.specs.Request.{SpellsLine, SpellsRequest, line_text, request_text, WrittenLinesAreSpelled};
+ghost use Rattle.cg_script.specs.Request.{SpellsLine, SpellsRequest, line_text, request_text, OneCall, WrittenLinesAreSpelled};
 
 use crate::session::SessionName;
 use cg_core::command::Command;
@@ -65,6 +65,11 @@ pub fn write_line(name: SessionName, request: &Request, out: &mut Vec<u8>) -> Re
     }
     Ok(())
 }
+
+/// A line says nothing, or one session's request: never both, and never two.
+pub fn a_line_says_one_thing_at_most()
+    ensures { OneCall }
+{}
 
 /// The law of written lines: each spells what it was written for.
 pub fn written_lines_are_spelled()
