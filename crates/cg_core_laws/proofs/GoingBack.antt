@@ -1,6 +1,6 @@
 -- What follows where the machine is faithful to its history: going back succeeds exactly, other transactions stay, and so do
 -- the trees of the commits.
-use Rattle.std.proofs.Common.{◌≡◌, ℕ, ◌+◌, ◌≤◌, Bool, true, false, cond, [], ◌∷◌, ◌==◌, Option, Some, None, refl, sym, ap, ◌∙◌, subst, arith}
+use Rattle.std.proofs.Common.{◌≡◌, ℕ, ◌+◌, ◌≤◌, Bool, true, false, cond, [], ◌∷◌, drop, ◌==◌, Option, Some, None, refl, sym, ap, ◌∙◌, subst, arith}
 use Rattle.std.specs.Prelude.{nat_le}
 use Rattle.std.proofs.lemmas.Bool.{eqb-true, eq-eqb}
 use Rattle.std.proofs.lemmas.Bool.Decides.{nat_tests}
@@ -9,7 +9,7 @@ use Rattle.cg_name.specs.declared.refusal.Refusal.TheVariants.{NoSavepoint}
 use Rattle.cg_model.specs.System.{System, Outcome, Done}
 use Rattle.cg_model.specs.History.{Request, Begin, Do, Save, Back, Undo, Commit, Abort, Answer, Begun, Gave, Saved, WentBack, Committed, Aborted, Refused, Record, History, is_recorded, named_in}
 use Rattle.cg_model.specs.Opens.{transaction_in, opens, commits_after, commits}
-use Rattle.cg_model.specs.Live.{Ran, Items, behind_first, below, live_after, live, committed_after, committed}
+use Rattle.cg_model.specs.Live.{Ran, Items, below, live_after, live, committed_after, committed}
 use Rattle.cg_model.specs.Run.{committed_through}
 use Rattle.cg_model.specs.Reply.{has_savepoint, commands_above, undo_reply, reply_in, reply_out, reply_at}
 use Rattle.cg_model.specs.Machine.{Machine, step}
@@ -31,7 +31,7 @@ module _ (y : System) (o : y.State) (m : Machine y) (faithful : IsFaithful y o m
   undone : (s t : ℕ) (h : History y) (c : y.Command) (a : Outcome) (l : Items y) → transaction_in s (opens m.history) ≡ Some t → live t m.history ≡ Ran t h c a ∷ l → ((step y m s Undo).1 ≡ Gave Done) × (live t (step y m s Undo).0.history ≡ l)
   undone s t h c a l e k =
       let p = in_step s t Undo (Gave Done) e (ap undo_reply k) refl in
-      (p.0, p.1 ∙ ap behind_first k)
+      (p.0, p.1 ∙ ap (drop 1) k)
 
   went_back : (s t : ℕ) (n : Name) → transaction_in s (opens m.history) ≡ Some t → has_savepoint n (live t m.history) ≡ true → ((step y m s (Back n)).1 ≡ WentBack (commands_above n 0 (live t m.history))) × (live t (step y m s (Back n)).0.history ≡ below n (live t m.history))
   went_back s t n e k =

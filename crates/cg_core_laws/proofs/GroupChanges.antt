@@ -7,10 +7,7 @@ use Rattle.std.proofs.lemmas.Bool.{cond_both, or_parts, or_cases, or_left, or_ri
 use Rattle.cg_maps.specs.FiniteMap.{empty}
 use Rattle.cg_maps.specs.FiniteSet.{FiniteSet, is_empty_set}
 use Rattle.cg_name.specs.Path.{Path, is_root}
-use Rattle.cg_name.specs.declared.controller.Controller.{Controller}
-use Rattle.cg_name.specs.declared.refusal.Refusal.{Refusal}
-use Rattle.cg_name.specs.declared.refusal.Refusal.TheVariants.{HasProcesses, Unavailable, InUse, Controlled, NoFile}
-use Rattle.cg_text.specs.Controllers.{is_no_controllers}
+use Rattle.cg_name.specs.declared.refusal.Refusal.TheVariants.{Controlled, NoFile}
 use Rattle.cg_text.specs.declared.control_ops.ControlOps.{ControlOps}
 use Rattle.cg_text.specs.declared.controllers.Controllers.{Controllers}
 use Rattle.cg_text.specs.declared.settings.Settings.{Settings}
@@ -23,7 +20,8 @@ use Rattle.cg_model.specs.Change.{Change, change, undone, Fits}
 use Rattle.cg_model.specs.System.{Done, Refuse, Accept}
 use Rattle.cg_model.specs.Command.{Command, Create, Remove, Migrate, Subtree, Freeze, Cpus, Show, Online, MaxDescendants, MaxDepth, Effect}
 use Rattle.cg_model.specs.Groups.{create_effect, remove_effect}
-use Rattle.cg_model.specs.Control.{planned, not_available, in_use, refuse_first, emptied, loses_cpuset, control_change, controlled, subtree_effect}
+use Rattle.cg_model_laws.proofs.Plans.{planned_both}
+use Rattle.cg_model.specs.Control.{planned, used_below, emptied, loses_cpuset, control_change, subtree_effect}
 use Rattle.cg_model.specs.Writes.{migrate_effect, written, freeze_effect, cpus_effect, limit_effect, shown, show_effect}
 use Rattle.cg_model.specs.Effect.{effect}
 use Rattle.cg_model.specs.Room.{is_group_key, changes_group, changes_of, room_for, RoomFor}
@@ -80,10 +78,6 @@ module _ (T : Tree) where
   moved k p (Some q) None e = tt
   moved k p (Some q) (Some s) e = cond_both (admits p s) (Accept Done (change (Place k) (Some q) (Some p) ∷ [])) (Refuse Controlled) TrueOf (λ _. (e, tt)) (λ _. tt)
 
-  refused_or : (f : Controller → Refusal) (cs : List Controller) (e : Effect) → TrueOf e → TrueOf (refuse_first f cs e)
-  refused_or f [] e h = h
-  refused_or f (c ∷ cs) e h = tt
-
   all_emptied : (p : Path) (s t : Controllers) (es : List (Path × Settings)) → AllTell T (emptied es (control_change p s t))
   all_emptied p s t [] = (tt, tt)
   all_emptied p s t (e ∷ es) = cond_both (is_empty_set e.1.cpus) _ (change (Part e.0 keys.Cpus) (Some e.1.cpus) (Some empty) ∷ emptied es (control_change p s t)) (AllTell T) (λ _. all_emptied p s t es) (λ _. (tt, all_emptied p s t es))
@@ -92,11 +86,8 @@ module _ (T : Tree) where
   subtree_written p ops None a es b = tt
   subtree_written p ops (Some s) None es b = tt
   subtree_written p ops (Some s) (Some a) es b =
-      let after : Controllers = planned s.control ops in
-      refused_or Unavailable (not_available a s.control ops) _
-      (refused_or InUse (in_use s.control ops es) _
-      (cond_both (not (is_root p) && b && not (is_no_controllers after)) (Refuse HasProcesses) (Accept Done (controlled p s.control after es)) TrueOf (λ _. tt)
-      (λ _. all_emptied p s.control after (cond (loses_cpuset s.control after) es []))))
+      planned_both TrueOf p s.control es a ops (used_below es) b (is_root p) (λ c. tt) (λ c. tt) tt
+      (λ _ _ _. all_emptied p s.control (planned s.control ops) (cond (loses_cpuset s.control (planned s.control ops)) es []))
 
   freeze_written : (p : Path) (v : Bool) (s : Option Settings) → TrueOf (freeze_effect p v s)
   freeze_written p v None = tt

@@ -1,11 +1,11 @@
 -- Selecting from a history: what stands of it, and what goes when one stack loses its newest item.
-use Rattle.std.proofs.Common.{◌≡◌, ℕ, suc, ◌≤◌, ◌<◌, Bool, true, false, [], ◌∷◌, length, ◌==◌, refl, sym, ap, ◌∙◌, arith}
+use Rattle.std.proofs.Common.{◌≡◌, ℕ, suc, ◌≤◌, ◌<◌, Bool, true, false, [], ◌∷◌, length, drop, ◌==◌, refl, sym, ap, ◌∙◌, arith}
 use Rattle.std.proofs.lemmas.Bool.{eqb-true}
 use Rattle.std.specs.Prelude.{cond}
 use Rattle.cg_name.specs.Name.{Name, same_name}
 use Rattle.cg_model.specs.System.{System}
 use Rattle.cg_model.specs.History.{Request, Do, Save, Back, Undo, Abort, Answer, Gave, Saved, WentBack, Aborted, History}
-use Rattle.cg_model.specs.Live.{Item, Ran, Marked, Items, behind_first, below, live_after, live, place, stands, item_of, joined_if, selected}
+use Rattle.cg_model.specs.Live.{Item, Ran, Marked, Items, below, live_after, live, place, stands, item_of, joined_if, selected}
 use Rattle.cg_core_laws.proofs.Trace.{skip}
 use Rattle.cg_core_laws.proofs.Tests.{or_second, false_if}
 
@@ -60,14 +60,14 @@ module _ (y : System) where
   down_below n k (Ran t h c a ∷ l) d = down_below n k l (down_behind n (Ran t h c a) l d)
   down_below n k (Marked t h m ∷ l) d = let e = down_behind n (Marked t h m) l d in down_cond n (same_name m k) _ _ e (down_below n k l e)
 
-  down_tail : (n : ℕ) (l : Items y) → Down n l → Down n (behind_first l)
+  down_tail : (n : ℕ) (l : Items y) → Down n l → Down n (drop 1 l)
   down_tail n [] d = tt
   down_tail n (x ∷ l) d = down_behind n x l d
 
   down_after : (r : Request y) (a : Answer) (t : ℕ) (h : History y) (l : Items y) → Down (length h) l → Down (suc (length h)) (live_after r a t h l)
   down_after (Do c) (Gave a) t h l d = (omega arith, d)
   down_after (Save n) Saved t h l d = (omega arith, d)
-  down_after Undo (Gave a) t h l d = down_more (length h) _ (behind_first l) (omega arith) (down_tail _ l d)
+  down_after Undo (Gave a) t h l d = down_more (length h) _ (drop 1 l) (omega arith) (down_tail _ l d)
   down_after (Back n) (WentBack k) t h l d = down_more (length h) _ (below n l) (omega arith) (down_below _ n l d)
   down_after Abort (Aborted u) t h l d = tt
   down_after _ _ t h l d = down_more (length h) _ l (omega arith) d

@@ -1,12 +1,12 @@
 -- Each step of the machine with a log leaves it tied to its history.
-use Rattle.std.proofs.Common.{◌≡◌, ℕ, ◌+◌, ◌||◌, Bool, true, false, cond, List, [], ◌∷◌, ◌++◌, Option, Some, None, refl, sym, ap, ◌∙◌, subst}
+use Rattle.std.proofs.Common.{◌≡◌, ℕ, ◌+◌, ◌||◌, Bool, true, false, cond, List, [], ◌∷◌, ◌++◌, drop, Option, Some, None, refl, sym, ap, ◌∙◌, subst}
 use Rattle.cg_name.specs.Name.{Name, same_name}
 use Rattle.cg_name.specs.declared.refusal.Refusal.{Refusal}
 use Rattle.cg_name.specs.declared.refusal.Refusal.TheVariants.{Full, Busy, NoSavepoint, NameTaken}
 use Rattle.cg_model.specs.System.{System, Done, Attempt, Refuse, Accept}
 use Rattle.cg_model.specs.History.{Request, Begin, Do, Save, Back, Undo, Commit, Abort, Answer, Begun, Gave, Saved, WentBack, Committed, Aborted, Refused, Record, History, is_recorded}
 use Rattle.cg_model.specs.Opens.{without, transaction_in, opens_after, begins_after, commits_after}
-use Rattle.cg_model.specs.Live.{Items, behind_first, below, live_after, live, survivors, committed_after}
+use Rattle.cg_model.specs.Live.{Items, below, live_after, live, survivors, committed_after}
 use Rattle.cg_model.specs.Reply.{commands_above}
 use Rattle.cg_model.specs.Machine.{Entry, Did, Mark, has_mark}
 use Rattle.cg_core_laws.proofs.SystemLaws.{SystemLaws}
@@ -76,7 +76,7 @@ module _ (y : System) (laws : SystemLaws y) (o : y.State) where
   undo_tied c s t [] d m = d
   undo_tied c s t (Mark u h n ∷ l) d m = d
   undo_tied c s t (Did u h b a x f ∷ l) d m =
-      tie_in c (pop y c t (Did u h b a x f)) s t Undo (Gave Done) (shapes l) d refl (midway_pop y o t c.history c.entries (Did u h b a x f) l (shapes l) (midway_as c t _ d m) m) (ap behind_first (sym (d.lives t) ∙ ap shapes m)) refl refl refl refl
+      tie_in c (pop y c t (Did u h b a x f)) s t Undo (Gave Done) (shapes l) d refl (midway_pop y o t c.history c.entries (Did u h b a x f) l (shapes l) (midway_as c t _ d m) m) (ap (drop 1) (sym (d.lives t) ∙ ap shapes m)) refl refl refl refl
 
   -- all pops
   all_midway : (t : ℕ) (h : History y) (l : List (Entry y)) (c : Log y) → Midway y o t h c.entries (shapes l) → only t c.entries ≡ l → Midway y o t h (pop_all y t l c).entries []

@@ -1,6 +1,6 @@
 -- Writing cgroup.subtree_control (cgroup-v2, Controlling Controllers: Enabling and Disabling; Top-down Constraint;
 -- No Internal Process Constraint, which this project applies to all controllers alike).
-use Rattle.std.specs.Prelude.{Bool, cond, not, ◌&&◌, ◌||◌, List, [], ◌∷◌, filter, Option, Some, None}
+use Rattle.std.specs.Prelude.{Bool, cond, not, ◌&&◌, ◌||◌, List, [], ◌∷◌, filter, Option, Some, None, Result, Ok, Err}
 use Rattle.std.specs.List.{list_any}
 use Rattle.cg_maps.specs.FiniteMap.{empty}
 use Rattle.cg_maps.specs.FiniteSet.{is_empty_set}
@@ -25,18 +25,25 @@ planned s ops = such_that (λ c. (has s c || has ops.plus c) && not (has ops.min
 abbrev pub not_available : Controllers → Controllers → ControlOps → List Controller
 not_available a s ops = filter (λ c. has ops.plus c && not (has s c) && not (has a c)) all_controllers
 
--- a child has the controller in its own control
-abbrev pub used_below : List (Path × Settings) → Controller → Bool
-used_below children c = list_any (λ e. has e.1.control c) children
-
 -- those to be disabled that are enabled and that a child uses, in the profile's order
-abbrev pub in_use : Controllers → ControlOps → List (Path × Settings) → List Controller
-in_use s ops children = filter (λ c. has ops.minus c && has s c && used_below children c) all_controllers
+abbrev pub in_use : Controllers → ControlOps → Controllers → List Controller
+in_use s ops used = filter (λ c. has ops.minus c && has s c && has used c) all_controllers
 
 -- refused for the first of a list, if there is one
-abbrev pub refuse_first : (Controller → Refusal) → List Controller → Effect → Effect
-refuse_first f [] e = e
-refuse_first f (c ∷ cs) e = Refuse (f c)
+abbrev pub refuse_first : (Controller → Refusal) → List Controller → Result Controllers Refusal → Result Controllers Refusal
+refuse_first f [] r = r
+refuse_first f (c ∷ cs) r = Err (f c)
+
+-- the set that a write leaves, or why it is refused: by what is available, what is enabled, the operations, what the children
+-- use, whether the group has processes of its own, and whether it is the root
+abbrev pub plan : Controllers → Controllers → ControlOps → Controllers → Bool → Bool → Result Controllers Refusal
+plan a s ops used processes root =
+    refuse_first Unavailable (not_available a s ops) (refuse_first InUse (in_use s ops used)
+    (cond (not root && processes && not (is_no_controllers (planned s ops))) (Err HasProcesses) (Ok (planned s ops))))
+
+-- the controllers that a child has in its own control
+abbrev pub used_below : List (Path × Settings) → Controllers
+used_below children = such_that (λ c. list_any (λ e. has e.1.control c) children)
 
 -- the CPUs of each child that asks for some are emptied, and then the last changes are made
 abbrev pub emptied : List (Path × Settings) → List Change → List Change
@@ -53,12 +60,13 @@ control_change p s t = change (Part p Control) (Some s) (Some t) ∷ []
 abbrev pub controlled : Path → Controllers → Controllers → List (Path × Settings) → List Change
 controlled p s t children = emptied (cond (loses_cpuset s t) children []) (control_change p s t)
 
+-- by the path, the group's control, its children, and what is planned
+abbrev pub by_plan : Path → Controllers → List (Path × Settings) → Result Controllers Refusal → Effect
+by_plan p s children (Err r) = Refuse r
+by_plan p s children (Ok t) = Accept Done (controlled p s t children)
+
 -- by the path, the operations, the group's settings, what is available, the children, and whether there are processes of its own
 abbrev pub subtree_effect : Path → ControlOps → Option Settings → Option Controllers → List (Path × Settings) → Bool → Effect
 subtree_effect p ops None a children processes = Refuse NoGroup
 subtree_effect p ops (Some s) None children processes = Refuse NoGroup
-subtree_effect p ops (Some s) (Some a) children processes =
-    refuse_first Unavailable (not_available a s.control ops) (refuse_first InUse (in_use s.control ops children)
-    (cond (not (is_root p) && processes && not (is_no_controllers (planned s.control ops)))
-    (Refuse HasProcesses)
-    (Accept Done (controlled p s.control (planned s.control ops) children))))
+subtree_effect p ops (Some s) (Some a) children processes = by_plan p s.control children (plan a s.control ops (used_below children) processes (is_root p))

@@ -1,6 +1,6 @@
 -- What is derived from the tree: who is in a group and below it, what is available, frozen, populated and effective
 -- (cgroup-v2; the section stands with each value).
-use Rattle.std.specs.Prelude.{ℕ, Bool, false, cond, List, [], ◌∷◌, ◌++◌, Option, Some, None, option_map, option_and_then}
+use Rattle.std.specs.Prelude.{ℕ, Bool, false, cond, List, [], ◌∷◌, ◌++◌, drop, Option, Some, None, option_map, option_and_then}
 use Rattle.std.specs.List.{list_any}
 use Rattle.cg_maps.specs.FiniteMap.{retain, domain, entries, keys, len, is_nonempty}
 use Rattle.cg_maps.specs.FiniteSet.{FiniteSet, is_empty_set, in_common}
@@ -49,13 +49,9 @@ abbrev pub has_freeze : Option Settings → Bool
 has_freeze None = false
 has_freeze (Some s) = s.freeze
 
-abbrev pub behind_first {ℓ} : {A : Type ℓ} → List A → List A
-behind_first [] = []
-behind_first (x ∷ xs) = xs
-
 -- the groups from below the root down to p
 abbrev pub down_to : Tree → Path → List (Option Settings)
-down_to T p = behind_first (above T p ++ group T p ∷ [])
+down_to T p = drop 1 (above T p ++ group T p ∷ [])
 
 -- the group's own freeze value or that of a group above it is 1; the root has none (Core Interface Files: cgroup.freeze)
 abbrev pub is_frozen : Tree → Path → Bool

@@ -1,5 +1,5 @@
 -- What stands: the live stack of each transaction, read from its own records, and the surviving commands.
-use Rattle.std.specs.Prelude.{ℕ, ◌==◌, ◌||◌, Bool, true, false, cond, List, [], ◌∷◌, ◌++◌, length}
+use Rattle.std.specs.Prelude.{ℕ, ◌==◌, ◌||◌, Bool, true, false, cond, List, [], ◌∷◌, ◌++◌, length, drop}
 use Rattle.cg_name.specs.Name.{Name, same_name}
 use Rattle.cg_model.specs.System.{System, Outcome}
 use Rattle.cg_model.specs.History.{Request, Do, Save, Back, Undo, Abort, Answer, Gave, Saved, WentBack, Committed, Aborted, History}
@@ -13,10 +13,6 @@ pub data Item (y : System) : Type 0 where
 abbrev pub Items : System → Type 0
 Items y = List (Item y)
 
-abbrev pub behind_first : {A : Type 0} → List A → List A
-behind_first [] = []
-behind_first (x ∷ xs) = xs
-
 -- what lies below the savepoint with this name
 abbrev pub below : {y : System} → Name → Items y → Items y
 below n [] = []
@@ -27,7 +23,7 @@ below n (Marked t h m ∷ l) = cond (same_name m n) l (below n l)
 abbrev pub live_after : {y : System} → Request y → Answer → ℕ → History y → Items y → Items y
 live_after (Do c) (Gave a) t h l = Ran t h c a ∷ l
 live_after (Save n) Saved t h l = Marked t h n ∷ l
-live_after Undo (Gave a) t h l = behind_first l
+live_after Undo (Gave a) t h l = drop 1 l
 live_after (Back n) (WentBack k) t h l = below n l
 live_after Abort (Aborted u) t h l = []
 live_after _ _ t h l = l

@@ -10,6 +10,7 @@ mod Frame
 pub mod Lawful
 mod Commuting
 mod IfAccepted
+pub mod Plans
 pub mod Parents
 mod SinglePuts
 mod SubtreeChanges

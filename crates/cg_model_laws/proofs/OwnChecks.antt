@@ -3,10 +3,7 @@ use Rattle.std.proofs.Common.{◌≡◌, ℕ, Bool, true, false, not, ◌&&◌, 
 use Rattle.std.proofs.lemmas.Bool.{cond_both}
 use Rattle.cg_maps.specs.FiniteSet.{FiniteSet}
 use Rattle.cg_name.specs.Path.{Path, is_root}
-use Rattle.cg_name.specs.declared.controller.Controller.{Controller}
-use Rattle.cg_name.specs.declared.refusal.Refusal.{Refusal}
-use Rattle.cg_name.specs.declared.refusal.Refusal.TheVariants.{Unavailable, InUse, HasProcesses, Controlled, NoFile}
-use Rattle.cg_text.specs.Controllers.{is_no_controllers}
+use Rattle.cg_name.specs.declared.refusal.Refusal.TheVariants.{Controlled, NoFile}
 use Rattle.cg_text.specs.declared.control_ops.ControlOps.{ControlOps}
 use Rattle.cg_text.specs.declared.controllers.Controllers.{Controllers}
 use Rattle.cg_text.specs.declared.settings.Settings.{Settings}
@@ -19,11 +16,12 @@ use Rattle.cg_model.specs.Key as keys
 use Rattle.cg_model.specs.Change.{change}
 use Rattle.cg_model.specs.Command.{Command, Create, Remove, Migrate, Subtree, Freeze, Cpus, Show, Online, MaxDescendants, MaxDepth, Effect}
 use Rattle.cg_model.specs.Groups.{create_effect, remove_effect}
-use Rattle.cg_model.specs.Control.{planned, not_available, in_use, refuse_first, controlled, subtree_effect}
+use Rattle.cg_model.specs.Control.{used_below, subtree_effect}
 use Rattle.cg_model.specs.Writes.{migrate_effect, written, freeze_effect, cpus_effect, limit_effect, shown, show_effect}
 use Rattle.cg_model.specs.Effect.{effect}
 use Rattle.cg_model.specs.History.{is_own_check}
 use Rattle.cg_model_laws.specs.Laws.{OwnChecks}
+use Rattle.cg_model_laws.proofs.Plans.{planned_both}
 
 abbrev IsOwn : Effect → Type 0
 IsOwn (Refuse r) = is_own_check r ≡ true
@@ -49,17 +47,11 @@ moved k p None own = refl
 moved k p (Some q) None = refl
 moved k p (Some q) (Some s) = cond_both (admits p s) (Accept Done (change (Place k) (Some q) (Some p) ∷ [])) (Refuse Controlled) IsOwn (λ _. tt) (λ _. refl)
 
-refused_first : (f : Controller → Refusal) (cs : List Controller) (e : Effect) → ((c : Controller) → is_own_check (f c) ≡ true) → IsOwn e → IsOwn (refuse_first f cs e)
-refused_first f [] e own h = h
-refused_first f (c ∷ cs) e own h = own c
-
 controls : (p : Path) (ops : ControlOps) (own : Option Settings) (offered : Option Controllers) (children : List (Path × Settings)) (crowded : Bool) → IsOwn (subtree_effect p ops own offered children crowded)
 controls p ops None offered children crowded = refl
 controls p ops (Some s) None children crowded = refl
 controls p ops (Some s) (Some a) children crowded =
-    refused_first Unavailable (not_available a s.control ops) _ (λ c. refl) (refused_first InUse (in_use s.control ops children) _ (λ c. refl)
-    (cond_both (not (is_root p) && crowded && not (is_no_controllers (planned s.control ops))) (Refuse HasProcesses)
-    (Accept Done (controlled p s.control (planned s.control ops) children)) IsOwn (λ _. refl) (λ _. tt)))
+    planned_both IsOwn p s.control children a ops (used_below children) crowded (is_root p) (λ c. refl) (λ c. refl) refl (λ _ _ _. tt)
 
 freezes : (p : Path) (v : Bool) (own : Option Settings) → IsOwn (freeze_effect p v own)
 freezes p v None = refl

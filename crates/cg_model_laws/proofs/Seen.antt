@@ -1,5 +1,5 @@
 -- What a command sees of a tree is what its mark covers.
-use Rattle.std.proofs.Common.{◌≡◌, Bool, true, false, cond, [], ◌∷◌, ◌++◌, refl, sym, ap, subst, ◌∙◌, true≢false, Option, Some, None, option_map, option_and_then}
+use Rattle.std.proofs.Common.{◌≡◌, Bool, true, false, cond, [], ◌∷◌, ◌++◌, drop, refl, sym, ap, subst, ◌∙◌, true≢false, Option, Some, None, option_map, option_and_then}
 use Rattle.std.specs.Cmp.{nat_cmp_total}
 use Rattle.std.specs.FinMap.{nat_cmp-IsAntisymmetric}
 use Rattle.std.specs.List.{list_any}
@@ -8,7 +8,7 @@ use Rattle.cg_maps.proofs.Maps as maps
 use Rattle.cg_name.specs.Order.{path_cmp_total, path_cmp_exact}
 use Rattle.cg_name.specs.Path.{Path, is_root, same_path, is_prefix, is_above, is_parent}
 use Rattle.cg_model.specs.Tree.{Tree, group, place_of, above, last_of, parent_group}
-use Rattle.cg_model.specs.Derived.{children, is_in, is_below, processes, processes_below, available, has_freeze, behind_first, down_to, is_frozen, is_populated, narrowed_along, effective_cpus}
+use Rattle.cg_model.specs.Derived.{children, is_in, is_below, processes, processes_below, available, has_freeze, down_to, is_frozen, is_populated, narrowed_along, effective_cpus}
 use Rattle.cg_model_laws.specs.Covers.{within, SameAround}
 use Rattle.cg_model_laws.proofs.Paths.{same_path-is, prefix_itself, above-prefix, parent-prefix, comparable_down, comparable_up, along_same}
 
@@ -58,7 +58,7 @@ module _ {p : Path} {T U : Tree} (same : SameAround p T U) where
   populated_same = ap is_nonempty processes_below_same
 
   down_same : down_to T p ≡ down_to U p
-  down_same = λ i. behind_first (above_same i ++ group_same i ∷ [])
+  down_same = λ i. drop 1 (above_same i ++ group_same i ∷ [])
 
   pub frozen_same : is_frozen T p ≡ is_frozen U p
   frozen_same = ap (list_any has_freeze) down_same

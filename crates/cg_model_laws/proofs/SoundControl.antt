@@ -9,7 +9,6 @@ use Rattle.cg_maps.proofs.Maps as maps
 use Rattle.cg_name.specs.Path.{Path, same_path, is_root, is_parent}
 use Rattle.cg_name.specs.Order.{path_cmp_total}
 use Rattle.cg_name.specs.declared.controller.Controller.{Controller}
-use Rattle.cg_name.specs.declared.refusal.Refusal.TheVariants.{HasProcesses, Unavailable, InUse}
 use Rattle.cg_text.specs.Controllers.{has, IsWithin, is_no_controllers}
 use Rattle.cg_text.specs.declared.control_ops.ControlOps.{ControlOps}
 use Rattle.cg_text.specs.declared.controllers.Controllers.{Controllers}
@@ -19,13 +18,13 @@ use Rattle.cg_model.specs.Derived.{children, processes, available}
 use Rattle.cg_model.specs.Sound.{Sound}
 use Rattle.cg_model.specs.Key.{Control, Cpus, with_setting, Part, put, part_replaced}
 use Rattle.cg_model.specs.Change.{Change, change, done}
-use Rattle.cg_model.specs.System.{Done, Refuse, Accept}
-use Rattle.cg_model.specs.Control.{planned, not_available, used_below, in_use, refuse_first, emptied, loses_cpuset, control_change, controlled, subtree_effect}
+use Rattle.cg_model.specs.Control.{planned, not_available, used_below, in_use, emptied, loses_cpuset, control_change, controlled, subtree_effect}
 use Rattle.cg_model_laws.proofs.Paths.{never, same_path-itself, same_path-is, path_cases}
 use Rattle.cg_model_laws.proofs.Keys.{group_here, group_apart}
 use Rattle.cg_model_laws.proofs.Parents.{not_its_parent, not_parents_of_each_other, parent_exists, child_facts, children_differ, child_passes, no_process, available_below, available_root}
 use Rattle.cg_model_laws.proofs.ControllerSets.{has-such_that, none_passes}
-use Rattle.cg_model_laws.proofs.IfAccepted.{IfAccepted, refused_first}
+use Rattle.cg_model_laws.proofs.IfAccepted.{IfAccepted}
+use Rattle.cg_model_laws.proofs.Plans.{planned_both}
 use Rattle.cg_model_laws.proofs.SoundPuts.{no_members_is_empty, own_root, own_child, put_part, put_control, same_control}
 
 -- while the CPUs of p's children are emptied: T is the tree before, U the tree by now, and es are the children still to come
@@ -171,22 +170,23 @@ module _ (T : Tree) (sound : Sound T) where
 
   -- where no refusal applies
   unrefused_sound : (p : Path) (ops : ControlOps) (s : Settings) (a : Controllers) → group T p ≡ Some s → available T p ≡ Some a
-      → not_available a s.control ops ≡ [] → in_use s.control ops (children T p) ≡ []
+      → not_available a s.control ops ≡ [] → in_use s.control ops (used_below (children T p)) ≡ []
       → (not (is_root p) && is_nonempty (processes T p) && not (is_no_controllers (planned s.control ops))) ≡ false
       → Sound (done (controlled p s.control (planned s.control ops) (children T p)) T)
   unrefused_sound p ops s a e v none_missing none_used no_internal =
       let old : Controller → Bool = has s.control in
       let plus : Controller → Bool = has ops.plus in
       let minus : Controller → Bool = has ops.minus in
-      let plan : Controller → Bool = λ c. (old c || plus c) && not (minus c) in
+      let after : Controller → Bool = λ c. (old c || plus c) && not (minus c) in
       let missing : Controller → Bool = λ c. plus c && not (old c) && not (has a c) in
-      let used : Controller → Bool = λ c. minus c && old c && used_below (children T p) c in
+      let taken : Controller → Bool = λ c. list_any (λ e. has e.1.control c) (children T p) in
+      let used : Controller → Bool = λ c. minus c && old c && has (used_below (children T p)) c in
       controlled_sound p s a (planned s.control ops) e v
-      (λ c h. planned_available (old c) (plus c) (minus c) (has a c) (sym (has-such_that plan c) ∙ h) (none_passes missing none_missing c) (control_available p s a e v c))
+      (λ c h. planned_available (old c) (plus c) (minus c) (has a c) (sym (has-such_that after c) ∙ h) (none_passes missing none_missing c) (control_available p s a e v c))
       (λ q y b g c h.
       let own : old c ≡ true = (own_child T sound p s e q y b g).control c h in
-      let by_child : used_below (children T p) c ≡ true = child_passes T p q y (λ f. has f.1.control c) b g h in
-      has-such_that plan c ∙ used_planned (old c) (plus c) (minus c) (used_below (children T p) c) own by_child (none_passes used none_used c))
+      let by_child : has (used_below (children T p)) c ≡ true = has-such_that taken c ∙ child_passes T p q y (λ f. has f.1.control c) b g h in
+      has-such_that after c ∙ used_planned (old c) (plus c) (minus c) (has (used_below (children T p)) c) own by_child (none_passes used none_used c))
       (λ k g. not_refused (is_root p) _ _ no_internal (true_from_ne_false (is_nonempty (processes T p)) (λ none. no_process T p k none g)))
 
   pub subtree_sound : (p : Path) (ops : ControlOps) (own : Option Settings) (offered : Option Controllers) → group T p ≡ own → available T p ≡ offered
@@ -194,9 +194,5 @@ module _ (T : Tree) (sound : Sound T) where
   subtree_sound p ops None offered e v = tt
   subtree_sound p ops (Some s) None e v = tt
   subtree_sound p ops (Some s) (Some a) e v =
-      let t : Controllers = planned s.control ops in
-      let P : List Change → Type 0 = λ cs. Sound (done cs T) in
-      refused_first P Unavailable (not_available a s.control ops) (refuse_first InUse (in_use s.control ops (children T p)) _) (λ none_missing.
-      refused_first P InUse (in_use s.control ops (children T p)) _ (λ none_used.
-      cond_both (not (is_root p) && is_nonempty (processes T p) && not (is_no_controllers t)) (Refuse HasProcesses) (Accept Done (controlled p s.control t (children T p))) (λ f. IfAccepted f P)
-      (λ internal. tt) (λ no_internal. unrefused_sound p ops s a e v none_missing none_used no_internal)))
+      planned_both (λ f. IfAccepted f (λ cs. Sound (done cs T))) p s.control (children T p) a ops (used_below (children T p)) (is_nonempty (processes T p)) (is_root p)
+      (λ c. tt) (λ c. tt) tt (unrefused_sound p ops s a e v)

@@ -1,5 +1,5 @@
 -- The changes of writing cgroup.subtree_control are lawful: the children's CPUs are emptied one by one, and the control comes last.
-use Rattle.std.proofs.Common.{◌≡◌, Bool, true, false, cond, not, ◌&&◌, List, [], ◌∷◌, ◌≢◌, refl, ap, ◌∙◌, Option, Some, None, option_map}
+use Rattle.std.proofs.Common.{◌≡◌, Bool, true, false, cond, ◌&&◌, List, [], ◌∷◌, ◌≢◌, refl, ap, ◌∙◌, Option, Some, None, option_map}
 use Rattle.std.proofs.lemmas.Bool.{both_ways, or_from, and_left, and_right, false_from_ne_true}
 use Rattle.std.proofs.lemmas.Option.{none-some}
 use Rattle.std.specs.List.{AllByRecursion}
@@ -8,8 +8,6 @@ use Rattle.cg_maps.specs.FiniteSet.{is_empty_set}
 use Rattle.cg_maps.proofs.Maps as maps
 use Rattle.cg_name.specs.Order.{path_cmp_total}
 use Rattle.cg_name.specs.Path.{Path, is_root, same_path, is_prefix, is_parent, comparable}
-use Rattle.cg_name.specs.declared.refusal.Refusal.TheVariants.{Unavailable, InUse, HasProcesses}
-use Rattle.cg_text.specs.Controllers.{is_no_controllers}
 use Rattle.cg_text.specs.declared.control_ops.ControlOps.{ControlOps}
 use Rattle.cg_text.specs.declared.controllers.Controllers.{Controllers}
 use Rattle.cg_text.specs.declared.settings.Settings.{Settings}
@@ -17,8 +15,7 @@ use Rattle.cg_model.specs.Tree.{Tree, group}
 use Rattle.cg_model.specs.Derived.{children}
 use Rattle.cg_model.specs.Key.{Field, Control, Cpus, Setting, setting, Part, value_at, put, part_replaced, touch}
 use Rattle.cg_model.specs.Change.{Change, change}
-use Rattle.cg_model.specs.System.{Done, Refuse, Accept}
-use Rattle.cg_model.specs.Control.{planned, not_available, in_use, refuse_first, emptied, loses_cpuset, control_change, controlled, subtree_effect}
+use Rattle.cg_model.specs.Control.{planned, used_below, emptied, loses_cpuset, control_change, controlled, subtree_effect}
 use Rattle.cg_model.specs.Footprint.{X, S, N, Pid, Count}
 use Rattle.cg_model_laws.proofs.Lists.{all_map, all_with}
 use Rattle.cg_model_laws.proofs.Paths.{same_path-apart, prefix_trans, prefixes_of_one, parent-prefix, comparable_down}
@@ -26,7 +23,8 @@ use Rattle.cg_model_laws.proofs.Fields.{setting_there}
 use Rattle.cg_model_laws.proofs.Keys.{group_here, put_apart}
 use Rattle.cg_model_laws.proofs.Marks.{same_path-swapped}
 use Rattle.cg_model_laws.proofs.Lawful.{Under, IsNoGroup, IsLawful}
-use Rattle.cg_model_laws.proofs.IfAccepted.{IfAccepted, refused_first}
+use Rattle.cg_model_laws.proofs.IfAccepted.{IfAccepted}
+use Rattle.cg_model_laws.proofs.Plans.{planned_both}
 use Rattle.cg_model_laws.proofs.Parents.{child_facts, children_differ}
 
 -- the mark of a group covers that of a group below it
@@ -106,11 +104,5 @@ pub subtree_lawful : (T : Tree) (p : Path) (ops : ControlOps) (s : Option Settin
 subtree_lawful T p ops None a b e = tt
 subtree_lawful T p ops (Some s) None b e = tt
 subtree_lawful T p ops (Some s) (Some a) b e =
-    let P : List Change → Type 0 = IsLawful (X p ∷ []) T in
-    let after : Controllers = planned s.control ops in
-    refused_first P Unavailable (not_available a s.control ops) (refuse_first InUse (in_use s.control ops (children T p)) _)
-    (λ _. refused_first P InUse (in_use s.control ops (children T p)) _
-    (λ _. elim (not (is_root p) && b && not (is_no_controllers after)) as (λ x. IfAccepted (cond x (Refuse HasProcesses) (Accept Done (controlled p s.control after (children T p)))) P) [
-      | true ↦ tt
-      | false ↦ control_lawful T p s after e
-    ]))
+    planned_both (λ f. IfAccepted f (IsLawful (X p ∷ []) T)) p s.control (children T p) a ops (used_below (children T p)) b (is_root p)
+    (λ c. tt) (λ c. tt) tt (λ _ _ _. control_lawful T p s (planned s.control ops) e)
