@@ -1,12 +1,22 @@
 //! Sound trees within the limits of world texts.
-ghost use Rattle.std.specs.Prelude.{◌≡◌, IfOk, IfErr};
+ghost use Rattle.std.specs.Prelude.{◌≡◌, IfOk, IfErr, slice_get};
+ghost use Rattle.std.specs.Option.{option_copied, option_map};
+ghost use Rattle.cg_maps.specs.FiniteMap.{entries};
 ghost use Rattle.cg_name.specs.declared.refusal.Refusal.TheVariants.{Memory};
+ghost use Rattle.cg_model.specs.Tree.{group, place_of};
 ghost use Rattle.cg_world.specs.World.{IsWorld};
 
 use crate::plain::PlainTree;
+use cg_cpus::cpu_set::CpuSet;
+use cg_name::path::Path;
 use cg_name::refusal::Refusal;
+use cg_text::controllers::Controllers;
+use cg_text::settings::Settings;
 use std::alloc::Global;
 use std::marker::Model;
+
+#[cfg(test)]
+mod tests;
 
 /// A sound tree that a world text can spell.
 #[derive(Drop)]
@@ -61,5 +71,51 @@ impl World {
         Ok(World {
             tree: self.tree.copy(alloc)?,
         })
+    }
+
+    /// The machine's controllers.
+    pub fn controllers(&self) -> Controllers
+        ensures { result ≡ self.now.controllers }
+    {
+        self.tree.controllers()
+    }
+
+    /// The CPUs that are online, none of them above 1,023.
+    pub fn online(&self) -> CpuSet
+        ensures { result ≡ self.now.online }
+    {
+        self.tree.online()
+    }
+
+    /// The settings of a group, where there is one at this path.
+    pub fn settings(&self, path: &Path) -> Option<Settings>
+        ensures { result ≡ group self.now path.now }
+    {
+        self.tree.settings(path)
+    }
+
+    /// The group of a process, where there is one with this PID.
+    pub fn location(&self, pid: u32) -> Option<&Path>
+        ensures { option_copied result ≡ place_of self.now pid }
+    {
+        self.tree.location(pid)
+    }
+
+    /// The group with that many groups before it in the order of the paths, and its settings. So the root's is at
+    /// 0, and there is none from the number of groups on.
+    pub fn group_at(&self, index: u64) -> Option<(&Path, Settings)>
+        ensures { option_map (λ e. (e.0.now, e.1)) result ≡ slice_get (entries self.now.groups) index }
+    {
+        let (path, settings) = self.tree.groups().iter().nth(index as usize)?;
+        Some((path, *settings))
+    }
+
+    /// The process with that many processes before it by ascending PID, and the path of its group. There is none
+    /// from the number of processes on.
+    pub fn proc_at(&self, index: u64) -> Option<(u32, &Path)>
+        ensures { option_map (λ e. (e.0, e.1.now)) result ≡ slice_get (entries self.now.places) index }
+    {
+        let (pid, path) = self.tree.places().iter().nth(index as usize)?;
+        Some((*pid, path))
     }
 }
