@@ -1,2 +1,4 @@
 pub mod Pieces
-pub mod Text
+pub mod Words
+pub mod Written
+pub mod WrittenPaths

@@ -1,22 +1,30 @@
--- What holds of every name and every path.
-use Rattle.std.specs.Prelude.{◌≡◌, ◌≢◌, ℕ, ◌<◌, ◌≤◌, List, length}
-use Rattle.std.specs.List.{AllByRecursion}
+-- What holds of every name, every word and every path.
+use Rattle.std.specs.Prelude.{◌≡◌, ℕ, ◌≤◌, List, length}
 use Rattle.std.specs.Cmp.{IsTotalOrder}
 use Rattle.std.specs.FinMap.{IsAntisymmetric}
+use Rattle.cg_name.specs.Word.{SpellsBytes, FitsLine, quoted_text}
 use Rattle.cg_name.specs.Name.{name_cmp}
-use Rattle.cg_name.specs.Path.{Path, IsPath, SpellsPath, path_cmp, path_text}
+use Rattle.cg_name.specs.Path.{Path, IsPath, SpellsPath, path_cmp, path_word}
 
--- a text spells one path at most
-abbrev pub PathHasOneText : Type 0
-PathHasOneText = (p q : Path) (text : List ℕ) → SpellsPath text p → SpellsPath text q → p ≡ q
+-- a word spells one list of bytes at most
+abbrev pub OneMeaning : Type 0
+OneMeaning = (word xs ys : List ℕ) → SpellsBytes word xs → SpellsBytes word ys → xs ≡ ys
 
--- a byte of a path's text: a printing character of ASCII, but no quotation mark or backslash
-abbrev pub IsPathByte : ℕ → Type 0
-IsPathByte b = (33 ≤ b) × (b ≤ 126) × (b ≢ 34) × (b ≢ 92)
+-- bytes between quotation marks are a word that spells them
+abbrev pub QuotedIsSpelled : Type 0
+QuotedIsSpelled = (bytes : List ℕ) → SpellsBytes (quoted_text bytes) bytes
 
--- the text of a path is one plain word
-abbrev pub PathTextIsPlain : Type 0
-PathTextIsPlain = (p : Path) → IsPath p → (0 < length (path_text p)) × AllByRecursion IsPathByte (path_text p)
+-- a word spells one path at most
+abbrev pub OnePath : Type 0
+OnePath = (word : List ℕ) (p q : Path) → SpellsPath word p → SpellsPath word q → p ≡ q
+
+-- the word that is written for a path spells the path
+abbrev pub WrittenPathIsSpelled : Type 0
+WrittenPathIsSpelled = (p : Path) → IsPath p → SpellsPath (path_word p) p
+
+-- and may stand in a line, of which it is at most 32,770 bytes
+abbrev pub WrittenPathFitsLine : Type 0
+WrittenPathFitsLine = (p : Path) → IsPath p → FitsLine (path_word p) × (length (path_word p) ≤ 32770)
 
 -- names are totally ordered, and only equal names tie
 abbrev pub NamesAreOrdered : Type 0

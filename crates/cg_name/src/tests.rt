@@ -1,15 +1,14 @@
 use crate::controller::Controller;
 use crate::name::Name;
-use crate::path::Path;
 use crate::refusal::{Refusal, TxnNumber};
 use crate::save_name::SaveName;
+use crate::word::write_quoted;
 use std::alloc::{AllocError, Global};
-use std::cmp::Ordering;
 use std::collections::HashMap;
 use std::test::Fail;
 
 // The text, that many times.
-fn repeated(alloc: Global, text: &str, count: u32) -> Result<String, AllocError> {
+pub(crate) fn repeated(alloc: Global, text: &str, count: u32) -> Result<String, AllocError> {
     let mut all = String::new(alloc);
     for _ in 0..count {
         all.push_str(text)?;
@@ -75,6 +74,9 @@ fn controllers_have_their_words(rt: HostRuntime) {
 fn names_are_read(rt: HostRuntime) -> Result<(), Fail> {
     let alloc = rt.alloc();
     let longest = repeated(alloc, "n", 255)?;
+    // 255 bytes too: 127 of two bytes, and one more
+    let mut widest = repeated(alloc, "é", 127)?;
+    widest.push_str("n")?;
     for text in [
         "a",
         "web-1.slice",
@@ -87,7 +89,20 @@ fn names_are_read(rt: HostRuntime) -> Result<(), Fail> {
         "cgroup.max",
         "CGROUP.PROCS",
         "memory.max",
+        "é",
+        "\u{1f600}",
+        "a b",
+        " ",
+        "a\"",
+        "\"",
+        "a\\",
+        "\\n",
+        "\t",
+        "a\r",
+        "\u{1}",
+        "\u{7f}",
         longest.as_str(),
+        widest.as_str(),
     ] {
         let name = Name::read(alloc, text)?;
         assert_eq!(rt; name.as_str(), text);
@@ -102,17 +117,18 @@ fn names_are_read(rt: HostRuntime) -> Result<(), Fail> {
 fn other_texts_are_no_names(rt: HostRuntime) -> Result<(), Fail> {
     let alloc = rt.alloc();
     let too_long = repeated(alloc, "n", 256)?;
+    let too_wide = repeated(alloc, "é", 128)?;
     for text in [
         "",
-        "a b",
         "a/b",
         "/",
-        "a\"",
-        "a\\",
+        "é/",
         "a\n",
-        "\u{7f}",
-        "é",
+        "\n",
+        "a\u{0}",
+        "\u{0}",
         too_long.as_str(),
+        too_wide.as_str(),
         ".",
         "..",
         "cgroup.procs",
@@ -135,153 +151,18 @@ fn other_texts_are_no_names(rt: HostRuntime) -> Result<(), Fail> {
 }
 
 #[test]
-fn paths_are_read_and_written(rt: HostRuntime) -> Result<(), Fail> {
-    let alloc = rt.alloc();
-    let deepest = repeated(alloc, "/n", 64)?;
-    for (text, depth) in [
-        ("/", 0),
-        ("/a", 1),
-        ("/a/b", 2),
-        ("/web-1.slice/a!/b", 3),
-        (deepest.as_str(), 64),
+fn texts_are_quoted(rt: HostRuntime) -> Result<(), Fail> {
+    for (text, want) in [
+        ("", "\"\""),
+        ("a", "\"a\""),
+        ("\"\\\n\ta", "\"\\\"\\\\\\n\ta\""),
+        ("\r\u{0}é", "\"\r\u{0}é\""),
     ] {
-        let path = Path::read(alloc, text)?;
-        assert_eq!(rt; path.depth(), depth, "{text}");
-        assert_eq!(rt; path.is_root(), depth == 0, "{text}");
-        let mut out = Vec::from_slice(alloc, b"> ")?;
-        path.write(&mut out)?;
+        let mut out = Vec::from_slice(rt.alloc(), b"> ")?;
+        write_quoted(text.as_bytes(), &mut out)?;
         assert_eq!(rt; &out[..2], b"> ".as_slice(), "{text}");
-        assert_eq!(rt; &out[2..], text.as_bytes());
-        let copy = path.copy(alloc)?;
-        assert!(rt; copy == path, "{text}");
+        assert_eq!(rt; &out[2..], want.as_bytes(), "{text}");
     }
-    Ok(())
-}
-
-#[test]
-fn other_texts_are_no_paths(rt: HostRuntime) -> Result<(), Fail> {
-    let alloc = rt.alloc();
-    let too_deep = repeated(alloc, "/n", 65)?;
-    for text in [
-        "",
-        "a",
-        "a/b",
-        "//",
-        "/a/",
-        "/a//b",
-        "//a",
-        "/.",
-        "/a/..",
-        "/a b",
-        "/a/cgroup.procs",
-        "/cgroup.events/a",
-        " /a",
-        "\"/a\"",
-        too_deep.as_str(),
-    ] {
-        assert_eq!(rt;
-            Path::read(alloc, text).err(),
-            Some(Refusal::Syntax),
-            "{text}"
-        );
-    }
-    Ok(())
-}
-
-#[test]
-fn a_path_gives_its_names_and_parent(rt: HostRuntime) -> Result<(), Fail> {
-    let alloc = rt.alloc();
-    let root = Path::root(alloc);
-    assert!(rt; root.is_root());
-    assert!(rt; root.parent(alloc)?.is_none());
-    assert!(rt; root.name_at(0).is_none());
-
-    let path = Path::read(alloc, "/a/bc")?;
-    assert_eq!(rt; path.names().len(), 2);
-    let second = path.name_at(1).map(|name| name.as_str());
-    assert_eq!(rt; second, Some("bc"));
-    assert!(rt; path.name_at(2).is_none());
-    let Some(parent) = path.parent(alloc)? else {
-        return Err(Fail::from(Refusal::IsRoot));
-    };
-    assert!(rt; parent == Path::read(alloc, "/a")?);
-    let Some(top) = parent.parent(alloc)? else {
-        return Err(Fail::from(Refusal::IsRoot));
-    };
-    assert!(rt; top == root);
-    Ok(())
-}
-
-#[test]
-fn paths_stand_in_order(rt: HostRuntime) -> Result<(), Fail> {
-    let alloc = rt.alloc();
-    for (less, more) in [
-        ("/", "/a"),
-        ("/a", "/a/b"),
-        ("/a/b", "/a!"),
-        ("/a", "/aa"),
-        ("/B", "/a"),
-        ("/a/z", "/b"),
-    ] {
-        let less_path = Path::read(alloc, less)?;
-        let more_path = Path::read(alloc, more)?;
-        assert_eq!(rt; less_path.cmp(&more_path), Ordering::Less, "{less} {more}");
-        assert_eq!(rt;
-            more_path.cmp(&less_path),
-            Ordering::Greater,
-            "{less} {more}"
-        );
-    }
-    Ok(())
-}
-
-#[test]
-fn prefixes_are_told(rt: HostRuntime) -> Result<(), Fail> {
-    let alloc = rt.alloc();
-    for (first, second, prefix, comparable) in [
-        ("/", "/", true, true),
-        ("/", "/a/b", true, true),
-        ("/a", "/", false, true),
-        ("/a", "/a", true, true),
-        ("/a", "/a/b", true, true),
-        ("/a/b", "/a", false, true),
-        ("/a", "/ab", false, false),
-        ("/a/b", "/a/c", false, false),
-        ("/a/c", "/a/b/c", false, false),
-        ("/b", "/a/b", false, false),
-    ] {
-        let path = Path::read(alloc, first)?;
-        let other = Path::read(alloc, second)?;
-        assert_eq!(rt; path.is_prefix(&other), prefix, "{first} {second}");
-        assert_eq!(rt; path.comparable(&other), comparable, "{first} {second}");
-    }
-    Ok(())
-}
-
-#[test]
-fn a_child_has_one_name_more(rt: HostRuntime) -> Result<(), Fail> {
-    let alloc = rt.alloc();
-    let last_but_one = repeated(alloc, "/n", 63)?;
-    let deepest = repeated(alloc, "/n", 64)?;
-    for (parent, name, child) in [
-        ("/", "a", "/a"),
-        ("/a", "b", "/a/b"),
-        ("/a/b", "a", "/a/b/a"),
-        (last_but_one.as_str(), "n", deepest.as_str()),
-    ] {
-        let path = Path::read(alloc, parent)?;
-        let made = path.child(alloc, Name::read(alloc, name)?)?;
-        assert!(rt; made == Path::read(alloc, child)?, "{child}");
-    }
-    Ok(())
-}
-
-#[test]
-fn the_deepest_path_has_no_child(rt: HostRuntime) -> Result<(), Fail> {
-    let alloc = rt.alloc();
-    let path = Path::read(alloc, repeated(alloc, "/n", 64)?.as_str())?;
-    let made = path.child(alloc, Name::read(alloc, "n")?);
-    assert_eq!(rt; made.err(), Some(Refusal::Syntax));
     Ok(())
 }
 

@@ -3,5 +3,6 @@ pub mod LinesLemmas
 pub mod LinesLaw
 mod OneLine
 mod Playing
+mod SessionNames
 pub mod WorldLemmas
 mod WrittenLines

@@ -2,8 +2,9 @@
 use Rattle.std.proofs.Common.{◌≡◌, ℕ, List, [], ◌∷◌, Option, Some, None, codes, refl, sym, ap, subst, ◌∙◌, inl, inr, arith, Result, Ok, Err, OnOk, OnErr, false, true≢false}
 use Rattle.std.specs.Result.{is_err}
 use Rattle.cg_name.specs.Path.{SpellsPath}
-use Rattle.cg_name.proofs.Pieces.{spells_one}
-use Rattle.cg_text.specs.Words.{Word}
+use Rattle.cg_name.proofs.WrittenPaths.{one_path}
+use Rattle.cg_text.proofs.Cuts.{one_saying}
+use Rattle.cg_text.specs.Words.{Word, Says}
 use Rattle.cg_model.specs.Command.{Command, Create, Remove, Migrate, Subtree, Freeze, Cpus, Show, Online, MaxDescendants, MaxDepth}
 use Rattle.cg_core.specs.Record.{Request, Begin, Do, Commit, Abort}
 use Rattle.cg_script.specs.Request.{SpellsCommand, SpellsRequest, SpellsCall, SpellsLine}
@@ -37,7 +38,7 @@ asked_word ws (MaxDescendants p v) a = absurd a
 asked_word ws (MaxDepth p v) a = absurd a
 
 command_one : (ws : List Word) (c d : Command) → SpellsCommand ws c → SpellsCommand ws d → c ≡ d
-command_one ws (Create p) (Create q) a b = ap (λ x. Create x) (spells_one p q a.0 a.2 (subst (λ w. SpellsPath w q) (second_same (sym b.1 ∙ a.1)) b.2))
+command_one ws (Create p) (Create q) a b = ap (λ x. Create x) (one_path a.0 p q a.2 (subst (λ w. SpellsPath w q) (second_same (sym b.1 ∙ a.1)) b.2))
 command_one ws (Create q) (Remove p) a b = absurd b
 command_one ws (Create q) (Migrate k p) a b = absurd b
 command_one ws (Create q) (Subtree p ops) a b = absurd b
@@ -89,11 +90,23 @@ some_none e = cc
 
 pub line_one : (line : List ℕ) (c d : Option (List ℕ × Request)) → SpellsLine line c → SpellsLine line d → c ≡ d
 line_one line None None a b = refl
-line_one line None (Some d) a b = absurd (some_none (sym b.1.1 ∙ a.1))
-line_one line (Some c) None a b = absurd (some_none (sym a.1.1 ∙ b.1))
+line_one line None (Some d) a b = absurd (some_none (one_saying line (Some b.0) None b.1 a))
+line_one line (Some c) None a b = absurd (some_none (one_saying line (Some a.0) None a.1 b))
 line_one line (Some c) (Some d) a b =
-    let words : a.1.0 ≡ b.1.0 = some_same (sym a.1.1 ∙ b.1.1) in
-    ap (λ x. Some x) (call_one a.1.0 c.0 d.0 c.1 d.1 a.1.2 (subst (λ ws. SpellsCall ws d.0 d.1) (sym words) b.1.2))
+    let words : a.0 ≡ b.0 = some_same (one_saying line (Some a.0) (Some b.0) a.1 b.1) in
+    ap (λ x. Some x) (call_one a.0 c.0 d.0 c.1 d.1 a.2 (subst (λ ws. SpellsCall ws d.0 d.1) (sym words) b.2))
+
+-- a line in the grammar says something that a line may
+pub says_of : (line : List ℕ) (call : Option (List ℕ × Request)) → SpellsLine line call → (said : Option (List Word)) × Says line said
+says_of line None h = (None, h)
+says_of line (Some c) h = (Some h.0, h.1)
+
+-- the words that a line says spell what the line spells
+pub call_of : (line : List ℕ) (ws : List Word) (call : Option (List ℕ × Request)) → Says line (Some ws) → SpellsLine line call → (c : List ℕ × Request) × (call ≡ Some c) × SpellsCall ws c.0 c.1
+call_of line ws None says h = absurd (some_none (one_saying line (Some ws) None says h))
+call_of line ws (Some c) says h =
+    let words : h.0 ≡ ws = some_same (one_saying line (Some h.0) (Some ws) h.1 says) in
+    (c, refl, subst (λ ws. SpellsCall ws c.0 c.1) words h.2)
 
 -- what a session's request is answered, the line is answered
 pub answers_asked : (s t : Replay) (line n out : List ℕ) (r : Request) → SpellsLine line (Some (n, r)) → Asked s n r out t → Answers s line out t

@@ -52,7 +52,7 @@ answered_too_long (Some text) (Some rest) line out s h e =
   where
     too_long : (call : Option (List ℕ × Request)) → SpellsLine h.1 call → length h.1 ≤ 65536
     too_long None k = k.0.short
-    too_long (Some c) k = k.0.short
+    too_long (Some c) k = k.1.0.short
 
     refused : (call : Option (List ℕ × Request)) → SpellsLine h.1 call → IsOneTooMany s.names call
     refused call k = let long = h.2 in let short = too_long call k in absurd (omega arith)

@@ -1,5 +1,5 @@
 -- Lines that are gathered up to the first that ends a world.
-use Rattle.std.proofs.Common.{◌≡◌, ◌≢◌, ℕ, ◌+◌, ◌<◌, ◌≤◌, List, [], ◌∷◌, ◌++◌, length, sym, ap, ◌∙◌, refl, subst, inl, inr, arith, append-nil, append_assoc, length-append}
+use Rattle.std.proofs.Common.{codes, ◌↔◌, ◌≡◌, ◌≢◌, ℕ, ◌+◌, ◌<◌, ◌≤◌, List, [], ◌∷◌, ◌++◌, length, sym, ap, ◌∙◌, refl, subst, inl, inr, arith, append-nil, append_assoc, length-append}
 use Rattle.std.specs.Prelude.{Option, Some, None, IfSome, Result, Ok, Err, OnOk}
 use Rattle.std.specs.List.{AllByRecursion, slice_split, onto_first}
 use Rattle.std.proofs.lemmas.Bool.{cases_Bool, eqb-false}
@@ -7,12 +7,13 @@ use Rattle.std.proofs.lemmas.Grind.{flat_map-append}
 use Rattle.std.proofs.lemmas.List.Elements.{All-nil, All-cons}
 use Rattle.std.proofs.lemmas.List.Splits.{slice_split-cons_yes, slice_split-cons_no}
 use Rattle.cg_model.specs.Tree.{Tree}
-use Rattle.cg_text.specs.Words.{IsLine, is_newline, without_empty_last, lines_of}
+use Rattle.cg_text.specs.Words.{Word, IsLine, Says, SayAll, is_newline, without_empty_last, lines_of}
 use Rattle.cg_world.specs.World.{SpellsWorld}
 use Rattle.cg_script.specs.Lines.{HasNoNewline, TakesKnownLine}
 use Rattle.cg_script.specs.declared.lines.LineKind.TheVariants.{End, TooLong, Text}
 use Rattle.cg_script.specs.WorldPart.{EndsWorld, joined, ReadsWorld}
 use Rattle.cg_script.specs.WorldLines.{GoesPast, GathersWorld, HasNoWorld, SpoilsWorld, StopsWorld}
+use Rattle.cg_text.proofs.Cuts.{one_saying}
 use Rattle.cg_script.proofs.LinesLaw.{lines_of-begins, lines_of-nil, steps_are_lines}
 
 -- ---- a text's lines have no newline, and lines without newlines are their text's lines
@@ -53,10 +54,6 @@ lines_of-joined (line ∷ lines) h =
 
 -- ---- lists of lines
 
-all_back : (P : List ℕ → Type 0) (xs ys : List (List ℕ)) → AllByRecursion P (xs ++ ys) → AllByRecursion P ys
-all_back P [] ys h = h
-all_back P (x ∷ xs) ys h = all_back P xs ys h.1
-
 all_append : (P : List ℕ → Type 0) (xs ys : List (List ℕ)) → AllByRecursion P xs → AllByRecursion P ys → AllByRecursion P (xs ++ ys)
 all_append P [] ys h k = k
 all_append P (x ∷ xs) ys h k = (h.0, all_append P xs ys h.1 k)
@@ -95,13 +92,26 @@ joined-more lines line =
 joined-append : (xs ys : List (List ℕ)) → joined (xs ++ ys) ≡ joined xs ++ joined ys
 joined-append xs ys = flat_map-append (λ l. l ++ 10 ∷ []) xs ys
 
+pub some_same : {X : Type 0} {x y : X} → Some x ≡ Some y → x ≡ y
+some_same e = cc
+
+-- what a line says tells whether it ends a world
+pub ends_by : (line : List ℕ) (said : Option (List Word)) → Says line said → (said ≡ Some (codes "end" ∷ [])) ↔ EndsWorld line
+ends_by line said says = ((λ e. subst (Says line) e says), (λ ends. one_saying line said (Some (codes "end" ∷ [])) says ends))
+
 -- ---- what a world's text can't have
 
--- a line of a world's text is good, and the text is short
-spells_good : (gathered more : List (List ℕ)) (line : List ℕ) (T : Tree) → ArePlain (gathered ++ line ∷ more) → SpellsWorld (joined (gathered ++ line ∷ more)) T → IsLine line
+-- each of some lines says something that a line may
+each_says : (gathered more : List (List ℕ)) (line : List ℕ) (said : List (List Word)) → SayAll (gathered ++ line ∷ more) said → (s : Option (List Word)) × Says line s
+each_says [] more line said (inl h) = (None, h.0)
+each_says [] more line said (inr h) = (Some h.0, h.2)
+each_says (g ∷ gathered) more line said (inl h) = each_says gathered more line said h.1
+each_says (g ∷ gathered) more line said (inr h) = each_says gathered more line h.1 h.4
+
+-- a line of a world's text says something that a line may, and the text is short
+spells_good : (gathered more : List (List ℕ)) (line : List ℕ) (T : Tree) → ArePlain (gathered ++ line ∷ more) → SpellsWorld (joined (gathered ++ line ∷ more)) T → (s : Option (List Word)) × Says line s
 spells_good gathered more line T plain spelled =
-    let lines = gathered ++ line ∷ more in
-    (all_back IsLine gathered (line ∷ more) (subst (AllByRecursion IsLine) (lines_of-joined lines plain) spelled.lines)).0
+    each_says gathered more line spelled.said (subst (λ ls. SayAll ls spelled.said) (lines_of-joined (gathered ++ line ∷ more) plain) spelled.lines)
 
 spells_short : (gathered more : List (List ℕ)) (line : List ℕ) (T : Tree) → SpellsWorld (joined (gathered ++ line ∷ more)) T → length (joined gathered) + (length line + 1) ≤ 16777216
 spells_short gathered more line T spelled =
@@ -114,7 +124,8 @@ spells_short gathered more line T spelled =
 
 spoils_no_world : (gathered more : List (List ℕ)) (line : List ℕ) (T : Tree) → ArePlain (gathered ++ line ∷ more) → SpoilsWorld (length (joined gathered)) line → SpellsWorld (joined (gathered ++ line ∷ more)) T → ⊥
 spoils_no_world gathered more line T plain spoils spelled =
-    let long = spoils (spells_good gathered more line T plain spelled) in
+    let says = spells_good gathered more line T plain spelled in
+    let long = spoils says.0 says.1 in
     let short = spells_short gathered more line T spelled in
     omega arith
 
@@ -167,15 +178,19 @@ stops_at_text (Some text) (Some rest) line n h s = λ l others e.
     let same : line ≡ l = cc in
     subst (SpoilsWorld n) same s
 
+is_line : (line : List ℕ) (said : Option (List Word)) → Says line said → IsLine line
+is_line line None h = h.0
+is_line line (Some ws) h = h.0
+
 pub stops_at_long : (old new : Option (List ℕ)) (line : List ℕ) (n : ℕ) → TakesKnownLine old TooLong line new → IfSome old (StopsWorld n)
 stops_at_long None new line n h = tt
 stops_at_long (Some text) None line n h = absurd h
-stops_at_long (Some text) (Some rest) line n h = λ l others e is_line.
+stops_at_long (Some text) (Some rest) line n h = λ l others e said says.
     let step = steps_are_lines text TooLong line rest h in
     let first : lines_of text ≡ step.0 ∷ lines_of rest = step.2 in
     let same : step.0 ≡ l = cc in
     let long : 65536 < length l = subst (λ (w : List ℕ). 65536 < length w) same step.1 in
-    absurd (omega (arith, is_line.short))
+    absurd (omega (arith, (is_line l said says).short))
 
 pub stops_at_end : (old new : Option (List ℕ)) (line : List ℕ) (n : ℕ) → TakesKnownLine old End line new → IfSome old (StopsWorld n)
 stops_at_end None new line n h = tt

@@ -2,7 +2,7 @@
 use Rattle.std.specs.Prelude.{ℕ, List, ◌++◌, codes}
 use Rattle.std.specs.Fmt.{decimal}
 use Rattle.cg_name.specs.Refusal.{refusal_text}
-use Rattle.cg_text.specs.FileText.{quoted_text}
+use Rattle.cg_name.specs.Word.{quoted_text}
 use Rattle.cg_core.specs.Record.{Answer, Begun, Done, Text, Saved, Back, Committed, Aborted, Refused}
 
 -- the line that answers a request, without its newline

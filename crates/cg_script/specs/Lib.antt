@@ -5,7 +5,5 @@ pub mod Lines
 pub mod Replay
 pub mod ReplayCode
 pub mod Request
-pub mod Session
-pub mod SessionFields
 pub mod WorldLines
 pub mod WorldPart

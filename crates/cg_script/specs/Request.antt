@@ -1,10 +1,10 @@
 -- The lines of a schedule: which session asks for what.
 use Rattle.std.specs.Prelude.{◌≡◌, ℕ, List, [], ◌∷◌, ◌++◌, Option, Some, None, codes, ⊤}
-use Rattle.cg_name.specs.Path.{IsPath, SpellsPath, path_text}
-use Rattle.cg_text.specs.Words.{Word, IsLine, said_by}
+use Rattle.cg_name.specs.Path.{IsPath, SpellsPath, path_word}
+use Rattle.cg_name.specs.SaveName.{IsSaveName}
+use Rattle.cg_text.specs.Words.{Word, Says}
 use Rattle.cg_model.specs.Command.{Command, Create}
 use Rattle.cg_core.specs.Record.{Request, Begin, Do, Commit, Abort}
-use Rattle.cg_script.specs.Session.{IsSessionName}
 
 -- the words of a command; the others can't be asked for yet
 abbrev pub SpellsCommand : List Word → Command → Type 0
@@ -20,19 +20,19 @@ SpellsRequest ws Abort = ws ≡ codes "abort" ∷ []
 
 -- a line's words spell a session's request
 pub record SpellsCall (ws : List Word) (n : List ℕ) (r : Request) : Type 0 where
-  pub name : IsSessionName n
+  pub name : IsSaveName n
   pub others : List Word
   pub words : ws ≡ n ∷ others
   pub request : SpellsRequest others r
 
 -- a good line says nothing, or a session's request
 abbrev pub SpellsLine : List ℕ → Option (List ℕ × Request) → Type 0
-SpellsLine line None = IsLine line × (said_by line ≡ None)
-SpellsLine line (Some call) = IsLine line × ((ws : List Word) × (said_by line ≡ Some ws) × SpellsCall ws call.0 call.1)
+SpellsLine line None = Says line None
+SpellsLine line (Some call) = (ws : List Word) × Says line (Some ws) × SpellsCall ws call.0 call.1
 
 -- the text of a command, its words with single spaces; the others can't be asked for yet
 abbrev pub command_text : Command → List ℕ
-command_text (Create p) = codes "create " ++ path_text p
+command_text (Create p) = codes "create " ++ path_word p
 command_text _ = []
 
 -- what stands behind the session's name
@@ -58,7 +58,7 @@ CanBeAsked _ = ⊤
 
 -- the law of written lines: each spells what it was written for
 abbrev pub WrittenLinesAreSpelled : Type 0
-WrittenLinesAreSpelled = (n : List ℕ) (r : Request) → IsSessionName n → CanBeAsked r → SpellsLine (line_text n r) (Some (n, r))
+WrittenLinesAreSpelled = (n : List ℕ) (r : Request) → IsSaveName n → CanBeAsked r → SpellsLine (line_text n r) (Some (n, r))
 
 -- the law of lines: each says one thing at most
 abbrev pub OneCall : Type 0

@@ -1,6 +1,6 @@
 -- How the lines of the world at the head of a text are gathered.
 use Rattle.std.specs.Prelude.{◌≡◌, ℕ, ◌+◌, ◌<◌, List, ◌∷◌, [], ◌++◌, length, Option, Some, None, ⊤}
-use Rattle.cg_text.specs.Words.{lines_of, IsLine}
+use Rattle.cg_text.specs.Words.{Word, lines_of, Says}
 use Rattle.cg_model.specs.Tree.{Tree}
 use Rattle.cg_world.specs.World.{SpellsWorld}
 use Rattle.cg_script.specs.WorldPart.{joined, BeginsWithWorld}
@@ -22,9 +22,9 @@ abbrev pub HasNoWorld : List ℕ → Type 0
 HasNoWorld text =
     (lines : List (List ℕ)) (last : List ℕ) (rest : List (List ℕ)) (T : Tree) → BeginsWithWorld text lines last rest → SpellsWorld (joined (lines ++ last ∷ [])) T → ⊥
 
--- behind so many bytes the line is bad or too much, and no text of a world has it there
+-- behind so many bytes the line says nothing that a line may, or is too much, and no text of a world has it there
 abbrev pub SpoilsWorld : ℕ → List ℕ → Type 0
-SpoilsWorld gathered line = IsLine line → 16777216 < gathered + (length line + 1)
+SpoilsWorld gathered line = (said : Option (List Word)) → Says line said → 16777216 < gathered + (length line + 1)
 
 -- the text has no line, or its first one spoils the world
 abbrev pub StopsWorld : ℕ → List ℕ → Type 0

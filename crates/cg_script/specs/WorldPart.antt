@@ -1,13 +1,13 @@
 -- The world at the head of a text: its lines through the first that ends a world.
 use Rattle.std.specs.Prelude.{◌≡◌, ℕ, List, [], ◌∷◌, ◌++◌, Option, Some, None, codes}
 use Rattle.std.specs.List.{AllByRecursion, flat_map}
-use Rattle.cg_text.specs.Words.{lines_of, said_by}
+use Rattle.cg_text.specs.Words.{lines_of, Says}
 use Rattle.cg_model.specs.Tree.{Tree}
 use Rattle.cg_world.specs.World.{SpellsWorld}
 
 -- the line says `end`
 abbrev pub EndsWorld : List ℕ → Type 0
-EndsWorld line = said_by line ≡ Some (codes "end" ∷ [])
+EndsWorld line = Says line (Some (codes "end" ∷ []))
 
 -- lines as a text
 abbrev pub joined : List (List ℕ) → List ℕ

@@ -4,7 +4,7 @@ ghost use Rattle.std.specs.Fmt.{decimal};
 ghost use Rattle.cg_name.specs.Refusal.{refusal_text};
 ghost use Rattle.cg_name.specs.declared.refusal.Refusal.TheVariants.{Memory};
 ghost use Rattle.cg_core.specs.Meaning.{answer_of};
-ghost use Rattle.cg_text.specs.FileText.{quoted_text};
+ghost use Rattle.cg_name.specs.Word.{quoted_text};
 ghost use Rattle.cg_script.specs.Answer.{answer_text};
 
 use cg_core::record::Answer;

@@ -6,7 +6,7 @@ ghost use Rattle.cg_name.specs.Refusal.{IsSyntaxOrMemory};
 ghost use Rattle.cg_name.specs.declared.refusal.Refusal.TheVariants.{Memory};
 ghost use Rattle.cg_core.specs.Meaning.{request_of};
 ghost use Rattle.cg_core.specs.Record as model;
-ghost use Rattle.cg_script.specs.Request.{SpellsLine, SpellsRequest, line_text, request_text, OneCall, WrittenLinesAreSpelled};
+ghost use Rattle.cg_script.specs.Request.{SpellsCall, SpellsLine, SpellsRequest, line_text, request_text, OneCall, WrittenLinesAreSpelled};
 
 use crate::session::SessionName;
 use cg_core::command::Command;
@@ -26,12 +26,21 @@ pub fn read_line(alloc: Global, line: &[u8]) -> Result<Option<(SessionName, Requ
     let Some(words) = read_words(alloc, line)? else {
         return Ok(None);
     };
-    let [name, others @ ..] = words.as_slice() else {
+    Ok(Some(read_call(alloc, words.as_slice())?))
+}
+
+/// The session and the request that the words of a line spell.
+fn read_call(alloc: Global, words: &[&str]) -> Result<(SessionName, Request), Refusal>
+    ensures value { IfOk result (λ c. SpellsCall (map (λ w. w.now) words.now) c.0 (request_of c.1)) }
+    ensures syntax { IsErrOf result Refusal.Syntax → (n : List ℕ) (r : model.Request) → SpellsCall (map (λ w. w.now) words.now) n r → ⊥ }
+    ensures refusals { IfErr result IsSyntaxOrMemory }
+{
+    let [name, others @ ..] = words else {
         return Err(Refusal::Syntax);
     };
     let name = SessionName::read(name)?;
     let request = read_request(alloc, others)?;
-    Ok(Some((name, request)))
+    Ok((name, request))
 }
 
 /// The request that the words behind a session's name spell.

@@ -81,6 +81,26 @@ fn answers_worked_schedules(rt: HostRuntime) -> Result<(), Fail> {
     Ok(())
 }
 
+/// A path in quotation marks, as the last line without a newline and with a commit behind it.
+#[test]
+fn answers_quoted_paths(rt: HostRuntime) -> Result<(), Fail> {
+    let rows: [(&[u8], &[u8]); 2] = [
+        (
+            b"A begin\nA create \"/a b\nA create \"/a b\"",
+            b"begun 1\nrefused 1 syntax\ndone\naborted 1\nworld 1\ncontrollers cpuset cpu memory\nonline 0-7\ngroup / - 0 -\nproc 10 /\nproc 11 /\nend\n",
+        ),
+        (
+            b"A begin\nA create \"/a b\nA create \"/a b\"\nA commit",
+            b"begun 1\nrefused 1 syntax\ndone\ncommitted 1\nworld 1\ncontrollers cpuset cpu memory\nonline 0-7\ngroup / - 0 -\ngroup \"/a b\" - 0 -\nproc 10 /\nproc 11 /\nend\n",
+        ),
+    ];
+    for (schedule, want) in rows {
+        let out = written(&rt, W0, schedule, 1_048_576)?;
+        assert_eq!(rt; out.as_slice(), want);
+    }
+    Ok(())
+}
+
 /// Lines of 65,537 and of 65,536 bytes: the first is refused, a comment too, and the next lines go on.
 #[test]
 fn answers_long_lines(rt: HostRuntime) -> Result<(), Fail> {

@@ -1,8 +1,8 @@
 //! Reads the world at the head of a text, line by line.
-ghost use Rattle.std.specs.Prelude.{◌≡◌, ◌<◌, ◌≤◌, ◌+◌, ◌↔◌, List, ℕ, [], ◌∷◌, ◌++◌, length, codes, map, IfOk, IfErr, IfSome, OnOk, IsTrue};
+ghost use Rattle.std.specs.Prelude.{Option, ◌≡◌, ◌<◌, ◌≤◌, ◌+◌, ◌↔◌, List, ℕ, [], ◌∷◌, ◌++◌, length, codes, map, IfOk, IfErr, IfSome, OnOk, IsTrue};
 ghost use Rattle.std.specs.Result.{IsErrOf};
 ghost use Rattle.cg_name.specs.Refusal.{IsSyntaxOrMemory};
-ghost use Rattle.cg_text.specs.Words.{IsLine};
+ghost use Rattle.cg_text.specs.Words.{Word, Says};
 ghost use Rattle.cg_model.specs.Tree.{Tree};
 ghost use Rattle.cg_world.specs.World.{SpellsWorld};
 ghost use Rattle.cg_script.specs.Lines.{pending, room_of, CanBreak};
@@ -104,16 +104,25 @@ fn add_line(alloc: Global, line: &[u8], text: &mut Vec<u8>) -> Result<bool, Scri
 fn append_line(alloc: Global, line: &[u8], text: &mut Vec<u8>) -> Result<bool, Refusal>
     ensures added { OnOk result (text.new.items ≡ text.old.items ++ (line.now ++ 10 ∷ [])) }
     ensures ended { IfOk result (λ ended. IsTrue ended ↔ EndsWorld line.now) }
-    ensures syntax { IsErrOf result Refusal.Syntax → ¬ (IsLine line.now) }
+    ensures syntax { IsErrOf result Refusal.Syntax → (said : Option (List Word)) → Says line.now said → ⊥ }
     ensures refusals { IfErr result IsSyntaxOrMemory }
 {
-    let ended = match read_words(alloc, line)? {
-        Some(words) => is_end(words.as_slice()),
-        None => false,
-    };
+    let ended = ends_world(alloc, line)?;
     text.extend_from_slice(line)?;
     text.push(b'\n')?;
     Ok(ended)
+}
+
+// Whether the line ends a world.
+fn ends_world(alloc: Global, line: &[u8]) -> Result<bool, Refusal>
+    ensures ended { IfOk result (λ ended. IsTrue ended ↔ EndsWorld line.now) }
+    ensures syntax { IsErrOf result Refusal.Syntax → (said : Option (List Word)) → Says line.now said → ⊥ }
+    ensures refusals { IfErr result IsSyntaxOrMemory }
+{
+    match read_words(alloc, line)? {
+        Some(words) => Ok(is_end(words.as_slice())),
+        None => Ok(false),
+    }
 }
 
 // Whether a line of these words ends a world.

@@ -1,5 +1,5 @@
 -- What interface files hold, as texts.
-use Rattle.std.specs.Prelude.{ℕ, ◌==◌, ◌||◌, Bool, true, false, cond, List, [], ◌∷◌, ◌++◌, map, filter, codes}
+use Rattle.std.specs.Prelude.{ℕ, ◌||◌, Bool, true, false, cond, List, [], ◌∷◌, ◌++◌, map, filter, codes}
 use Rattle.std.specs.List.{flat_map, join_with_byte}
 use Rattle.std.specs.Fmt.{decimal}
 use Rattle.cg_maps.specs.FiniteSet.{FiniteSet}
@@ -42,9 +42,12 @@ events_text populated frozen = codes "populated " ++ line_text (flag_word popula
 abbrev pub cpus_line : FiniteSet → List ℕ
 cpus_line s = line_text (cpus_text s)
 
+abbrev pub limit_word : Limit → List ℕ
+limit_word Max = codes "max"
+limit_word (UpTo n) = decimal n
+
 abbrev pub limit_text : Limit → List ℕ
-limit_text Max = codes "max\n"
-limit_text (UpTo n) = line_text (decimal n)
+limit_text l = line_text (limit_word l)
 
 -- a word of an operation for each named controller, in the profile's order: a plus or a minus, and the name
 abbrev pub op_words : ControlOps → List (List ℕ)
@@ -53,11 +56,3 @@ op_words ops = map (λ c. cond (has ops.plus c) 43 45 ∷ controller_word c) (fi
 -- the operations with single spaces between them, and no newline
 abbrev pub ops_text : ControlOps → List ℕ
 ops_text ops = join_with_byte 32 (op_words ops)
-
--- a byte between quotation marks: a quotation mark, a backslash and a newline are written with a backslash
-abbrev pub quoted_byte : ℕ → List ℕ
-quoted_byte b = cond (b == 10) (92 ∷ 110 ∷ []) (cond ((b == 34) || (b == 92)) (92 ∷ b ∷ []) (b ∷ []))
-
--- a text between quotation marks
-abbrev pub quoted_text : List ℕ → List ℕ
-quoted_text bs = 34 ∷ flat_map quoted_byte bs ++ 34 ∷ []

@@ -1,8 +1,10 @@
 -- The laws of interface texts, for contracts to cite.
-use Rattle.std.specs.Prelude.{◌≡◌, ℕ, ◌≤◌, Bool, true, false, List}
+use Rattle.std.specs.Prelude.{◌≡◌, ℕ, ◌≤◌, Bool, true, false, List, Option}
+use Rattle.std.specs.List.{AllByRecursion}
 use Rattle.cg_name.specs.declared.controller.Controller.{Controller}
 use Rattle.cg_text.specs.Controllers.{has}
 use Rattle.cg_text.specs.FileText.{flag_text, limit_text, ops_text}
+use Rattle.cg_text.specs.Words.{Line, Word, lines_of, Cuts, Says, SayAll, text_of, IsWrittenLine}
 use Rattle.cg_text.specs.Reading.{SpellsFlag, SpellsPid, SpellsLimit, SpellsOps}
 use Rattle.cg_text.specs.declared.control_ops.ControlOps.{ControlOps}
 use Rattle.cg_text.specs.declared.limit.Limit.{Limit}
@@ -46,3 +48,18 @@ OpsAreApart = (text : List ℕ) (ops : ControlOps) → SpellsOps text ops → Ar
 
 abbrev pub OpsAreSpelled : Type 0
 OpsAreSpelled = (ops : ControlOps) → AreApart ops → SpellsOps (ops_text ops) ops
+
+-- a line is cut into words in one way at most
+abbrev pub OneCut : Type 0
+OneCut = (line : Line) (ws vs : List Word) → Cuts line ws → Cuts line vs → ws ≡ vs
+
+-- a line says one thing at most, and so do lines
+abbrev pub OneSaying : Type 0
+OneSaying = (line : Line) (a b : Option (List Word)) → Says line a → Says line b → a ≡ b
+
+abbrev pub OneText : Type 0
+OneText = (lines : List Line) (said told : List (List Word)) → SayAll lines said → SayAll lines told → said ≡ told
+
+-- words that are written in lines are what the lines of the text say
+abbrev pub WrittenLinesSay : Type 0
+WrittenLinesSay = (lines : List (List Word)) → AllByRecursion IsWrittenLine lines → SayAll (lines_of (text_of lines)) lines

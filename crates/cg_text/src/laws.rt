@@ -1,5 +1,5 @@
-//! Laws of the texts of interface files.
-ghost use Rattle.cg_text.specs.Laws.{FlagIsSpelled, LimitIsSpelled, OneFlag, OneLimit, OneOps, OnePid, OpsAreApart, OpsAreSpelled};
+//! Laws of the texts of interface files, and of lines.
+ghost use Rattle.cg_text.specs.Laws.{FlagIsSpelled, LimitIsSpelled, OneCut, OneFlag, OneLimit, OneOps, OnePid, OneSaying, OneText, OpsAreApart, OpsAreSpelled, WrittenLinesSay};
 
 /// A text spells at most one value of each kind.
 pub fn a_text_spells_at_most_one_value()
@@ -27,4 +27,24 @@ pub fn spelled_operations_are_apart()
 /// The text of operations that are apart spells them.
 pub fn the_text_of_operations_spells_them()
     ensures { OpsAreSpelled }
+{}
+
+/// A line is cut into words in one way at most.
+pub fn a_line_is_cut_in_one_way()
+    ensures { OneCut }
+{}
+
+/// A line says one thing at most.
+pub fn a_line_says_one_thing_at_most()
+    ensures { OneSaying }
+{}
+
+/// So do lines, one after another.
+pub fn lines_say_one_thing_at_most()
+    ensures { OneText }
+{}
+
+/// Words that are written in lines are what the lines say that the text is cut into.
+pub fn written_lines_say_their_words()
+    ensures { WrittenLinesSay }
 {}

@@ -4,7 +4,8 @@ ghost use Rattle.std.specs.Prelude.{◌≡◌, ◌++◌, ◌∷◌, [], ◌≤�
 ghost use Rattle.std.specs.Fmt.{decimal};
 ghost use Rattle.cg_name.specs.Controller.{controller_word};
 ghost use Rattle.cg_name.specs.declared.refusal.Refusal.TheVariants.{Memory};
-ghost use Rattle.cg_text.specs.FileText.{controllers_text, cpus_line, events_text, flag_text, limit_text, line_text, ops_text, pids_text, quoted_byte, quoted_text};
+ghost use Rattle.cg_text.specs.FileText.{controllers_text, cpus_line, events_text, flag_text, limit_text, line_text, ops_text, pids_text};
+ghost use Rattle.cg_name.specs.Word.{quoted_text};
 ghost use Rattle.cg_text.specs.Reading.{sign_byte};
 ghost use Rattle.cg_text.specs.Writing.{spaced};
 
@@ -14,6 +15,7 @@ use crate::limit::Limit;
 use cg_cpus::cpu_set::CpuSet;
 use cg_name::controller::Controller;
 use cg_name::refusal::Refusal;
+use cg_name::word;
 use itoa::Buffer;
 
 /// Appends what `cgroup.controllers` and `cgroup.subtree_control` show: the names of the set's controllers in the
@@ -124,12 +126,7 @@ pub fn write_quoted(text: &[u8], out: &mut Vec<u8>) -> Result<(), Refusal>
     ensures unchanged { OnErr result (out.new.items ≡ out.old.items) }
     ensures refusals { IfErr result (λ e. e ≡ Memory) }
 {
-    let start = out.len();
-    let written = append_quoted(text, out);
-    if written.is_err() {
-        out.truncate(start);
-    }
-    written
+    word::write_quoted(text, out)
 }
 
 // What follows appends to `out`, and a refusal leaves what stood there at the front.
@@ -237,32 +234,4 @@ fn end_line(start: usize, out: &mut Vec<u8>) -> Result<(), Refusal>
         out.truncate(start);
     }
     Ok(ended?)
-}
-
-// The text between quotation marks.
-fn append_quoted(text: &[u8], out: &mut Vec<u8>) -> Result<(), Refusal>
-    ensures text { OnOk result (out.new.items ≡ out.old.items ++ quoted_text text.now) }
-    ensures kept { OnErr result (take (length out.old.items) out.new.items ≡ out.old.items) }
-    ensures refusals { IfErr result (λ e. e ≡ Memory) }
-{
-    out.push(b'"')?;
-    for byte in text {
-        append_byte(*byte, out)?;
-    }
-    out.push(b'"')?;
-    Ok(())
-}
-
-// A byte as it stands between quotation marks; a refusal leaves `out` as it was.
-fn append_byte(byte: u8, out: &mut Vec<u8>) -> Result<(), Refusal>
-    ensures text { OnOk result (out.new.items ≡ out.old.items ++ quoted_byte byte) }
-    ensures unchanged { OnErr result (out.new.items ≡ out.old.items) }
-    ensures refusals { IfErr result (λ e. e ≡ Memory) }
-{
-    match byte {
-        b'\n' => out.extend_from_slice(b"\\n")?,
-        b'"' | b'\\' => out.extend_from_slice(&[b'\\', byte])?,
-        _ => out.push(byte)?,
-    }
-    Ok(())
 }

@@ -1,13 +1,12 @@
 pub mod Adding
 mod Appending
 pub mod Below
-pub mod Conjunctions
 pub mod Cpus
 pub mod Limits
 pub mod Lines
-pub mod LinesOfText
 mod Listed
 pub mod LowCpus
+pub mod PlainWords
 mod Puts
 mod RoundTrip
 mod SoundTrees

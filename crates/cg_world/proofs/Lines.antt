@@ -1,7 +1,7 @@
 -- The lines of a text, one after another.
-use Rattle.std.proofs.Common.{◌≡◌, ℕ, ◌≤◌, ◌↔◌, inl, inr, Option, Some, None, List, [], ◌∷◌, length, refl, sym, ap, subst, ◌∙◌, arith}
-use Rattle.std.specs.List.{AllByRecursion, slice_split, filter_map, cons_option}
-use Rattle.cg_text.specs.Words.{Line, Word, IsLine, is_newline, without_empty_last, said_by}
+use Rattle.std.proofs.Common.{◌≡◌, ℕ, ◌≤◌, ◌↔◌, inl, inr, Option, Some, None, List, [], ◌∷◌, length, refl, sym, ap, subst, ◌∙◌}
+use Rattle.std.specs.List.{slice_split}
+use Rattle.cg_text.specs.Words.{Line, Word, is_newline, Says, SayAll}
 use Rattle.cg_model.specs.Tree.{Tree}
 use Rattle.cg_model.specs.Sound.{Sound}
 use Rattle.cg_world.specs.declared.stage.Stage.{Stage}
@@ -11,42 +11,30 @@ use Rattle.cg_world.specs.declared.version.Version as versions
 use Rattle.cg_world.specs.Statement.{SpellsStatement}
 use Rattle.cg_world.specs.World.{SpellsEach, SpellsWorld}
 use Rattle.cg_world.specs.Stage.{taken, version_at, Finishes, Leads}
+use Rattle.cg_text.proofs.Cuts.{one_saying, one_text}
+use Rattle.cg_text.proofs.Lines.{say_parts}
 use Rattle.cg_world.proofs.Spelled.{one_statement}
 use Rattle.cg_world.proofs.Stages.{goes, stops, ended, read_by}
 
--- ---- an empty line behind the last newline says nothing
-
-empty_line : IsLine []
-empty_line = record { short = omega arith; text = ([], (refl, refl)) }
-
-good : (ps : List Line) → AllByRecursion IsLine (without_empty_last ps) ↔ AllByRecursion IsLine ps
-good [] = ((λ h. h), (λ h. h))
-good ([] ∷ []) = ((λ h. (empty_line, tt)), (λ h. tt))
-good ((b ∷ l) ∷ []) = ((λ h. h), (λ h. h))
-good (l ∷ m ∷ ps) = let rest = good (m ∷ ps) in ((λ h. (h.0, rest.0 h.1)), (λ h. (h.0, rest.1 h.1)))
-
-said : (ps : List Line) → filter_map said_by (without_empty_last ps) ≡ filter_map said_by ps
-said [] = refl
-said ([] ∷ []) = refl
-said ((b ∷ l) ∷ []) = refl
-said (l ∷ m ∷ ps) = ap (cons_option (said_by l)) (said (m ∷ ps))
-
+-- an empty line behind the last newline says nothing
 pub leads : (text : List ℕ) (T : Tree) → SpellsWorld text T → Leads Begun (slice_split is_newline text) T
 leads text T h = record {
-  good = (good (slice_split is_newline text)).0 h.lines;
+  said = h.said;
+  lines_say = (say_parts (slice_split is_newline text) h.said).0 h.lines;
   version = h.version;
   statements = h.statements;
-  spelled = subst (λ ws. SpellsEach h.version ws h.statements) (said (slice_split is_newline text)) h.spelled;
+  spelled = h.spelled;
   finished = h.arranged;
 }
 
 pub spells : (text : List ℕ) (T : Tree) → length text ≤ 16777216 → Leads Begun (slice_split is_newline text) T → Sound T → SpellsWorld text T
 spells text T short h sound = record {
   short = short;
-  lines = (good (slice_split is_newline text)).1 h.good;
+  said = h.said;
+  lines = (say_parts (slice_split is_newline text) h.said).1 h.lines_say;
   version = h.version;
   statements = h.statements;
-  spelled = subst (λ ws. SpellsEach h.version ws h.statements) (sym (said (slice_split is_newline text))) h.spelled;
+  spelled = h.spelled;
   arranged = h.finished;
   sound = sound;
 }
@@ -74,72 +62,91 @@ one_made (ws ∷ wss) st v w (s ∷ ss) (t ∷ ts) T U h k f g =
     ] refl
 
 pub one_tree : (st : Stage) (lines : List Line) (T U : Tree) → Leads st lines T → Leads st lines U → T ≡ U
-one_tree st lines T U h k = one_made (filter_map said_by lines) st h.version k.version h.statements k.statements T U h.spelled k.spelled h.finished k.finished
+one_tree st lines T U h k =
+    one_made h.said st h.version k.version h.statements k.statements T U h.spelled (subst (λ ws. SpellsEach k.version ws k.statements) (one_text lines k.said h.said k.lines_say h.lines_say) k.spelled) h.finished k.finished
 
 -- ---- one line more
 
-abbrev more : Option (List Word) → List Line → List (List Word)
-more o lines = cons_option o (filter_map said_by lines)
+-- what a line that says nothing leaves to say, and what one with words does
+behind_nothing : (l : Line) (lines : List Line) (said : List (List Word)) → Says l None → SayAll (l ∷ lines) said → SayAll lines said
+behind_nothing l lines said none (inl k) = k.1
+behind_nothing l lines said none (inr k) = absurd (cc (one_saying l None (Some k.0) none k.2))
+
+behind_words : (l : Line) (lines : List Line) (said : List (List Word)) (ws : List Word) → Says l (Some ws) → SayAll (l ∷ lines) said → (others : List (List Word)) × (said ≡ ws ∷ others) × SayAll lines others
+behind_words l lines said ws some (inl k) = absurd (cc (one_saying l None (Some ws) k.0 some))
+behind_words l lines said ws some (inr k) = let e : k.0 ≡ ws = cc (one_saying l (Some k.0) (Some ws) k.2 some) in (k.1, k.3 ∙ ap (λ w. w ∷ k.1) e, k.4)
 
 -- a line that says nothing
-pub silent : (st : Stage) (l : Line) → IsLine l → said_by l ≡ None → (lines : List Line) (T : Tree) → Leads st (l ∷ lines) T ↔ Leads st lines T
-silent st l line none lines T = (
-  (λ h. record { good = h.good.1; version = h.version; statements = h.statements; spelled = subst (λ o. SpellsEach h.version (more o lines) h.statements) none h.spelled; finished = h.finished }),
-  (λ h. record { good = (line, h.good); version = h.version; statements = h.statements; spelled = subst (λ o. SpellsEach h.version (more o lines) h.statements) (sym none) h.spelled; finished = h.finished }),
+pub silent : (st : Stage) (l : Line) → Says l None → (lines : List Line) (T : Tree) → Leads st (l ∷ lines) T ↔ Leads st lines T
+silent st l none lines T = (
+  (λ h. record { said = h.said; lines_say = behind_nothing l lines h.said none h.lines_say; version = h.version; statements = h.statements; spelled = h.spelled; finished = h.finished }),
+  (λ h. record { said = h.said; lines_say = inl (none, h.lines_say); version = h.version; statements = h.statements; spelled = h.spelled; finished = h.finished }),
 )
 
 -- the statements of a line that says something, and of those behind it
 record Splits (st : Stage) (ws : List Word) (lines : List Line) (T : Tree) : Type 0 where
-  good : AllByRecursion IsLine lines
+  said : List (List Word)
+  lines_say : SayAll lines said
   version : versions.Version
   first : Statement
   others : List Statement
   says : SpellsStatement (version_at st) ws first
-  rest : SpellsEach version (filter_map said_by lines) others
+  rest : SpellsEach version said others
   finished : Finishes st version (first ∷ others) T
 
-split : (st : Stage) (l : Line) (ws : List Word) → said_by l ≡ Some ws → (lines : List Line) (T : Tree) → Leads st (l ∷ lines) T → Splits st ws lines T
-split st l ws e lines T h = at h.statements (subst (λ o. SpellsEach h.version (more o lines) h.statements) e h.spelled) h.finished
+split : (st : Stage) (l : Line) (ws : List Word) → Says l (Some ws) → (lines : List Line) (T : Tree) → Leads st (l ∷ lines) T → Splits st ws lines T
+split st l ws some lines T h =
+    let k = behind_words l lines h.said ws some h.lines_say in
+    at k.0 k.2 h.statements (subst (λ vs. SpellsEach h.version vs h.statements) k.1 h.spelled) h.finished
   where
-    at : (ss : List Statement) → SpellsEach h.version (ws ∷ filter_map said_by lines) ss → Finishes st h.version ss T → Splits st ws lines T
-    at [] k f = absurd k
-    at (s ∷ ss) k f = record { good = h.good.1; version = h.version; first = s; others = ss; says = (by_stage st h.version ws s ss T f).0 k.0; rest = k.1; finished = f }
+    at : (said : List (List Word)) → SayAll lines said → (ss : List Statement) → SpellsEach h.version (ws ∷ said) ss → Finishes st h.version ss T → Splits st ws lines T
+    at said all [] k f = absurd k
+    at said all (s ∷ ss) k f = record { said = said; lines_say = all; version = h.version; first = s; others = ss; says = (by_stage st h.version ws s ss T f).0 k.0; rest = k.1; finished = f }
 
 -- a line that can stand here
-pub spoken : (st next : Stage) (l : Line) (ws : List Word) (s : Statement) → IsLine l → said_by l ≡ Some ws → SpellsStatement (version_at st) ws s → taken st s ≡ Some next → (lines : List Line) (T : Tree) → Leads st (l ∷ lines) T ↔ Leads next lines T
-spoken st next l ws s line e says g lines T = (
+pub spoken : (st next : Stage) (l : Line) (ws : List Word) (s : Statement) → Says l (Some ws) → SpellsStatement (version_at st) ws s → taken st s ≡ Some next → (lines : List Line) (T : Tree) → Leads st (l ∷ lines) T ↔ Leads next lines T
+spoken st next l ws s some says g lines T = (
   (λ h.
-      let p = split st l ws e lines T h in
+      let p = split st l ws some lines T h in
       let same = one_statement (version_at st) ws p.first s p.says says in
-      record { good = p.good; version = p.version; statements = p.others; spelled = p.rest; finished = (goes st s next g p.version p.others T).0 (subst (λ t. Finishes st p.version (t ∷ p.others) T) same p.finished) }),
+      record { said = p.said; lines_say = p.lines_say; version = p.version; statements = p.others; spelled = p.rest; finished = (goes st s next g p.version p.others T).0 (subst (λ t. Finishes st p.version (t ∷ p.others) T) same p.finished) }),
   (λ h.
       let back : Finishes st h.version (s ∷ h.statements) T = (goes st s next g h.version h.statements T).1 h.finished in
       record {
-        good = (line, h.good);
+        said = ws ∷ h.said;
+        lines_say = inr (ws, h.said, some, refl, h.lines_say);
         version = h.version;
         statements = s ∷ h.statements;
-        spelled = subst (λ o. SpellsEach h.version (more o lines) (s ∷ h.statements)) (sym e) ((by_stage st h.version ws s h.statements T back).1 says, h.spelled);
+        spelled = ((by_stage st h.version ws s h.statements T back).1 says, h.spelled);
         finished = back;
       }),
 )
 
 -- a line that can't
-pub misplaced : (st : Stage) (l : Line) (ws : List Word) (s : Statement) → said_by l ≡ Some ws → SpellsStatement (version_at st) ws s → taken st s ≡ None → (lines : List Line) (T : Tree) → Leads st (l ∷ lines) T → ⊥
-misplaced st l ws s e says g lines T h =
-    let p = split st l ws e lines T h in
+pub misplaced : (st : Stage) (l : Line) (ws : List Word) (s : Statement) → Says l (Some ws) → SpellsStatement (version_at st) ws s → taken st s ≡ None → (lines : List Line) (T : Tree) → Leads st (l ∷ lines) T → ⊥
+misplaced st l ws s some says g lines T h =
+    let p = split st l ws some lines T h in
     stops st s g p.version p.others T (subst (λ t. Finishes st p.version (t ∷ p.others) T) (one_statement (version_at st) ws p.first s p.says says) p.finished)
 
 -- a line that says nothing that it may
-pub unspoken : (st : Stage) (l : Line) (ws : List Word) → said_by l ≡ Some ws → ((s : Statement) → SpellsStatement (version_at st) ws s → ⊥) → (lines : List Line) (T : Tree) → Leads st (l ∷ lines) T → ⊥
-unspoken st l ws e none lines T h = let p = split st l ws e lines T h in none p.first p.says
+pub unspoken : (st : Stage) (l : Line) (ws : List Word) → Says l (Some ws) → ((s : Statement) → SpellsStatement (version_at st) ws s → ⊥) → (lines : List Line) (T : Tree) → Leads st (l ∷ lines) T → ⊥
+unspoken st l ws some none lines T h = let p = split st l ws some lines T h in none p.first p.says
+
+-- a line that isn't good
+pub unsaid : (st : Stage) (l : Line) → ((said : Option (List Word)) → Says l said → ⊥) → (lines : List Line) (T : Tree) → Leads st (l ∷ lines) T → ⊥
+unsaid st l none lines T h = at h.lines_say
+  where
+    at : SayAll (l ∷ lines) h.said → ⊥
+    at (inl k) = none None k.0
+    at (inr k) = none (Some k.0) k.2
 
 -- where no line is left
 pub at_end : (st : Stage) (T : Tree) → Leads st [] T → (v : versions.Version) × (st ≡ Ended v T)
-at_end st T h = at h.statements h.spelled h.finished
+at_end st T h = at h.statements (subst (λ ws. SpellsEach h.version ws h.statements) h.lines_say h.spelled) h.finished
   where
     at : (ss : List Statement) → SpellsEach h.version [] ss → Finishes st h.version ss T → (v : versions.Version) × (st ≡ Ended v T)
     at [] k f = (h.version, ended st h.version T f)
     at (s ∷ ss) k f = absurd k
 
 pub leads_itself : (v : versions.Version) (T : Tree) → Leads (Ended v T) [] T
-leads_itself v T = record { good = tt; version = v; statements = []; spelled = tt; finished = (refl, refl, refl) }
+leads_itself v T = record { said = []; lines_say = refl; version = v; statements = []; spelled = tt; finished = (refl, refl, refl) }

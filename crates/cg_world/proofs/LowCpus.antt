@@ -1,12 +1,13 @@
 -- Sets whose numbers fit version 1.
 use Rattle.std.proofs.Common.{◌≡◌, ℕ, ◌≤◌, Bool, true, false, nat_le, ◌==◌, ◌||◌, ◌&&◌, List, [], ◌∷◌, refl, sym, ap, ◌∙◌, true≢false, eq-eqb, arith}
 use Rattle.std.specs.List.{list_all, list_any}
+use Rattle.std.specs.Cmp.Derive.{both_true}
+use Rattle.std.proofs.lemmas.Bool.{and_parts}
 use Rattle.std.proofs.lemmas.Bool.Decides.{nat_tests}
 use Rattle.cg_maps.specs.FiniteSet.{FiniteSet, has, members, no_members}
 use Rattle.cg_maps.proofs.Sets.{has-members, members-no_members}
 use Rattle.cg_world.specs.Statement.{AreCpusUpTo}
 use Rattle.cg_world.specs.World.{cpus_fit_one}
-use Rattle.cg_world.proofs.Conjunctions.{and_first, and_second, and_both}
 
 or_true : (b : Bool) → (b || true) ≡ true
 or_true true = refl
@@ -16,8 +17,8 @@ or_true false = refl
 listed : (ns : List ℕ) (n : ℕ) → list_all (λ m. nat_le m 127) ns ≡ true → list_any (λ m. n == m) ns ≡ true → n ≤ 127
 listed [] n h e = absurd (true≢false (sym e))
 listed (m ∷ ns) n h e = elim (n == m) as (λ b. (n == m) ≡ b → (b || list_any (λ k. n == k) ns) ≡ true → n ≤ 127) [
-  | true ↦ λ is _. let low : nat_le m 127 ≡ true = and_first (nat_le m 127) _ h in grind (arith, nat_tests)
-  | false ↦ λ is rest. listed ns n (and_second (nat_le m 127) _ h) rest
+  | true ↦ λ is _. let low : nat_le m 127 ≡ true = (and_parts (nat_le m 127) _ h).0 in grind (arith, nat_tests)
+  | false ↦ λ is rest. listed ns n (and_parts (nat_le m 127) _ h).1 rest
 ] refl e
 
 pub fits_up_to : (s : FiniteSet) → cpus_fit_one s ≡ true → AreCpusUpTo 127 s
@@ -28,7 +29,7 @@ each_low [] h = refl
 each_low (m ∷ ns) h =
     let first : m ≤ 127 = h m (ap (λ b. b || list_any (λ k. m == k) ns) (eq-eqb m m refl)) in
     let low : nat_le m 127 ≡ true = grind (arith, nat_tests) in
-    and_both (nat_le m 127) _ low (each_low ns (λ n e. h n (ap (λ b. (n == m) || b) e ∙ or_true (n == m))))
+    both_true low (each_low ns (λ n e. h n (ap (λ b. (n == m) || b) e ∙ or_true (n == m))))
 
 pub fits_one : (s : FiniteSet) → AreCpusUpTo 127 s → cpus_fit_one s ≡ true
 fits_one s h = each_low (members s) (λ n e. h n (has-members s n ∙ e))

@@ -3,7 +3,9 @@ use Rattle.std.proofs.Common.{◌≡◌, inl, inr, ℕ, ◌+◌, ◌*◌, ◌≤
 use Rattle.std.specs.Cmp.{nat_cmp_total}
 use Rattle.std.specs.FinMap.{nat_cmp-IsAntisymmetric}
 use Rattle.std.specs.Fmt.{decimal}
-use Rattle.std.specs.List.{AllByRecursion, flat_map, list_all, slice_split, join_with_byte}
+use Rattle.std.specs.List.{AllByRecursion, list_all, slice_split, join_with_byte}
+use Rattle.std.specs.Str.Parse.{IsNumeral, digits_value}
+use Rattle.std.proofs.lemmas.Bool.{and_parts}
 use Rattle.std.proofs.lemmas.Bool.Decides.{nat_tests}
 use Rattle.std.proofs.lemmas.Fmt.{decimal_is_IsNumeral, length-decimal-le}
 use Rattle.cg_maps.specs.FiniteMap.{entries, is_nonempty}
@@ -11,16 +13,17 @@ use Rattle.cg_maps.specs.FiniteSet.{FiniteSet, is_empty_set}
 use Rattle.cg_maps.proofs.Maps.{each_entry, all_map}
 use Rattle.cg_maps.proofs.Sets.{empty_set-is}
 use Rattle.cg_name.specs.Controller.{controller_word}
-use Rattle.cg_name.specs.Name.{IsName}
-use Rattle.cg_name.specs.Path.{Path, IsPath, path_text}
+use Rattle.cg_name.specs.Word.{FitsLine}
+use Rattle.cg_name.specs.Path.{Path, IsPath, path_word}
 use Rattle.cg_name.specs.Order.{path_cmp_total, path_cmp_exact}
-use Rattle.cg_name.proofs.Text.{path_text-plain}
 use Rattle.cg_name.specs.declared.controller.Controller.{Controller}
 use Rattle.cg_name.specs.declared.controller.Controller.TheVariants.{Cpuset, Cpu, Io, Memory, Hugetlb, Pids, Rdma, Misc}
 use Rattle.cg_cpus.specs.CpuList.{cpus_text}
 use Rattle.cg_cpus.proofs.Canonical.{canonical_spells}
 use Rattle.cg_text.specs.Controllers.{members, no_controllers, has, all_controllers}
-use Rattle.cg_text.specs.Words.{Word, IsLine}
+use Rattle.cg_text.specs.FileText.{flag_word, limit_word}
+use Rattle.cg_text.specs.Reading.{SpellsFlag, SpellsPid}
+use Rattle.cg_text.specs.Words.{Word, line_of, is_silent, IsWrittenLine}
 use Rattle.cg_text.specs.declared.controllers.Controllers as sets
 use Rattle.cg_text.specs.declared.limit.Limit.{Limit}
 use Rattle.cg_text.specs.declared.limit.Limit.TheVariants.{Max, UpTo}
@@ -31,16 +34,18 @@ use Rattle.cg_world.specs.declared.statement.Statement.TheVariants.{Version, Con
 use Rattle.cg_world.specs.declared.version.Version as versions
 use Rattle.cg_world.specs.declared.version.Version.TheVariants.{One, Two}
 use Rattle.cg_world.specs.Version.{version_word, last_cpu}
-use Rattle.cg_world.specs.Statement.{AddsControllers, SpellsControl, SpellsFlag, AreCpusUpTo, SpellsSomeCpus, SpellsAskedCpus, SpellsLimits, SpellsStatement}
-use Rattle.cg_world.specs.World.{IsWorld, IsWorldSettings, Arranges, SpellsEach, SpellsWorld, group_of, process_of, text_or_minus, control_text, flag_text, asked_cpus_text, cpus_fit_one, is_max, settings_fit_one, fits_version_one, limit_word, text_of_version, world_text}
+use Rattle.cg_world.specs.Statement.{AddsControllers, SpellsControl, AreCpusUpTo, SpellsSomeCpus, SpellsAskedCpus, SpellsLimits, SpellsStatement}
+use Rattle.cg_world.specs.World.{IsWorld, IsWorldSettings, Arranges, SpellsEach, SpellsWorld, group_of, process_of, text_or_minus, control_text, asked_cpus_text, cpus_fit_one, is_max, settings_fit_one, fits_version_one, text_of_version, world_text}
 use Rattle.cg_world.proofs.Appending.{control_some, control_none}
-use Rattle.cg_world.proofs.LinesOfText.{IsGoodLine, line_of, split_at, split_none, are_lines, lines_back, statements_back}
+use Rattle.cg_name.proofs.WrittenPaths.{spelled as path_spelled, path_fits}
+use Rattle.cg_text.proofs.WrittenLines.{say_lines}
+use Rattle.cg_text.proofs.Lists.{split_at, split_none}
 use Rattle.cg_world.proofs.LowCpus.{fits_up_to}
 use Rattle.cg_world.proofs.Listed.{all_both, adds_members, lists_entries}
-use Rattle.cg_world.proofs.Conjunctions.{and_first, and_second}
+use Rattle.cg_world.proofs.PlainWords.{plain_fit, all_fit, decimal_plain, nothing_trimmed}
 use Rattle.cg_world.proofs.WrittenCpus.{cpus_short, cpus_plain, asked_plain, asked_short}
 use Rattle.cg_world.proofs.WrittenLimits.{limit_short, limits_plain, spells_limit}
-use Rattle.cg_world.proofs.WrittenWords.{limit_words, group_words, process_words, controllers_words, world_words, written, words_plain, control_plain, flag_plain, path_plain, decimal_plain}
+use Rattle.cg_world.proofs.WrittenWords.{limit_words, group_words, process_words, controllers_words, world_words, written, words_plain, control_plain, flag_plain}
 
 -- ---- lists
 
@@ -86,17 +91,9 @@ or_minus_short (b ∷ t) = omega arith
 control_short : (s : sets.Controllers) → length (control_text s) ≤ 65
 control_short s = omega (arith, or_minus_short (join_with_byte 44 (map controller_word (members s))), names_short 44 (members s), at_most_eight s)
 
-flag_short : (b : Bool) → length (flag_text b) ≤ 1
+flag_short : (b : Bool) → length (flag_word b) ≤ 1
 flag_short true = omega arith
 flag_short false = omega arith
-
-row_short : (p : Path) → AllByRecursion IsName p → length (flat_map (λ m. 47 ∷ m) p) ≤ 256 * length p
-row_short [] h = omega arith
-row_short (n ∷ p) h = omega (arith, h.0.short, row_short p h.1, length-append n (flat_map (λ m. 47 ∷ m) p))
-
-path_short : (p : Path) → IsPath p → length (path_text p) ≤ 16384
-path_short [] h = omega arith
-path_short (n ∷ p) h = omega (arith, h.depth, row_short (n ∷ p) h.names)
 
 -- ---- the lines are good
 
@@ -115,19 +112,21 @@ record IsGoodProcess (e : ℕ × Path) : Type 0 where
   high : e.0 ≤ 4194303
   path : IsPath e.1
 
-group_good : (v : versions.Version) (e : Path × Settings) → IsGoodGroup v e → IsGoodLine (group_words v e)
+group_good : (v : versions.Version) (e : Path × Settings) → IsGoodGroup v e → IsWrittenLine (group_words v e)
 group_good v e h =
-    let p : List ℕ = path_text e.0 in
+    let p : List ℕ = path_word e.0 in
     let c : List ℕ = control_text e.1.control in
-    let f : List ℕ = flag_text e.1.freeze in
+    let f : List ℕ = flag_word e.1.freeze in
     let u : List ℕ = asked_cpus_text e.1.cpus in
+    let keyword : FitsLine (codes "group") = plain_fit _ (record { some = omega arith; plain = refl }) in
+    let path = path_fits e.0 h.path in
     record {
-      words = (record { some = refl; plain = refl }, (path_plain e.0 (path_text-plain e.0 h.path), (control_plain e.1.control, (flag_plain e.1.freeze, (asked_plain e.1.cpus h.settings.cpus, limits_plain v e.1 h.settings.max_descendants h.settings.max_depth)))));
+      words = (keyword, (path.0, (plain_fit c (control_plain e.1.control), (plain_fit f (flag_plain e.1.freeze), (plain_fit u (asked_plain e.1.cpus h.settings.cpus), all_fit (limit_words v e.1) (limits_plain v e.1 h.settings.max_descendants h.settings.max_depth))))));
       says = refl;
-      short = row v p c f u (path_short e.0 h.path) (control_short e.1.control) (flag_short e.1.freeze) (asked_short e.1.cpus h.settings.cpus);
+      short = row v p c f u path.1 (control_short e.1.control) (flag_short e.1.freeze) (asked_short e.1.cpus h.settings.cpus);
     }
   where
-    row : (v : versions.Version) (p c f u : List ℕ) → length p ≤ 16384 → length c ≤ 65 → length f ≤ 1 → length u ≤ 10240 → length (line_of (codes "group" ∷ p ∷ c ∷ f ∷ u ∷ limit_words v e.1)) ≤ 65536
+    row : (v : versions.Version) (p c f u : List ℕ) → length p ≤ 32770 → length c ≤ 65 → length f ≤ 1 → length u ≤ 10240 → length (line_of (codes "group" ∷ p ∷ c ∷ f ∷ u ∷ limit_words v e.1)) ≤ 65536
     row One p c f u lp lc lf lu = omega (arith, lp, lc, lf, lu, length-append p (32 ∷ (c ++ 32 ∷ (f ++ 32 ∷ u))), length-append c (32 ∷ (f ++ 32 ∷ u)), length-append f (32 ∷ u))
     row Two p c f u lp lc lf lu =
         let a : List ℕ = limit_word e.1.max_descendants in
@@ -135,36 +134,42 @@ group_good v e h =
         let t : List ℕ = u ++ 32 ∷ (a ++ 32 ∷ b) in
         omega (arith, lp, lc, lf, lu, limit_short e.1.max_descendants h.settings.max_descendants, limit_short e.1.max_depth h.settings.max_depth, length-append p (32 ∷ (c ++ 32 ∷ (f ++ 32 ∷ t))), length-append c (32 ∷ (f ++ 32 ∷ t)), length-append f (32 ∷ t), length-append u (32 ∷ (a ++ 32 ∷ b)), length-append a (32 ∷ b))
 
-process_good : (e : ℕ × Path) → IsGoodProcess e → IsGoodLine (process_words e)
+process_good : (e : ℕ × Path) → IsGoodProcess e → IsWrittenLine (process_words e)
 process_good e h =
     let d : List ℕ = decimal e.0 in
-    let p : List ℕ = path_text e.1 in
+    let p : List ℕ = path_word e.1 in
+    let keyword : FitsLine (codes "proc") = plain_fit _ (record { some = omega arith; plain = refl }) in
+    let path = path_fits e.1 h.path in
     record {
-      words = (record { some = refl; plain = refl }, (decimal_plain e.0 (omega (arith, h.high)), (path_plain e.1 (path_text-plain e.1 h.path), tt)));
+      words = (keyword, (plain_fit d (decimal_plain e.0 (omega (arith, h.high))), (path.0, tt)));
       says = refl;
-      short = omega (arith, path_short e.1 h.path, length-decimal-le 7 e.0 (omega arith) (omega (arith, h.high)) (omega (arith, h.high)), length-append d (32 ∷ p));
+      short = omega (arith, path.1, length-decimal-le 7 e.0 (omega arith) (omega (arith, h.high)) (omega (arith, h.high)), length-append d (32 ∷ p));
     }
 
-version_good : (v : versions.Version) → IsGoodLine (codes "world" ∷ version_word v ∷ [])
-version_good One = record { words = (record { some = refl; plain = refl }, (record { some = refl; plain = refl }, tt)); says = refl; short = omega arith }
-version_good Two = record { words = (record { some = refl; plain = refl }, (record { some = refl; plain = refl }, tt)); says = refl; short = omega arith }
+version_good : (v : versions.Version) → IsWrittenLine (codes "world" ∷ version_word v ∷ [])
+version_good One = record { words = all_fit (codes "world" ∷ codes "1" ∷ []) (record { some = omega arith; plain = refl }, (record { some = omega arith; plain = refl }, tt)); says = refl; short = omega arith }
+version_good Two = record { words = all_fit (codes "world" ∷ codes "2" ∷ []) (record { some = omega arith; plain = refl }, (record { some = omega arith; plain = refl }, tt)); says = refl; short = omega arith }
 
-end_good : IsGoodLine (codes "end" ∷ [])
-end_good = record { words = (record { some = refl; plain = refl }, tt); says = refl; short = omega arith }
+end_good : IsWrittenLine (codes "end" ∷ [])
+end_good = record { words = all_fit (codes "end" ∷ []) (record { some = omega arith; plain = refl }, tt); says = refl; short = omega arith }
 
-controllers_good : (s : sets.Controllers) → IsGoodLine (controllers_words s)
+controllers_good : (s : sets.Controllers) → IsWrittenLine (controllers_words s)
 controllers_good s = record {
-  words = (record { some = refl; plain = refl }, words_plain (members s));
-  says = refl;
+  words = all_fit (controllers_words s) (record { some = omega arith; plain = refl }, words_plain (members s));
+  says = names_say (members s);
   short = names_line (members s) (at_most_eight s);
 }
   where
+    names_say : (cs : List Controller) → is_silent (line_of (codes "controllers" ∷ map controller_word cs)) ≡ false
+    names_say [] = refl
+    names_say (c ∷ cs) = refl
+
     names_line : (cs : List Controller) → length cs ≤ 8 → length (line_of (codes "controllers" ∷ map controller_word cs)) ≤ 65536
     names_line [] l = omega arith
     names_line (c ∷ cs) l = omega (arith, names_short 32 (c ∷ cs))
 
-online_good : (s : FiniteSet) → AreCpusUpTo 1023 s → is_empty_set s ≡ false → IsGoodLine (codes "online" ∷ cpus_text s ∷ [])
-online_good s low some = record { words = (record { some = refl; plain = refl }, (cpus_plain s low some, tt)); says = refl; short = omega (arith, cpus_short s low) }
+online_good : (s : FiniteSet) → AreCpusUpTo 1023 s → is_empty_set s ≡ false → IsWrittenLine (codes "online" ∷ cpus_text s ∷ [])
+online_good s low some = record { words = all_fit (codes "online" ∷ cpus_text s ∷ []) (record { some = omega arith; plain = refl }, (cpus_plain s low some, tt)); says = refl; short = omega (arith, cpus_short s low) }
 
 -- ---- each line's words spell its statement
 
@@ -173,7 +178,7 @@ is_letter b = nat_le 97 b && nat_le b 122
 
 no_comma : (b : ℕ) → is_letter b ≡ true → (b == 44) ≡ false
 unfolding is_letter
-no_comma b e = let l : nat_le 97 b ≡ true = and_first (nat_le 97 b) (nat_le b 122) e in grind (arith, nat_tests)
+no_comma b e = let l : nat_le 97 b ≡ true = (and_parts (nat_le 97 b) (nat_le b 122) e).0 in grind (arith, nat_tests)
 
 letters : (c : Controller) → list_all is_letter (controller_word c) ≡ true
 unfolding is_letter
@@ -200,9 +205,14 @@ spells_control s = by_members (members s) refl
         (sym (ap (slice_split (λ b. b == 44)) (sym (control_some s (ap is_nonempty e)) ∙ ap (λ ds. join_with_byte 44 (map controller_word ds)) e) ∙ split_names c cs))
         (subst (λ ds. AddsControllers no_controllers (map controller_word ds) s) e (adds_members s)))
 
-spells_flag : (b : Bool) → SpellsFlag (flag_text b) b
+spells_flag : (b : Bool) → SpellsFlag (flag_word b) b
 spells_flag true = refl
 spells_flag false = refl
+
+spells_pid : (k : ℕ) → 1 ≤ k → k ≤ 4194303 → SpellsPid (decimal k) k
+spells_pid k low high =
+    let n = decimal_is_IsNumeral k (omega arith) in
+    subst (λ t. IsNumeral 10 t × (digits_value 10 t ≡ k) × (1 ≤ k) × (k ≤ 4194303)) (sym (nothing_trimmed (decimal k) (decimal_plain k (omega arith)))) (n.0, n.1, low, high)
 
 spells_some : (most : ℕ) (s : FiniteSet) → AreCpusUpTo 1023 s → AreCpusUpTo most s → is_empty_set s ≡ false → SpellsSomeCpus most (cpus_text s) s
 spells_some most s low fit some = (canonical_spells s (λ n k. omega (arith, low n k)), some, fit)
@@ -233,13 +243,13 @@ spelled_by v words says (e ∷ es) h = (h.0, spelled_by v words says es h.1)
 
 spells_group : (v : versions.Version) (e : Path × Settings) → IsGoodGroup v e → SpellsStatement v (group_words v e) (group_of e)
 spells_group v e h = (
-  path_text e.0,
+  path_word e.0,
   control_text e.1.control,
-  flag_text e.1.freeze,
+  flag_word e.1.freeze,
   asked_cpus_text e.1.cpus,
   limit_words v e.1,
   refl,
-  (h.path, refl),
+  path_spelled e.0 h.path,
   spells_control e.1.control,
   spells_flag e.1.freeze,
   spells_asked (last_cpu v) e.1.cpus h.settings.cpus (suiting_cpus v e.1 h.settings h.suits),
@@ -248,8 +258,7 @@ spells_group v e h = (
 
 spells_process : (v : versions.Version) (e : ℕ × Path) → IsGoodProcess e → SpellsStatement v (process_words e) (process_of e)
 spells_process v e h =
-    let n = decimal_is_IsNumeral e.0 (omega (arith, h.high)) in
-    (decimal e.0, path_text e.1, refl, (n.0, n.1, h.low, h.high), (h.path, refl))
+    (decimal e.0, path_word e.1, refl, spells_pid e.0 h.low h.high, path_spelled e.1 h.path)
 
 module _ (v : versions.Version) (T : Tree) (world : IsWorld T) (online : AreCpusUpTo (last_cpu v) T.online) (suits : AllByRecursion (λ e. Suits v e.1) (entries T.groups)) where
   groups_are : AllByRecursion (IsGoodGroup v) (entries T.groups)
@@ -262,7 +271,7 @@ module _ (v : versions.Version) (T : Tree) (world : IsWorld T) (online : AreCpus
       let there = world.sound.process e.0 e.1 at in
       record { low = h.0; high = h.1; path = (world.groups e.1 there.0 there.1).0 }) (entries T.places) (each_entry nat_cmp_total T.places)
 
-  lines_good : AllByRecursion IsGoodLine (world_words v T)
+  lines_good : AllByRecursion IsWrittenLine (world_words v T)
   lines_good =
       let G : List (List Word) = map (group_words v) (entries T.groups) in
       let P : List (List Word) = map process_words (entries T.places) in (
@@ -271,10 +280,10 @@ module _ (v : versions.Version) (T : Tree) (world : IsWorld T) (online : AreCpus
           controllers_good T.controllers,
           (
             online_good T.online world.online world.sound.online,
-            both IsGoodLine (G ++ P) ((codes "end" ∷ []) ∷ [])
-                (both IsGoodLine G P
-                (each_mapped (group_words v) IsGoodLine (entries T.groups) (all_map (group_good v) (entries T.groups) groups_are))
-                (each_mapped process_words IsGoodLine (entries T.places) (all_map process_good (entries T.places) processes_are)))
+            both IsWrittenLine (G ++ P) ((codes "end" ∷ []) ∷ [])
+                (both IsWrittenLine G P
+                (each_mapped (group_words v) IsWrittenLine (entries T.groups) (all_map (group_good v) (entries T.groups) groups_are))
+                (each_mapped process_words IsWrittenLine (entries T.places) (all_map process_good (entries T.places) processes_are)))
                 (end_good, tt),
           ),
         ),
@@ -315,10 +324,11 @@ module _ (v : versions.Version) (T : Tree) (world : IsWorld T) (online : AreCpus
   spelled_in : length (text_of_version v T) ≤ 16777216 → SpellsWorld (text_of_version v T) T
   spelled_in = subst (λ t. length t ≤ 16777216 → SpellsWorld t T) (sym (written v T)) (λ short. record {
     short = short;
-    lines = subst (AllByRecursion IsLine) (sym (lines_back (world_words v T) lines_good)) (are_lines (world_words v T) lines_good);
+    said = world_words v T;
+    lines = say_lines (world_words v T) lines_good;
     version = v;
     statements = statements;
-    spelled = subst (λ ws. SpellsEach v ws statements) (sym (statements_back (world_words v T) lines_good)) spelled;
+    spelled = spelled;
     arranged = arranged;
     sound = world.sound;
   })
@@ -331,12 +341,13 @@ none_limited (UpTo n) e = absurd (cc e)
 
 suits_one : (s : Settings) → settings_fit_one s ≡ true → Suits One s
 suits_one s e =
-    let front : (cpus_fit_one s.cpus && is_max s.max_descendants) ≡ true = and_first _ (is_max s.max_depth) e in
-    (fits_up_to s.cpus (and_first (cpus_fit_one s.cpus) _ front), none_limited s.max_descendants (and_second (cpus_fit_one s.cpus) _ front), none_limited s.max_depth (and_second (cpus_fit_one s.cpus && is_max s.max_descendants) _ e))
+    let all = and_parts (cpus_fit_one s.cpus && is_max s.max_descendants) (is_max s.max_depth) e in
+    let front = and_parts (cpus_fit_one s.cpus) (is_max s.max_descendants) all.0 in
+    (fits_up_to s.cpus front.0, none_limited s.max_descendants front.1, none_limited s.max_depth all.1)
 
 all_suit : (es : List (Path × Settings)) → list_all (λ e. settings_fit_one e.1) es ≡ true → AllByRecursion (λ e. Suits One e.1) es
 all_suit [] h = tt
-all_suit (e ∷ es) h = (suits_one e.1 (and_first (settings_fit_one e.1) _ h), all_suit es (and_second (settings_fit_one e.1) _ h))
+all_suit (e ∷ es) h = let k = and_parts (settings_fit_one e.1) _ h in (suits_one e.1 k.0, all_suit es k.1)
 
 any_suits : (es : List (Path × Settings)) → AllByRecursion (λ e. Suits Two e.1) es
 any_suits [] = tt
@@ -345,6 +356,6 @@ any_suits (e ∷ es) = (tt, any_suits es)
 pub written_spelled : (T : Tree) → IsWorld T → length (world_text T) ≤ 16777216 → SpellsWorld (world_text T) T
 unfolding world_text
 written_spelled T world = elim (fits_version_one T) as (λ b. fits_version_one T ≡ b → length (text_of_version (cond b One Two) T) ≤ 16777216 → SpellsWorld (text_of_version (cond b One Two) T) T) [
-  | true ↦ λ e. spelled_in One T world (fits_up_to T.online (and_first (cpus_fit_one T.online) _ e)) (all_suit (entries T.groups) (and_second (cpus_fit_one T.online) _ e))
+  | true ↦ λ e. let k = and_parts (cpus_fit_one T.online) _ e in spelled_in One T world (fits_up_to T.online k.0) (all_suit (entries T.groups) k.1)
   | false ↦ λ e. spelled_in Two T world world.online (any_suits (entries T.groups))
 ] refl

@@ -3,9 +3,11 @@ use Rattle.std.proofs.Common.{◌≡◌, ◌↔◌, suc, ◌-◌, Bool, true, fa
 use Rattle.std.specs.declared.cmp.Ordering.{Ordering}
 use Rattle.std.specs.Ordering.{eq_by_cmp}
 use Rattle.std.specs.Cmp.{IsTotalOrder}
+use Rattle.std.specs.Cmp.Derive.{both_true}
 use Rattle.std.specs.List.{AllByRecursion, list_all, list_any}
 use Rattle.std.specs.FinMap.{IsAntisymmetric}
 use Rattle.std.specs.FinMap.Entries.{find}
+use Rattle.std.proofs.lemmas.Bool.{and_parts}
 use Rattle.cg_maps.specs.FiniteMap.{FiniteMap, from_entries, get}
 use Rattle.cg_maps.specs.FiniteSet.{is_empty_set}
 use Rattle.cg_maps.proofs.Maps.{here, is_same, get-from_entries}
@@ -20,7 +22,6 @@ use Rattle.cg_text.specs.declared.settings.Settings.{Settings}
 use Rattle.cg_model.specs.Tree.{Tree, group}
 use Rattle.cg_model.specs.Sound.{Sound, IsChildOf, IsRootOf, admits}
 use Rattle.cg_world.specs.Soundness.{HasSoundRoot, HasSoundGroups, HasSoundPlaces, IsSoundGroup, IsSoundPlace}
-use Rattle.cg_world.proofs.Conjunctions.{and_first, and_second, and_both}
 
 -- ---- tests
 
@@ -49,28 +50,28 @@ module _ (s t : Controllers) where
   -- a set is within another exactly where the test says so
   pub within : is_within s t ≡ true → IsWithin s t
   within e =
-      let e1 : list_all at (Cpu ∷ Io ∷ Memory ∷ Hugetlb ∷ Pids ∷ Rdma ∷ Misc ∷ []) ≡ true = and_second (at Cpuset) _ e in
-      let e2 : list_all at (Io ∷ Memory ∷ Hugetlb ∷ Pids ∷ Rdma ∷ Misc ∷ []) ≡ true = and_second (at Cpu) _ e1 in
-      let e3 : list_all at (Memory ∷ Hugetlb ∷ Pids ∷ Rdma ∷ Misc ∷ []) ≡ true = and_second (at Io) _ e2 in
-      let e4 : list_all at (Hugetlb ∷ Pids ∷ Rdma ∷ Misc ∷ []) ≡ true = and_second (at Memory) _ e3 in
-      let e5 : list_all at (Pids ∷ Rdma ∷ Misc ∷ []) ≡ true = and_second (at Hugetlb) _ e4 in
-      let e6 : list_all at (Rdma ∷ Misc ∷ []) ≡ true = and_second (at Pids) _ e5 in
-      let e7 : list_all at (Misc ∷ []) ≡ true = and_second (at Rdma) _ e6 in
+      let e1 : list_all at (Cpu ∷ Io ∷ Memory ∷ Hugetlb ∷ Pids ∷ Rdma ∷ Misc ∷ []) ≡ true = (and_parts (at Cpuset) _ e).1 in
+      let e2 : list_all at (Io ∷ Memory ∷ Hugetlb ∷ Pids ∷ Rdma ∷ Misc ∷ []) ≡ true = (and_parts (at Cpu) _ e1).1 in
+      let e3 : list_all at (Memory ∷ Hugetlb ∷ Pids ∷ Rdma ∷ Misc ∷ []) ≡ true = (and_parts (at Io) _ e2).1 in
+      let e4 : list_all at (Hugetlb ∷ Pids ∷ Rdma ∷ Misc ∷ []) ≡ true = (and_parts (at Memory) _ e3).1 in
+      let e5 : list_all at (Pids ∷ Rdma ∷ Misc ∷ []) ≡ true = (and_parts (at Hugetlb) _ e4).1 in
+      let e6 : list_all at (Rdma ∷ Misc ∷ []) ≡ true = (and_parts (at Pids) _ e5).1 in
+      let e7 : list_all at (Misc ∷ []) ≡ true = (and_parts (at Rdma) _ e6).1 in
       λ c. elim c as (λ c. has s c ≡ true → has t c ≡ true) [
-        | Cpuset ↦ implies s.cpuset t.cpuset (and_first (at Cpuset) _ e)
-        | Cpu ↦ implies s.cpu t.cpu (and_first (at Cpu) _ e1)
-        | Io ↦ implies s.io t.io (and_first (at Io) _ e2)
-        | Memory ↦ implies s.memory t.memory (and_first (at Memory) _ e3)
-        | Hugetlb ↦ implies s.hugetlb t.hugetlb (and_first (at Hugetlb) _ e4)
-        | Pids ↦ implies s.pids t.pids (and_first (at Pids) _ e5)
-        | Rdma ↦ implies s.rdma t.rdma (and_first (at Rdma) _ e6)
-        | Misc ↦ implies s.misc t.misc (and_first (at Misc) _ e7)
+        | Cpuset ↦ implies s.cpuset t.cpuset (and_parts (at Cpuset) _ e).0
+        | Cpu ↦ implies s.cpu t.cpu (and_parts (at Cpu) _ e1).0
+        | Io ↦ implies s.io t.io (and_parts (at Io) _ e2).0
+        | Memory ↦ implies s.memory t.memory (and_parts (at Memory) _ e3).0
+        | Hugetlb ↦ implies s.hugetlb t.hugetlb (and_parts (at Hugetlb) _ e4).0
+        | Pids ↦ implies s.pids t.pids (and_parts (at Pids) _ e5).0
+        | Rdma ↦ implies s.rdma t.rdma (and_parts (at Rdma) _ e6).0
+        | Misc ↦ implies s.misc t.misc (and_parts (at Misc) _ e7).0
       ]
 
   pub tells_within : IsWithin s t → is_within s t ≡ true
   tells_within h =
       let one : (c : Controller) → at c ≡ true = λ c. implied (has s c) (has t c) (h c) in
-      and_both _ _ (one Cpuset) (and_both _ _ (one Cpu) (and_both _ _ (one Io) (and_both _ _ (one Memory) (and_both _ _ (one Hugetlb) (and_both _ _ (one Pids) (and_both _ _ (one Rdma) (and_both _ _ (one Misc) refl)))))))
+      both_true (one Cpuset) (both_true (one Cpu) (both_true (one Io) (both_true (one Memory) (both_true (one Hugetlb) (both_true (one Pids) (both_true (one Rdma) (both_true (one Misc) refl)))))))
 
 -- the set that the test calls empty has no controller
 pub none_within : (s : Controllers) → is_no_controllers s ≡ true → s ≡ no_controllers
@@ -112,12 +113,12 @@ root_empty (n ∷ p) e = absurd (true≢false (sym e))
 
 front_of_child : (q : Path) (n : Name) (p : Path) → is_parent q (n ∷ p) ≡ true → q ≡ take (length p) (n ∷ p)
 front_of_child [] n p e = ap (λ r. take (length r) (n ∷ r)) (sym (root_empty p e))
-front_of_child (m ∷ q) n [] e = absurd (true≢false (sym (and_second (same_name m n) false e)))
-front_of_child (m ∷ q) n (k ∷ p) e = λ i. name_same m n (and_first _ _ e) i ∷ front_of_child q k p (and_second (same_name m n) _ e) i
+front_of_child (m ∷ q) n [] e = absurd (true≢false (sym (and_parts (same_name m n) false e).1))
+front_of_child (m ∷ q) n (k ∷ p) e = let h = and_parts (same_name m n) _ e in λ i. name_same m n h.0 i ∷ front_of_child q k p h.1 i
 
 front_is_parent : (n : Name) (p : Path) → is_parent (take (length p) (n ∷ p)) (n ∷ p) ≡ true
 front_is_parent n [] = refl
-front_is_parent n (m ∷ p) = and_both _ _ (same_as_itself n) (front_is_parent m p)
+front_is_parent n (m ∷ p) = both_true (same_as_itself n) (front_is_parent m p)
 
 pub no_parent_of_root : (q : Path) → is_parent q [] ≡ true → ⊥
 no_parent_of_root [] e = true≢false (sym e)

@@ -5,8 +5,9 @@ use Rattle.std.specs.Prelude.{codes}
 use Rattle.std.proofs.lemmas.List.{take_all}
 use Rattle.cg_maps.specs.FiniteSet.{FiniteSet}
 use Rattle.cg_name.specs.Path.{SpellsPath}
-use Rattle.cg_name.proofs.Pieces.{spells_one}
 use Rattle.cg_cpus.proofs.Grammar.{one_set}
+use Rattle.cg_text.specs.FileText.{flag_word}
+use Rattle.cg_text.specs.Reading.{SpellsFlag}
 use Rattle.cg_text.specs.Words.{Word}
 use Rattle.cg_text.specs.Controllers.{no_controllers}
 use Rattle.cg_text.specs.declared.controllers.Controllers as controllers
@@ -16,10 +17,11 @@ use Rattle.cg_world.specs.declared.statement.Statement.TheVariants.{Version, Con
 use Rattle.cg_world.specs.declared.version.Version as versions
 use Rattle.cg_world.specs.declared.version.Version.TheVariants.{One, Two}
 use Rattle.cg_world.specs.Version.{last_cpu}
-use Rattle.cg_world.specs.Statement.{AddsControllers, SpellsControl, SpellsFlag, SpellsSomeCpus, SpellsAskedCpus, SpellsLimits, SpellsStatement}
+use Rattle.cg_world.specs.Statement.{AddsControllers, SpellsControl, SpellsSomeCpus, SpellsAskedCpus, SpellsLimits, SpellsStatement}
 use Rattle.cg_world.specs.Parts.{SpellsSettings}
 use Rattle.cg_world.proofs.Adding.{one_sum, no_minus}
 use Rattle.cg_world.proofs.Cpus.{minus_no_list}
+use Rattle.cg_name.proofs.WrittenPaths.{one_path}
 use Rattle.cg_world.proofs.Limits.{one_limits}
 
 differ : (a b : ℕ) → a ≡ b → (a == b) ≡ false → ⊥
@@ -34,11 +36,16 @@ one_control w s t (inl h) (inr k) = absurd (no_minus w t h.0 k)
 one_control w s t (inr h) (inl k) = absurd (no_minus w s k.0 h)
 one_control w s t (inr h) (inr k) = one_sum _ no_controllers s t h k
 
+-- a flag is told by its word's byte
+abbrev flagged : Word → Bool
+flagged w = get_or w 0 0 == 49
+
+flagged-word : (b : Bool) → flagged (flag_word b) ≡ b
+flagged-word true = refl
+flagged-word false = refl
+
 one_flag : (w : Word) (a b : Bool) → SpellsFlag w a → SpellsFlag w b → a ≡ b
-one_flag w true true h k = refl
-one_flag w true false h k = absurd (differ 49 48 (ap (λ v. get_or v 0 0) (sym h ∙ k)) refl)
-one_flag w false true h k = absurd (differ 48 49 (ap (λ v. get_or v 0 0) (sym h ∙ k)) refl)
-one_flag w false false h k = refl
+one_flag w a b h k = sym (flagged-word a) ∙ ap flagged (sym h ∙ k) ∙ flagged-word b
 
 one_list : (most : ℕ) (w : Word) (s t : FiniteSet) → SpellsAskedCpus most w s → SpellsAskedCpus most w t → s ≡ t
 one_list most w s t (inl h) (inl k) = h.1 ∙ sym k.1
@@ -130,7 +137,7 @@ one_statement v ws (Group p s) (Controllers t) h k = absurd (differ 103 99 (lett
 one_statement v ws (Group p s) (Online t) h k = absurd (differ 103 111 (letters v ws (Group p s) (Online t) h k) refl)
 one_statement v ws (Group p s) (Group q t) h k =
     let e = group_words (codes "group") h.0 h.1 h.2 h.3 h.4 k.0 k.1 k.2 k.3 k.4 (sym h.5 ∙ k.5) in
-    let path : p ≡ q = spells_one p q h.0 h.6 (subst (λ w. SpellsPath w q) (sym e.first) k.6) in
+    let path : p ≡ q = one_path h.0 p q h.6 (subst (λ w. SpellsPath w q) (sym e.first) k.6) in
     let same : s ≡ t = one_settings v h.1 h.2 h.3 h.4 s t (h.7, h.8, h.9, h.10)
     (subst (λ w. SpellsControl w t.control) (sym e.second) k.7, subst (λ w. SpellsFlag w t.freeze) (sym e.third) k.8, subst (λ w. SpellsAskedCpus (last_cpu v) w t.cpus) (sym e.fourth) k.9, subst (λ ls. SpellsLimits v ls t.max_descendants t.max_depth) (sym e.others) k.10) in
     λ i. Group (path i) (same i)
@@ -144,7 +151,7 @@ one_statement v ws (Process n p) (Process m q) h k =
     let e : h.0 ≡ k.0 = cc (h.2, k.2) in
     let f : h.1 ≡ k.1 = cc (h.2, k.2) in
     let pid : n ≡ m = cc (h.3.1, k.3.1) in
-    let path : p ≡ q = spells_one p q h.1 h.4 (subst (λ w. SpellsPath w q) (sym f) k.4) in
+    let path : p ≡ q = one_path h.1 p q h.4 (subst (λ w. SpellsPath w q) (sym f) k.4) in
     λ i. Process (pid i) (path i)
 one_statement v ws (Process n p) End h k = absurd (differ 112 101 (letters v ws (Process n p) End h k) refl)
 one_statement v ws End (Version m) h k = absurd (differ 101 119 (letters v ws End (Version m) h k) refl)

@@ -9,7 +9,7 @@ use Rattle.cg_maps.proofs.Maps.{cases, get_here, get_apart, get-empty}
 use Rattle.cg_maps.proofs.Sets.{has-no_members}
 use Rattle.cg_name.specs.Path.{Path, IsPath}
 use Rattle.cg_name.specs.Order.{path_cmp_total, path_cmp_exact}
-use Rattle.cg_text.specs.Words.{Word, statements_of}
+use Rattle.cg_text.specs.Words.{Word}
 use Rattle.cg_text.specs.declared.settings.Settings.{Settings}
 use Rattle.cg_model.specs.Tree.{Tree}
 use Rattle.cg_world.specs.declared.statement.Statement.{Statement}
@@ -95,7 +95,7 @@ module _ {K X : Type 0} {R : K → K → Ordering} (o : IsTotalOrder R) (same : 
 pub is_world : (text : List ℕ) (T : Tree) → SpellsWorld text T → IsWorld T
 is_world text T h =
     let a = h.arranged in
-    let all = subst (AllByRecursion Fits) a.order (all_fit h.version (statements_of text) h.statements h.spelled) in
+    let all = subst (AllByRecursion Fits) a.order (all_fit h.version h.said h.statements h.spelled) in
     let rest : AllByRecursion Fits (map group_of a.groups ++ map process_of a.processes ++ End ∷ []) = all.1.1.1 in
     let entries = front (map group_of a.groups ++ map process_of a.processes) (End ∷ []) rest in
     let gs = groups_fit a.groups (front (map group_of a.groups) (map process_of a.processes) entries) in

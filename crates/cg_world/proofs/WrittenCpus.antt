@@ -1,5 +1,5 @@
 -- The text of a set of CPU numbers up to 1,023 is one short plain word.
-use Rattle.std.proofs.Common.{◌≡◌, ℕ, ◌+◌, ◌*◌, ◌≤◌, Bool, true, false, not, ◌==◌, ◌||◌, cond, List, [], ◌∷◌, ◌++◌, map, length, refl, sym, ap, ◌∙◌, arith, Less, length-append, eq-eqb, true≢false}
+use Rattle.std.proofs.Common.{◌≡◌, ℕ, ◌+◌, ◌*◌, ◌<◌, ◌≤◌, Bool, true, false, not, ◌==◌, ◌||◌, cond, List, [], ◌∷◌, ◌++◌, map, length, refl, sym, ap, ◌∙◌, arith, Less, length-append, eq-eqb, true≢false}
 use Rattle.std.specs.Fmt.{decimal}
 use Rattle.std.specs.List.{AllByRecursion, list_any, join_with_byte}
 use Rattle.std.specs.List.Sorted.{IsStrictlySortedBy}
@@ -11,11 +11,13 @@ use Rattle.cg_maps.specs.FiniteMap.{is_nonempty}
 use Rattle.cg_maps.specs.FiniteSet.{FiniteSet, members, is_empty_set}
 use Rattle.cg_maps.proofs.Sets.{has-members, members_ascend}
 use Rattle.cg_cpus.specs.CpuList.{onto_runs, runs, run_text, cpus_text}
-use Rattle.cg_text.specs.Words.{Word, is_filled}
+use Rattle.cg_name.specs.Word.{is_plain_byte}
+use Rattle.cg_text.specs.Words.{Word}
 use Rattle.cg_world.specs.Statement.{AreCpusUpTo}
 use Rattle.cg_world.specs.World.{asked_cpus_text}
-use Rattle.cg_world.proofs.LinesOfText.{is_plain, IsPlainWord, all_append}
-use Rattle.cg_world.proofs.WrittenWords.{decimal_plain, joined_plain}
+use Rattle.cg_text.proofs.Lists.{all_append}
+use Rattle.cg_world.proofs.PlainWords.{IsPlainWord, decimal_plain}
+use Rattle.cg_world.proofs.WrittenWords.{joined_plain}
 
 or_true : (b : Bool) → (b || true) ≡ true
 or_true true = refl
@@ -88,9 +90,8 @@ record IsShortWord (w : Word) : Type 0 where
   word : IsPlainWord w
   short : length w ≤ 9
 
-filled_append : (v w : List ℕ) → is_filled v ≡ true → is_filled (v ++ w) ≡ true
-filled_append [] w h = absurd (true≢false (sym h))
-filled_append (b ∷ v) w h = refl
+filled_append : (v w : List ℕ) → 0 < length v → 0 < length (v ++ w)
+filled_append v w h = omega (arith, h, length-append v w)
 
 run_short : (r : ℕ × ℕ) → IsLow r → IsShortWord (run_text r)
 run_short r low =
@@ -101,7 +102,7 @@ run_short r low =
     elim (r.0 == r.1) as (λ e. IsShortWord (cond e (decimal r.0) (decimal r.0 ++ 45 ∷ decimal r.1))) [
       | true ↦ record { word = a; short = omega arith }
       | false ↦ record {
-        word = record { some = filled_append (decimal r.0) (45 ∷ decimal r.1) a.some; plain = all_append is_plain (decimal r.0) (45 ∷ decimal r.1) a.plain b.plain };
+        word = record { some = filled_append (decimal r.0) (45 ∷ decimal r.1) a.some; plain = all_append is_plain_byte (decimal r.0) (45 ∷ decimal r.1) a.plain b.plain };
         short = omega (arith, length-append (decimal r.0) (45 ∷ decimal r.1));
       }
     ]
@@ -119,7 +120,7 @@ joined_short [] h = omega arith
 joined_short (w ∷ []) h = omega (arith, h.0.short)
 joined_short (w ∷ v ∷ ws) h = let r = joined_short (v ∷ ws) h.1 in omega (arith, h.0.short, length-append w (44 ∷ join_with_byte 44 (v ∷ ws)))
 
-joined_some : (rs : List (ℕ × ℕ)) → AllByRecursion IsLow rs → is_nonempty rs ≡ true → is_filled (join_with_byte 44 (map run_text rs)) ≡ true
+joined_some : (rs : List (ℕ × ℕ)) → AllByRecursion IsLow rs → is_nonempty rs ≡ true → 0 < length (join_with_byte 44 (map run_text rs))
 joined_some [] h e = absurd (true≢false (sym e))
 joined_some (r ∷ []) h e = (run_short r h.0).word.some
 joined_some (r ∷ q ∷ rs) h e = filled_append (run_text r) (44 ∷ join_with_byte 44 (map run_text (q ∷ rs))) (run_short r h.0).word.some
@@ -146,7 +147,7 @@ cpus_plain s low some =
 
 pub asked_plain : (s : FiniteSet) → AreCpusUpTo 1023 s → IsPlainWord (asked_cpus_text s)
 asked_plain s low = elim (is_empty_set s) as (λ b. is_empty_set s ≡ b → IsPlainWord (cond b (45 ∷ []) (cpus_text s))) [
-  | true ↦ λ e. record { some = refl; plain = refl }
+  | true ↦ λ e. record { some = omega arith; plain = refl }
   | false ↦ λ e. cpus_plain s low e
 ] refl
 

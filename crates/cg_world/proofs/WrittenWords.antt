@@ -1,31 +1,28 @@
 -- The text that is written for a world, as lines of words.
-use Rattle.std.proofs.Common.{◌≡◌, ℕ, ◌<◌, ◌≤◌, Bool, true, false, nat_le, List, [], ◌∷◌, ◌++◌, codes, map, length, refl, sym, ap, ◌∙◌, append_assoc, arith}
+use Rattle.std.proofs.Common.{◌≡◌, ℕ, Bool, true, false, List, [], ◌∷◌, ◌++◌, codes, map, refl, sym, ap, ◌∙◌, append_assoc, arith}
 use Rattle.std.specs.Fmt.{decimal}
 use Rattle.std.specs.List.{AllByRecursion, flat_map, list_all, join_with_byte}
-use Rattle.std.specs.Str.Parse.{AllDigits}
-use Rattle.std.proofs.lemmas.Bool.Decides.{nat_tests}
-use Rattle.std.proofs.lemmas.Fmt.{decimal_is_IsNumeral}
 use Rattle.std.proofs.lemmas.List.Concat.{flat_map-append}
-use Rattle.std.proofs.lemmas.Str.Parse.{digit_from_value}
 use Rattle.cg_maps.specs.FiniteMap.{entries}
 use Rattle.cg_name.specs.Controller.{controller_word}
-use Rattle.cg_name.specs.Path.{Path, path_text}
-use Rattle.cg_name.specs.Laws.{IsPathByte}
+use Rattle.cg_name.specs.Path.{Path, path_word}
+use Rattle.cg_name.specs.Word.{is_plain_byte}
 use Rattle.cg_name.specs.declared.controller.Controller.{Controller}
 use Rattle.cg_name.specs.declared.controller.Controller.TheVariants.{Cpuset, Cpu, Io, Memory, Hugetlb, Pids, Rdma, Misc}
 use Rattle.cg_cpus.specs.CpuList.{cpus_text}
 use Rattle.cg_text.specs.Controllers.{members}
-use Rattle.cg_text.specs.Words.{Word, is_filled}
+use Rattle.cg_text.specs.FileText.{flag_word, limit_word}
+use Rattle.cg_text.specs.Words.{Word, line_of, text_of}
 use Rattle.cg_text.specs.declared.controllers.Controllers.{Controllers}
 use Rattle.cg_text.specs.declared.settings.Settings.{Settings}
 use Rattle.cg_model.specs.Tree.{Tree}
-use Rattle.cg_world.specs.World.{newline, space, text_or_minus, control_text, flag_text, asked_cpus_text, limit_word, group_line, process_line, text_of_version}
+use Rattle.cg_world.specs.World.{newline, space, text_or_minus, control_text, asked_cpus_text, group_line, process_line, text_of_version}
 use Rattle.cg_world.specs.declared.version.Version.{Version}
 use Rattle.cg_world.specs.declared.version.Version.TheVariants.{One, Two}
 use Rattle.cg_world.specs.Version.{version_word}
 use Rattle.cg_world.proofs.Appending.{append_none}
-use Rattle.cg_world.proofs.LinesOfText.{is_plain, IsPlainWord, line_of, text_of, all_append}
-use Rattle.cg_world.proofs.Conjunctions.{and_both}
+use Rattle.cg_text.proofs.Lists.{all_append}
+use Rattle.cg_world.proofs.PlainWords.{IsPlainWord}
 
 -- the words behind a group's CPUs
 abbrev pub limit_words : Version → Settings → List Word
@@ -33,10 +30,10 @@ limit_words One s = []
 limit_words Two s = limit_word s.max_descendants ∷ limit_word s.max_depth ∷ []
 
 abbrev pub group_words : Version → Path × Settings → List Word
-group_words v e = codes "group" ∷ path_text e.0 ∷ control_text e.1.control ∷ flag_text e.1.freeze ∷ asked_cpus_text e.1.cpus ∷ limit_words v e.1
+group_words v e = codes "group" ∷ path_word e.0 ∷ control_text e.1.control ∷ flag_word e.1.freeze ∷ asked_cpus_text e.1.cpus ∷ limit_words v e.1
 
 abbrev pub process_words : ℕ × Path → List Word
-process_words e = codes "proc" ∷ decimal e.0 ∷ path_text e.1 ∷ []
+process_words e = codes "proc" ∷ decimal e.0 ∷ path_word e.1 ∷ []
 
 abbrev pub controllers_words : Controllers → List Word
 controllers_words s = codes "controllers" ∷ map controller_word (members s)
@@ -52,22 +49,22 @@ row p c f u t = simp append_assoc
 
 group_is : (v : Version) (e : Path × Settings) → group_line v e ≡ line_of (group_words v e) ++ 10 ∷ []
 group_is One e =
-    let p : List ℕ = path_text e.0 in
+    let p : List ℕ = path_word e.0 in
     let c : List ℕ = control_text e.1.control in
-    let f : List ℕ = flag_text e.1.freeze in
+    let f : List ℕ = flag_word e.1.freeze in
     let u : List ℕ = asked_cpus_text e.1.cpus in
     row p c f u [] ∙ ap (λ t. (codes "group" ++ 32 ∷ (p ++ 32 ∷ (c ++ 32 ∷ (f ++ 32 ∷ t)))) ++ 10 ∷ []) (append_none u)
 group_is Two e =
-    let p : List ℕ = path_text e.0 in
+    let p : List ℕ = path_word e.0 in
     let c : List ℕ = control_text e.1.control in
-    let f : List ℕ = flag_text e.1.freeze in
+    let f : List ℕ = flag_word e.1.freeze in
     let u : List ℕ = asked_cpus_text e.1.cpus in
     let a : List ℕ = limit_word e.1.max_descendants in
     let b : List ℕ = limit_word e.1.max_depth in
     row p c f u (space ++ a ++ space ++ b) ∙ ap (λ t. (codes "group" ++ 32 ∷ (p ++ 32 ∷ (c ++ 32 ∷ (f ++ 32 ∷ (u ++ 32 ∷ t))))) ++ 10 ∷ []) (append_assoc a space b)
 
 process_is : (e : ℕ × Path) → process_line e ≡ line_of (process_words e) ++ 10 ∷ []
-process_is e = regroup (decimal e.0) (path_text e.1)
+process_is e = regroup (decimal e.0) (path_word e.1)
   where
     regroup : (k p : List ℕ) → codes "proc " ++ k ++ space ++ p ++ newline ≡ line_of (codes "proc" ∷ k ∷ p ∷ []) ++ 10 ∷ []
     regroup k p = simp append_assoc
@@ -94,56 +91,34 @@ written v T =
     ∙ (λ i. front (names_are (codes "controllers") (members T.controllers) i) ((lines_are (group_line v) (group_words v) (group_is v) (entries T.groups) i ++ lines_are process_line process_words process_is (entries T.places) i) ++ text_of E))
     ∙ ap (front (line_of (controllers_words T.controllers))) (ap (λ t. t ++ text_of E) (sym (flat_map-append (λ ws. line_of ws ++ 10 ∷ []) G P)) ∙ sym (flat_map-append (λ ws. line_of ws ++ 10 ∷ []) (G ++ P) E))
 
--- ---- each word is plain
+-- ---- each word is plain, but for paths
 
 pub word_plain : (c : Controller) → IsPlainWord (controller_word c)
-word_plain Cpuset = record { some = refl; plain = refl }
-word_plain Cpu = record { some = refl; plain = refl }
-word_plain Io = record { some = refl; plain = refl }
-word_plain Memory = record { some = refl; plain = refl }
-word_plain Hugetlb = record { some = refl; plain = refl }
-word_plain Pids = record { some = refl; plain = refl }
-word_plain Rdma = record { some = refl; plain = refl }
-word_plain Misc = record { some = refl; plain = refl }
+word_plain Cpuset = record { some = omega arith; plain = refl }
+word_plain Cpu = record { some = omega arith; plain = refl }
+word_plain Io = record { some = omega arith; plain = refl }
+word_plain Memory = record { some = omega arith; plain = refl }
+word_plain Hugetlb = record { some = omega arith; plain = refl }
+word_plain Pids = record { some = omega arith; plain = refl }
+word_plain Rdma = record { some = omega arith; plain = refl }
+word_plain Misc = record { some = omega arith; plain = refl }
 
 pub words_plain : (cs : List Controller) → AllByRecursion IsPlainWord (map controller_word cs)
 words_plain [] = tt
 words_plain (c ∷ cs) = (word_plain c, words_plain cs)
 
-pub joined_plain : (ws : List Word) → AllByRecursion IsPlainWord ws → list_all is_plain (join_with_byte 44 ws) ≡ true
+pub joined_plain : (ws : List Word) → AllByRecursion IsPlainWord ws → list_all is_plain_byte (join_with_byte 44 ws) ≡ true
 joined_plain [] h = refl
 joined_plain (w ∷ []) h = h.0.plain
-joined_plain (w ∷ v ∷ ws) h = all_append is_plain w (44 ∷ join_with_byte 44 (v ∷ ws)) h.0.plain (joined_plain (v ∷ ws) h.1)
+joined_plain (w ∷ v ∷ ws) h = all_append is_plain_byte w (44 ∷ join_with_byte 44 (v ∷ ws)) h.0.plain (joined_plain (v ∷ ws) h.1)
 
-plain_or_minus : (t : List ℕ) → list_all is_plain t ≡ true → IsPlainWord (text_or_minus t)
-plain_or_minus [] h = record { some = refl; plain = refl }
-plain_or_minus (b ∷ t) h = record { some = refl; plain = h }
+plain_or_minus : (t : List ℕ) → list_all is_plain_byte t ≡ true → IsPlainWord (text_or_minus t)
+plain_or_minus [] h = record { some = omega arith; plain = refl }
+plain_or_minus (b ∷ t) h = record { some = omega arith; plain = h }
 
 pub control_plain : (s : Controllers) → IsPlainWord (control_text s)
 control_plain s = plain_or_minus (join_with_byte 44 (map controller_word (members s))) (joined_plain (map controller_word (members s)) (words_plain (members s)))
 
-pub flag_plain : (b : Bool) → IsPlainWord (flag_text b)
-flag_plain true = record { some = refl; plain = refl }
-flag_plain false = record { some = refl; plain = refl }
-
-in_plain : (b : ℕ) → 33 ≤ b → b ≤ 126 → is_plain b ≡ true
-in_plain b l h = let x : nat_le 33 b ≡ true = grind (arith, nat_tests) in let y : nat_le b 126 ≡ true = grind (arith, nat_tests) in and_both (nat_le 33 b) (nat_le b 126) x y
-
-path_bytes : (t : List ℕ) → AllByRecursion IsPathByte t → list_all is_plain t ≡ true
-path_bytes [] h = refl
-path_bytes (b ∷ t) h = and_both (is_plain b) _ (in_plain b h.0.0 h.0.1) (path_bytes t h.1)
-
-pub path_plain : (p : Path) → AllByRecursion IsPathByte (path_text p) → IsPlainWord (path_text p)
-path_plain [] h = record { some = refl; plain = refl }
-path_plain (n ∷ p) h = record { some = refl; plain = path_bytes (path_text (n ∷ p)) h }
-
-digits_plain : (ds : List ℕ) → AllDigits 10 ds → list_all is_plain ds ≡ true
-digits_plain [] h = refl
-digits_plain (d ∷ ds) h = let r = digit_from_value d h.0 in and_both (is_plain d) _ (in_plain d (omega arith) (omega arith)) (digits_plain ds h.1)
-
-pub filled : (t : List ℕ) → 0 < length t → is_filled t ≡ true
-filled [] h = absurd (omega arith)
-filled (b ∷ t) h = refl
-
-pub decimal_plain : (n : ℕ) → n < 2147483648 → IsPlainWord (decimal n)
-decimal_plain n l = let h = decimal_is_IsNumeral n (omega arith) in record { some = filled (decimal n) h.0.0; plain = digits_plain (decimal n) h.0.1 }
+pub flag_plain : (b : Bool) → IsPlainWord (flag_word b)
+flag_plain true = record { some = omega arith; plain = refl }
+flag_plain false = record { some = omega arith; plain = refl }

@@ -4,7 +4,8 @@ use Rattle.cg_text.specs.Words.{Word}
 use Rattle.cg_text.specs.declared.settings.Settings.{Settings}
 use Rattle.cg_world.specs.declared.version.Version.{Version}
 use Rattle.cg_world.specs.Version.{last_cpu}
-use Rattle.cg_world.specs.Statement.{SpellsControl, SpellsFlag, SpellsAskedCpus, SpellsLimits}
+use Rattle.cg_text.specs.Reading.{SpellsFlag}
+use Rattle.cg_world.specs.Statement.{SpellsControl, SpellsAskedCpus, SpellsLimits}
 
 -- the words behind a group's path spell its settings
 abbrev pub SpellsSettings : Version → Word → Word → Word → List Word → Settings → Type 0

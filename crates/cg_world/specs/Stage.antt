@@ -1,10 +1,9 @@
 -- How the lines of a world text are taken one after another.
 use Rattle.std.specs.Prelude.{◌≡◌, ℕ, cond, List, [], ◌∷◌, ◌++◌, map, Option, Some, None, is_some}
-use Rattle.std.specs.List.{AllByRecursion, filter_map}
 use Rattle.cg_maps.specs.FiniteMap.{empty, set_at}
 use Rattle.cg_maps.specs.FiniteSet.{FiniteSet}
 use Rattle.cg_name.specs.Path.{Path}
-use Rattle.cg_text.specs.Words.{Line, IsLine, said_by}
+use Rattle.cg_text.specs.Words.{Line, Word, SayAll}
 use Rattle.cg_text.specs.declared.controllers.Controllers as controllers
 use Rattle.cg_text.specs.declared.settings.Settings.{Settings}
 use Rattle.cg_model.specs.Tree.{Tree, group, place_of}
@@ -64,8 +63,9 @@ Finishes (Ended n T) v ss U = (ss ≡ []) × (U ≡ T) × (v ≡ n)
 
 -- from a stage on, good lines that are left make it the tree
 pub record Leads (stage : Stage) (lines : List Line) (T : Tree) : Type 0 where
-  pub good : AllByRecursion IsLine lines
+  pub said : List (List Word)
+  pub lines_say : SayAll lines said
   pub version : versions.Version
   pub statements : List Statement
-  pub spelled : SpellsEach version (filter_map said_by lines) statements
+  pub spelled : SpellsEach version said statements
   pub finished : Finishes stage version statements T

@@ -1,7 +1,6 @@
 -- The lines of a world text: what each says, by its words and the version of the text.
-use Rattle.std.specs.Prelude.{◌≡◌, ◌⊎◌, ◌==◌, ℕ, ◌≤◌, Bool, true, false, List, [], ◌∷◌, codes}
+use Rattle.std.specs.Prelude.{◌≡◌, ◌⊎◌, ◌==◌, ℕ, ◌≤◌, true, false, List, [], ◌∷◌, codes}
 use Rattle.std.specs.List.{slice_split}
-use Rattle.std.specs.Str.Parse.{IsNumeral, digits_value}
 use Rattle.cg_maps.specs.FiniteSet.{FiniteSet, has, is_empty_set}
 use Rattle.cg_maps.specs.FiniteMap.{empty}
 use Rattle.cg_name.specs.Controller.{controller_word}
@@ -12,7 +11,7 @@ use Rattle.cg_text.specs.Words.{Word}
 use Rattle.cg_text.specs.Controllers as sets
 use Rattle.cg_text.specs.Controllers.{with_controller, no_controllers}
 use Rattle.cg_text.specs.declared.controllers.Controllers as controllers
-use Rattle.cg_text.specs.Reading.{SpellsLimit}
+use Rattle.cg_text.specs.Reading.{SpellsFlag, SpellsPid, SpellsLimit}
 use Rattle.cg_text.specs.declared.limit.Limit.{Limit}
 use Rattle.cg_text.specs.declared.limit.Limit.TheVariants.{Max}
 use Rattle.cg_world.specs.declared.statement.Statement.{Statement}
@@ -30,10 +29,6 @@ AddsControllers s (w ∷ ws) all = (c : Controller) × (w ≡ controller_word c)
 abbrev pub SpellsControl : Word → controllers.Controllers → Type 0
 SpellsControl w s = ((w ≡ codes "-") × (s ≡ no_controllers)) ⊎ AddsControllers no_controllers (slice_split (λ b. b == 44) w) s
 
-abbrev pub SpellsFlag : Word → Bool → Type 0
-SpellsFlag w false = w ≡ codes "0"
-SpellsFlag w true = w ≡ codes "1"
-
 -- no CPU number of the set is above the greatest
 abbrev pub AreCpusUpTo : ℕ → FiniteSet → Type 0
 AreCpusUpTo most s = (n : ℕ) → has s n ≡ true → n ≤ most
@@ -50,10 +45,6 @@ SpellsAskedCpus most w s = ((w ≡ codes "-") × (s ≡ empty)) ⊎ SpellsSomeCp
 abbrev pub SpellsLimits : versions.Version → List Word → Limit → Limit → Type 0
 SpellsLimits One ws descendants depth = (ws ≡ []) × (descendants ≡ Max) × (depth ≡ Max)
 SpellsLimits Two ws descendants depth = (first second : Word) × (ws ≡ first ∷ second ∷ []) × SpellsLimit first descendants × SpellsLimit second depth
-
--- a number from 1 to 4,194,303 in decimal digits
-abbrev pub SpellsPid : Word → ℕ → Type 0
-SpellsPid w k = IsNumeral 10 w × (digits_value 10 w ≡ k) × (1 ≤ k) × (k ≤ 4194303)
 
 -- what a line of a world of the version says
 abbrev pub SpellsStatement : versions.Version → List Word → Statement → Type 0

@@ -1,16 +1,17 @@
 -- World texts: which tree a text spells, and the one text that is written for a tree.
 use Rattle.std.specs.Prelude.{◌≡◌, ℕ, ◌≤◌, ◌&&◌, nat_le, Bool, true, false, cond, List, [], ◌∷◌, ◌++◌, map, length, Some, None, codes}
-use Rattle.std.specs.List.{flat_map, AllByRecursion, join_with_byte, list_all}
+use Rattle.std.specs.List.{flat_map, join_with_byte, list_all}
 use Rattle.std.specs.Fmt.{decimal}
 use Rattle.std.specs.declared.cmp.Ordering.{Ordering}
 use Rattle.cg_maps.specs.FiniteMap.{FiniteMap, get, set_at, entries, empty}
 use Rattle.cg_maps.specs.FiniteSet as sets
 use Rattle.cg_maps.specs.FiniteSet.{FiniteSet, is_empty_set}
 use Rattle.cg_name.specs.Controller.{controller_word}
-use Rattle.cg_name.specs.Path.{Path, IsPath, path_text}
+use Rattle.cg_name.specs.Path.{Path, IsPath, path_word}
 use Rattle.cg_cpus.specs.CpuList.{cpus_text}
-use Rattle.cg_text.specs.Words.{Word, IsLine, lines_of, statements_of}
+use Rattle.cg_text.specs.Words.{Word, lines_of, SayAll}
 use Rattle.cg_text.specs.Controllers.{members}
+use Rattle.cg_text.specs.FileText.{flag_word, limit_word}
 use Rattle.cg_text.specs.declared.controllers.Controllers as controllers
 use Rattle.cg_text.specs.Laws.{IsLimit}
 use Rattle.cg_text.specs.declared.limit.Limit.{Limit}
@@ -54,10 +55,11 @@ SpellsEach v (w ∷ ws) (s ∷ ss) = SpellsStatement v w s × SpellsEach v ws ss
 -- a text of at most 16 MiB, of good lines, spells a sound tree in one of the versions
 pub record SpellsWorld (text : List ℕ) (T : Tree) : Type 0 where
   pub short : length text ≤ 16777216
-  pub lines : AllByRecursion IsLine (lines_of text)
+  pub said : List (List Word)
+  pub lines : SayAll (lines_of text) said
   pub version : versions.Version
   pub statements : List Statement
-  pub spelled : SpellsEach version (statements_of text) statements
+  pub spelled : SpellsEach version said statements
   pub arranged : Arranges version statements T
   pub sound : Sound T
 
@@ -107,16 +109,8 @@ text_or_minus (b ∷ bs) = b ∷ bs
 abbrev pub control_text : controllers.Controllers → List ℕ
 control_text s = text_or_minus (join_with_byte 44 (map controller_word (members s)))
 
-abbrev pub flag_text : Bool → List ℕ
-flag_text false = codes "0"
-flag_text true = codes "1"
-
 abbrev pub asked_cpus_text : FiniteSet → List ℕ
 asked_cpus_text s = cond (is_empty_set s) (codes "-") (cpus_text s)
-
-abbrev pub limit_word : Limit → List ℕ
-limit_word Max = codes "max"
-limit_word (UpTo n) = decimal n
 
 -- the limits on descendants and on depth, which version 1 has not
 abbrev pub limits_text : versions.Version → Settings → List ℕ
@@ -125,11 +119,11 @@ limits_text Two s = space ++ limit_word s.max_descendants ++ space ++ limit_word
 
 abbrev pub group_line : versions.Version → Path × Settings → List ℕ
 group_line v e =
-    codes "group " ++ path_text e.0 ++ space ++ control_text e.1.control ++ space ++ flag_text e.1.freeze ++ space ++ asked_cpus_text e.1.cpus
+    codes "group " ++ path_word e.0 ++ space ++ control_text e.1.control ++ space ++ flag_word e.1.freeze ++ space ++ asked_cpus_text e.1.cpus
     ++ limits_text v e.1 ++ newline
 
 abbrev pub process_line : ℕ × Path → List ℕ
-process_line e = codes "proc " ++ decimal e.0 ++ space ++ path_text e.1 ++ newline
+process_line e = codes "proc " ++ decimal e.0 ++ space ++ path_word e.1 ++ newline
 
 -- the text of one version: the groups in the order of their paths, the processes by ascending PID
 unfoldable pub text_of_version : versions.Version → Tree → List ℕ

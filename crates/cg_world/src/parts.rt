@@ -1,5 +1,5 @@
 //! The words of which the lines of a world text are made.
-ghost use Rattle.std.specs.Prelude.{◌≡◌, ◌∷◌, [], IfOk, IfErr, OnOk, OnErr, List, ℕ, Bool, map};
+ghost use Rattle.std.specs.Prelude.{◌≡◌, ◌∷◌, [], IfOk, IfErr, OnOk, OnErr, List, map};
 ghost use Rattle.cg_maps.specs.FiniteSet.{FiniteSet};
 ghost use Rattle.cg_name.specs.declared.refusal.Refusal.TheVariants.{Syntax};
 ghost use Rattle.cg_text.specs.Words.{Word};
@@ -7,7 +7,7 @@ ghost use Rattle.cg_text.specs.Controllers.{no_controllers};
 ghost use Rattle.cg_text.specs.declared.controllers.Controllers as controllers;
 ghost use Rattle.cg_text.specs.declared.limit.Limit as limit;
 ghost use Rattle.cg_text.specs.declared.settings.Settings as settings;
-ghost use Rattle.cg_world.specs.Statement.{AddsControllers, SpellsControl, SpellsFlag, SpellsSomeCpus, SpellsAskedCpus, SpellsLimits, SpellsPid};
+ghost use Rattle.cg_world.specs.Statement.{AddsControllers, SpellsControl, SpellsSomeCpus, SpellsAskedCpus, SpellsLimits};
 ghost use Rattle.cg_world.specs.Version.{last_cpu};
 ghost use Rattle.cg_world.specs.Parts.{SpellsSettings};
 
@@ -17,11 +17,8 @@ use cg_name::controller::Controller;
 use cg_name::refusal::Refusal;
 use cg_text::controllers::Controllers;
 use cg_text::limit::Limit;
-use cg_text::reading::read_limit;
+use cg_text::reading::{read_flag, read_limit};
 use cg_text::settings::Settings;
-
-// The greatest PID.
-const LAST_PID: u32 = 4_194_303;
 
 // Adds the controller of that name; `Syntax` where there is none, or the set has it.
 fn add_controller(set: &mut Controllers, name: &str) -> Result<(), Refusal>
@@ -64,19 +61,6 @@ fn read_control(word: &str) -> Result<Controllers, Refusal>
         add_controller(&mut set, name)?;
     }
     Ok(set)
-}
-
-// `0` or `1`.
-fn read_flag(word: &str) -> Result<bool, Refusal>
-    ensures value { IfOk result (λ flag. SpellsFlag word.now flag) }
-    ensures syntax { OnErr result ((flag : Bool) → SpellsFlag word.now flag → ⊥) }
-    ensures refusals { IfErr result (λ e. e ≡ Syntax) }
-{
-    match word {
-        "0" => Ok(false),
-        "1" => Ok(true),
-        _ => Err(Refusal::Syntax),
-    }
 }
 
 // The CPUs of a list: at least one, none above the version's greatest.
@@ -145,19 +129,4 @@ pub(crate) fn read_settings(
         max_descendants,
         max_depth,
     })
-}
-
-// A PID, from 1 to 4,194,303, in decimal digits alone.
-pub(crate) fn read_pid(word: &str) -> Result<u32, Refusal>
-    ensures value { IfOk result (λ pid. SpellsPid word.now pid) }
-    ensures syntax { OnErr result ((pid : ℕ) → SpellsPid word.now pid → ⊥) }
-    ensures refusals { IfErr result (λ e. e ≡ Syntax) }
-{
-    if word.starts_with('+') {
-        return Err(Refusal::Syntax);
-    }
-    match word.parse::<u32>() {
-        Ok(pid) if 1 <= pid && pid <= LAST_PID => Ok(pid),
-        _ => Err(Refusal::Syntax),
-    }
 }

@@ -1,5 +1,5 @@
 //! Worlds read from their text.
-ghost use Rattle.std.specs.Prelude.{◌≡◌, ◌↔◌, ◌∷◌, List, ℕ, IfOk, IfErr};
+ghost use Rattle.std.specs.Prelude.{◌↔◌, ◌∷◌, List, IfOk, IfErr};
 ghost use Rattle.std.specs.Result.{IsErrOf};
 ghost use Rattle.std.specs.List.{slice_split};
 ghost use Rattle.cg_name.specs.Refusal.{IsSyntaxOrMemory};

@@ -6,12 +6,13 @@ ghost use Rattle.cg_name.specs.Refusal.{IsSyntaxOrMemory};
 ghost use Rattle.cg_world.specs.declared.statement.Statement as statement;
 ghost use Rattle.cg_world.specs.Statement.{SpellsStatement};
 
-use crate::parts::{read_controllers, read_cpus, read_pid, read_settings};
+use crate::parts::{read_controllers, read_cpus, read_settings};
 use crate::version::Version;
 use cg_cpus::cpu_set::CpuSet;
 use cg_name::path::Path;
 use cg_name::refusal::Refusal;
 use cg_text::controllers::Controllers;
+use cg_text::reading::read_pid;
 use cg_text::settings::Settings;
 use std::alloc::Global;
 

@@ -7,8 +7,9 @@ ghost use Rattle.cg_name.specs.Controller.{controller_word};
 ghost use Rattle.cg_name.specs.Path.{path_cmp};
 ghost use Rattle.cg_name.specs.declared.refusal.Refusal.TheVariants.{Memory};
 ghost use Rattle.cg_text.specs.Controllers.{members};
+ghost use Rattle.cg_text.specs.FileText.{flag_word, limit_word};
 ghost use Rattle.cg_world.specs.Version.{version_word};
-ghost use Rattle.cg_world.specs.World.{asked_cpus_text, control_text, flag_text, group_line, limit_word, limits_text, newline, process_line, space, text_of_version, world_text};
+ghost use Rattle.cg_world.specs.World.{asked_cpus_text, control_text, group_line, limits_text, newline, process_line, space, text_of_version, world_text};
 ghost use Rattle.cg_world.specs.Writing.{machine_lines, separated};
 
 use crate::plain::PlainTree;
@@ -23,6 +24,9 @@ use cg_text::limit::Limit;
 use cg_text::settings::Settings;
 use itoa::Buffer;
 use std::collections::BTreeMap;
+
+#[cfg(test)]
+mod tests;
 
 impl World {
     /// Appends the world's text, in version 1 where it can be: its groups in the order of their paths, its
@@ -221,7 +225,7 @@ fn append_behind(behind: bool, controller: Controller, out: &mut Vec<u8>) -> Res
 
 // The digit of a flag.
 fn flag(value: bool) -> u8
-    ensures { result ∷ [] ≡ flag_text value }
+    ensures { result ∷ [] ≡ flag_word value }
 {
     if value { b'1' } else { b'0' }
 }

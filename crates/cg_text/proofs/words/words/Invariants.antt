@@ -1,8 +1,13 @@
-use Rattle.std.proofs.Common.{◌≡◌, ◌==◌, map, filter}
-use Rattle.std.specs.List.{slice_split, flat_map}
-use Rattle.cg_text.specs.Words.{is_filled}
+use Rattle.std.proofs.Common.{map, length}
+use Rattle.std.specs.Str.{IsUtf8}
+use Rattle.cg_text.proofs.Cuts.{IsCutTo}
 use Rattle.cg_text.proofs.words.words.Given as goal
 
--- the words so far are those of the parts so far
-abbrev pub invariant-loop-part : goal.invariant-loop-part
-invariant-loop-part l = map (λ w. w.now) l.words.items ≡ flat_map (λ p. filter is_filled (slice_split (λ b. b == 9) p)) (map (λ w. w.now) l.yielded)
+abbrev pub invariant-loop-rest : goal.invariant-loop-rest
+invariant-loop-rest l = record {
+  utf8 : IsUtf8 l.rest;
+  cut : IsCutTo l.line (map (λ w. w.now) l.words.items) l.rest;
+}
+
+abbrev pub decreases-loop-rest : goal.decreases-loop-rest
+decreases-loop-rest l = length l.rest
