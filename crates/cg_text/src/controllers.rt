@@ -1,6 +1,6 @@
 //! Sets of controllers.
-ghost use Rattle.std.specs.Prelude.{◌≡◌, ◌↔◌, IsTrue, true, false, Bool};
-ghost use Rattle.cg_text.specs.Controllers.{has, no_controllers, with_controller, without_controller, is_no_controllers, is_within};
+ghost use Rattle.std.specs.Prelude.{◌≡◌, ◌↔◌, ◌&&◌, ◌||◌, not, IsTrue, true, false, Bool};
+ghost use Rattle.cg_text.specs.Controllers.{has, such_that, no_controllers, with_controller, without_controller, is_no_controllers, is_within};
 
 use cg_name::controller::Controller;
 
@@ -96,5 +96,37 @@ impl Controllers {
         Controller::ALL
             .iter()
             .all(|c| !self.contains(*c) || other.contains(*c))
+    }
+
+    /// The controllers of this set and those of the other.
+    pub fn union(&self, other: &Controllers) -> Controllers
+        ensures { result ≡ such_that (λ c. has self.now c || has other.now c) }
+    {
+        Controllers {
+            cpuset: self.cpuset || other.cpuset,
+            cpu: self.cpu || other.cpu,
+            io: self.io || other.io,
+            memory: self.memory || other.memory,
+            hugetlb: self.hugetlb || other.hugetlb,
+            pids: self.pids || other.pids,
+            rdma: self.rdma || other.rdma,
+            misc: self.misc || other.misc,
+        }
+    }
+
+    /// The controllers of this set that the other hasn't.
+    pub fn difference(&self, other: &Controllers) -> Controllers
+        ensures { result ≡ such_that (λ c. has self.now c && not (has other.now c)) }
+    {
+        Controllers {
+            cpuset: self.cpuset && !other.cpuset,
+            cpu: self.cpu && !other.cpu,
+            io: self.io && !other.io,
+            memory: self.memory && !other.memory,
+            hugetlb: self.hugetlb && !other.hugetlb,
+            pids: self.pids && !other.pids,
+            rdma: self.rdma && !other.rdma,
+            misc: self.misc && !other.misc,
+        }
     }
 }

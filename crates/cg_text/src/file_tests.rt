@@ -137,6 +137,25 @@ fn a_controller_is_removed(rt: HostRuntime) {
 }
 
 #[test]
+fn sets_are_united(rt: HostRuntime) {
+    let one = ops(&[Controller::Cpuset, Controller::Io], &[]).plus;
+    let other = ops(&[Controller::Io, Controller::Misc], &[]).plus;
+    let both = [Controller::Cpuset, Controller::Io, Controller::Misc];
+    assert_eq!(rt; one.union(&other), ops(&both, &[]).plus);
+}
+
+#[test]
+fn sets_differ(rt: HostRuntime) {
+    let one = ops(&[Controller::Cpuset, Controller::Io], &[]).plus;
+    let other = ops(&[Controller::Io, Controller::Misc], &[]).plus;
+    assert_eq!(rt;
+        one.difference(&other),
+        ops(&[Controller::Cpuset], &[]).plus
+    );
+    assert_eq!(rt; other.difference(&one), ops(&[Controller::Misc], &[]).plus);
+}
+
+#[test]
 fn operations_are_added(rt: HostRuntime) {
     let mut added = ControlOps::none();
     added.add(true, Controller::Cpu);
