@@ -1,10 +1,10 @@
 -- What a write is refused for: the first of a list, or processes where controllers are left.
-use Rattle.std.proofs.Common.{◌≡◌, ◌↔◌, Bool, true, false, IsTrue, cond, not, ◌&&◌, ◌||◌, List, [], ◌∷◌, Some, None, Result, Ok, Err, refl, sym, ap, ◌∙◌, true≢false}
+use Rattle.std.proofs.Common.{◌≡◌, Bool, true, false, cond, not, ◌&&◌, ◌||◌, List, [], ◌∷◌, Some, None, Result, Ok, Err, refl, sym, ap, ◌∙◌}
 use Rattle.std.specs.List.{filter, find}
 use Rattle.cg_name.specs.declared.controller.Controller.{Controller}
 use Rattle.cg_name.specs.declared.refusal.Refusal.{Refusal}
 use Rattle.cg_name.specs.declared.refusal.Refusal.TheVariants.{HasProcesses, Unavailable, InUse}
-use Rattle.cg_text.specs.Controllers.{has, such_that, all_controllers, no_controllers, is_no_controllers}
+use Rattle.cg_text.specs.Controllers.{has, such_that, all_controllers, is_no_controllers}
 use Rattle.cg_text.specs.declared.control_ops.ControlOps.{ControlOps}
 use Rattle.cg_text.specs.declared.controllers.Controllers.{Controllers}
 use Rattle.cg_model.specs.Control.{planned, refuse_first, plan}
@@ -52,22 +52,3 @@ module _ (a s : Controllers) (ops : ControlOps) (used : Controllers) (processes 
         passed Unavailable _ is_missing all_controllers none_missing ∙ passed InUse _ is_used all_controllers none_used
         ∙ ap (λ t. cond (not root && processes && not (is_no_controllers t)) (Err HasProcesses) (Ok t)) (sym same)
         ∙ ap (λ b. cond (not root && processes && not b) (Err HasProcesses) (Ok t)) e
-
--- a set that is not the empty one has a controller
-left : (a b c d e f g h : Bool)
-    → (record { cpuset = a; cpu = b; io = c; memory = d; hugetlb = e; pids = f; rdma = g; misc = h } ≡ no_controllers → ⊥)
-    → is_no_controllers (record { cpuset = a; cpu = b; io = c; memory = d; hugetlb = e; pids = f; rdma = g; misc = h }) ≡ false
-left true b c d e f g h other = refl
-left false true c d e f g h other = refl
-left false false true d e f g h other = refl
-left false false false true e f g h other = refl
-left false false false false true f g h other = refl
-left false false false false false true g h other = refl
-left false false false false false false true h other = refl
-left false false false false false false false true other = refl
-left false false false false false false false false other = absurd (other refl)
-
--- the empty set is told by the test
-pub tells_none : (s : Controllers) (r : Bool) → (IsTrue r ↔ (s ≡ no_controllers)) → is_no_controllers s ≡ r
-tells_none s true h = ap is_no_controllers (h.0 refl)
-tells_none s false h = left s.cpuset s.cpu s.io s.memory s.hugetlb s.pids s.rdma s.misc (λ e. true≢false (sym (h.1 e)))

@@ -1,4 +1,6 @@
 pub mod Lists
+mod Files
+mod TrimmedLines
 mod Closing
 mod Blanks
 mod FirstWord
@@ -6,7 +8,7 @@ pub mod Cuts
 pub mod Lines
 pub mod WrittenLines
 mod Appending
-mod Sets
+pub mod Sets
 mod Operations
 mod Spelled
 mod Canonical

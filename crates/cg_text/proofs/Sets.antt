@@ -1,8 +1,8 @@
 -- Sets of controllers, controller by controller.
-use Rattle.std.proofs.Common.{◌≡◌, ℕ, ◌==◌, Bool, true, false, cond, refl, ap, ◌∙◌}
+use Rattle.std.proofs.Common.{◌≡◌, ◌↔◌, ℕ, ◌==◌, Bool, true, false, IsTrue, cond, refl, sym, ap, ◌∙◌, true≢false}
 use Rattle.cg_name.specs.declared.controller.Controller.{Controller}
 use Rattle.cg_name.specs.declared.controller.Controller.TheVariants.{Cpuset, Cpu, Io, Memory, Hugetlb, Pids, Rdma, Misc}
-use Rattle.cg_text.specs.Controllers.{has, such_that, no_controllers, with_controller, without_controller}
+use Rattle.cg_text.specs.Controllers.{has, such_that, no_controllers, is_no_controllers, with_controller, without_controller}
 use Rattle.cg_text.specs.declared.controllers.Controllers.{Controllers}
 
 abbrev index : Controller → ℕ
@@ -61,3 +61,22 @@ has_without c d s = ap (λ t. has t d) (without_all c s) ∙ has_such_that (λ e
 -- two sets with the same controllers are one
 pub same_set : (s t : Controllers) → ((c : Controller) → has s c ≡ has t c) → s ≡ t
 same_set s t e = λ i. such_that (λ c. e c i)
+
+-- a set that is not the empty one has a controller
+left : (a b c d e f g h : Bool)
+    → (record { cpuset = a; cpu = b; io = c; memory = d; hugetlb = e; pids = f; rdma = g; misc = h } ≡ no_controllers → ⊥)
+    → is_no_controllers (record { cpuset = a; cpu = b; io = c; memory = d; hugetlb = e; pids = f; rdma = g; misc = h }) ≡ false
+left true b c d e f g h other = refl
+left false true c d e f g h other = refl
+left false false true d e f g h other = refl
+left false false false true e f g h other = refl
+left false false false false true f g h other = refl
+left false false false false false true g h other = refl
+left false false false false false false true h other = refl
+left false false false false false false false true other = refl
+left false false false false false false false false other = absurd (other refl)
+
+-- the empty set is told by the test
+pub tells_none : (s : Controllers) (r : Bool) → (IsTrue r ↔ (s ≡ no_controllers)) → is_no_controllers s ≡ r
+tells_none s true h = ap is_no_controllers (h.0 refl)
+tells_none s false h = left s.cpuset s.cpu s.io s.memory s.hugetlb s.pids s.rdma s.misc (λ e. true≢false (sym (h.1 e)))

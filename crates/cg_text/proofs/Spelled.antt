@@ -1,28 +1,29 @@
--- A text spells at most one value of each kind, and the texts of flags and limits spell them.
+-- A text spells at most one value of each kind, and the texts of PIDs and limits spell them.
 use Rattle.std.proofs.Common.{◌≡◌, ℕ, ◌≤◌, ◌-◌, Bool, true, false, cond, List, [], ◌∷◌, ◌++◌, length, reverse, inl, refl, sym, ap, subst, ◌∙◌, true≢false, arith}
 use Rattle.std.specs.Fmt.{decimal}
 use Rattle.std.specs.Str.Parse.{AllDigits, IsNumeral, digits_value}
 use Rattle.std.proofs.lemmas.Bool.Decides.{nat_tests}
 use Rattle.std.proofs.lemmas.Fmt.{decimal_is_IsNumeral}
-use Rattle.std.proofs.lemmas.List.{reverse-append, reverse-reverse}
+use Rattle.std.proofs.lemmas.List.{reverse-reverse}
 use Rattle.std.proofs.lemmas.Str.Parse.{digit_from_value, digit_at}
 use Rattle.cg_cpus.specs.Blanks.{starts_blank}
-use Rattle.cg_cpus.specs.CpuList.{is_blank, without_leading_blanks, without_trailing_blanks, trimmed}
+use Rattle.cg_cpus.specs.CpuList.{is_blank, without_trailing_blanks, trimmed}
 use Rattle.cg_cpus.proofs.Trimmed.{front_end, last_test}
 use Rattle.cg_name.specs.declared.controller.Controller.{Controller}
 use Rattle.cg_text.specs.Controllers.{has, no_controllers}
-use Rattle.cg_text.specs.Laws.{AreApart, LimitIsSpelled, OneOps, OpsAreApart}
+use Rattle.cg_text.specs.Laws.{AreApart, LimitIsSpelled, OneOps, OpsAreApart, PidIsSpelled}
 use Rattle.cg_text.specs.Reading.{blank_words, SpellsOpsAfter, with_op}
 use Rattle.cg_text.specs.Words.{Word}
 use Rattle.cg_text.specs.declared.control_ops.ControlOps.{ControlOps}
 use Rattle.cg_text.specs.declared.limit.Limit.TheVariants.{Max, UpTo}
 use Rattle.cg_text.proofs.Operations.{one_result}
+use Rattle.cg_text.proofs.TrimmedLines.{trimmed_line}
 use Rattle.cg_text.proofs.Sets.{has_none, has_with, has_without, is}
 
 pub one_ops : OneOps
 one_ops text x y h k = one_result (blank_words text) (record { plus = no_controllers; minus = no_controllers }) x y h k
 
--- ---- limits
+-- ---- PIDs and limits
 
 digit_is_no_blank : (b : ℕ) → 48 ≤ b → b ≤ 57 → is_blank b ≡ false
 digit_is_no_blank b l m = grind (arith, nat_tests)
@@ -38,10 +39,16 @@ last_digit d ds h = let r = digit_at (d ∷ ds) (length (d ∷ ds) - 1) h (omega
 line_of_digits : (ds : List ℕ) → IsNumeral 10 ds → trimmed (ds ++ 10 ∷ []) ≡ ds
 line_of_digits [] h = absurd (omega (arith, h.0))
 line_of_digits (d ∷ ds) h =
-    ap without_trailing_blanks (front_end (d ∷ ds ++ 10 ∷ []) (no_blank_first (d ∷ ds) h.1))
-    ∙ ap (λ bs. reverse (without_leading_blanks bs)) (reverse-append (d ∷ ds) (10 ∷ []))
+    trimmed_line (d ∷ ds)
+    ∙ ap without_trailing_blanks (front_end (d ∷ ds) (no_blank_first (d ∷ ds) h.1))
     ∙ ap reverse (front_end (reverse (d ∷ ds)) (last_digit d ds h.1))
     ∙ reverse-reverse (d ∷ ds)
+
+pub pid_is_spelled : PidIsSpelled
+pid_is_spelled k low high =
+    let numeral = decimal_is_IsNumeral k (omega arith) in
+    let is : trimmed (decimal k ++ 10 ∷ []) ≡ decimal k = line_of_digits (decimal k) numeral.0 in
+    (subst (IsNumeral 10) (sym is) numeral.0, ap (digits_value 10) is ∙ numeral.1, low, high)
 
 pub limit_is_spelled : LimitIsSpelled
 limit_is_spelled Max h = inl refl

@@ -1,12 +1,17 @@
 -- The laws of interface texts, for contracts to cite.
 use Rattle.std.specs.Prelude.{◌≡◌, ℕ, ◌≤◌, Bool, true, false, List, Option}
 use Rattle.std.specs.List.{AllByRecursion}
+use Rattle.std.specs.Fmt.{decimal}
+use Rattle.cg_maps.specs.FiniteSet.{FiniteSet}
+use Rattle.cg_maps.specs.FiniteSet as sets
+use Rattle.cg_cpus.specs.CpuList.{SpellsCpus}
 use Rattle.cg_name.specs.declared.controller.Controller.{Controller}
 use Rattle.cg_text.specs.Controllers.{has}
-use Rattle.cg_text.specs.FileText.{flag_text, limit_text, ops_text}
+use Rattle.cg_text.specs.FileText.{line_text, cpus_line, flag_text, limit_text, ops_text}
 use Rattle.cg_text.specs.Words.{Line, Word, lines_of, Cuts, Says, SayAll, text_of, IsWrittenLine}
-use Rattle.cg_text.specs.Reading.{SpellsFlag, SpellsPid, SpellsLimit, SpellsOps}
+use Rattle.cg_text.specs.Reading.{SpellsFlag, SpellsPid, SpellsLimit, SpellsOps, file_word}
 use Rattle.cg_text.specs.declared.control_ops.ControlOps.{ControlOps}
+use Rattle.cg_text.specs.declared.file_name.FileName.{FileName}
 use Rattle.cg_text.specs.declared.limit.Limit.{Limit}
 use Rattle.cg_text.specs.declared.limit.Limit.TheVariants.{Max, UpTo}
 
@@ -26,9 +31,17 @@ OneLimit = SpellsOne SpellsLimit
 abbrev pub OneOps : Type 0
 OneOps = SpellsOne SpellsOps
 
+-- a word names one interface file at most
+abbrev pub OneFile : Type 0
+OneFile = (f g : FileName) → file_word f ≡ file_word g → f ≡ g
+
 -- what is written is read back
 abbrev pub FlagIsSpelled : Type 0
 FlagIsSpelled = (b : Bool) → SpellsFlag (flag_text b) b
+
+-- the line of a PID
+abbrev pub PidIsSpelled : Type 0
+PidIsSpelled = (k : ℕ) → 1 ≤ k → k ≤ 4194303 → SpellsPid (line_text (decimal k)) k
 
 -- a limit that the files can hold
 abbrev pub IsLimit : Limit → Type 0
@@ -37,6 +50,10 @@ IsLimit (UpTo n) = n ≤ 2147483646
 
 abbrev pub LimitIsSpelled : Type 0
 LimitIsSpelled = (l : Limit) → IsLimit l → SpellsLimit (limit_text l) l
+
+-- the line of a set of numbers up to 1,023
+abbrev pub CpusAreSpelled : Type 0
+CpusAreSpelled = (s : FiniteSet) → ((n : ℕ) → sets.has s n ≡ true → n ≤ 1023) → SpellsCpus (cpus_line s) s
 
 -- no controller is both enabled and disabled
 abbrev pub AreApart : ControlOps → Type 0

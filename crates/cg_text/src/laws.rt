@@ -1,5 +1,5 @@
 //! Laws of the texts of interface files, and of lines.
-ghost use Rattle.cg_text.specs.Laws.{FlagIsSpelled, LimitIsSpelled, OneCut, OneFlag, OneLimit, OneOps, OnePid, OneSaying, OneText, OpsAreApart, OpsAreSpelled, WrittenLinesSay};
+ghost use Rattle.cg_text.specs.Laws.{CpusAreSpelled, FlagIsSpelled, LimitIsSpelled, OneCut, OneFile, OneFlag, OneLimit, OneOps, OnePid, OneSaying, OneText, OpsAreApart, OpsAreSpelled, PidIsSpelled, WrittenLinesSay};
 
 /// A text spells at most one value of each kind.
 pub fn a_text_spells_at_most_one_value()
@@ -7,6 +7,7 @@ pub fn a_text_spells_at_most_one_value()
     ensures pid { OnePid }
     ensures limit { OneLimit }
     ensures operations { OneOps }
+    ensures file { OneFile }
 {}
 
 /// The text of a flag spells it.
@@ -14,9 +15,19 @@ pub fn the_text_of_a_flag_spells_it()
     ensures { FlagIsSpelled }
 {}
 
+/// The line of a PID from 1 to 4,194,303 spells it.
+pub fn the_text_of_a_pid_spells_it()
+    ensures { PidIsSpelled }
+{}
+
 /// The text of a limit of at most 2,147,483,646 or of none spells it.
 pub fn the_text_of_a_limit_spells_it()
     ensures { LimitIsSpelled }
+{}
+
+/// The line of CPU numbers up to 1,023 spells them.
+pub fn the_text_of_cpus_spells_them()
+    ensures { CpusAreSpelled }
 {}
 
 /// No controller is both enabled and disabled by the operations that a text spells.

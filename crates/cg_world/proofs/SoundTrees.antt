@@ -4,7 +4,7 @@ use Rattle.std.specs.declared.cmp.Ordering.{Ordering}
 use Rattle.std.specs.Ordering.{eq_by_cmp}
 use Rattle.std.specs.Cmp.{IsTotalOrder}
 use Rattle.std.specs.Cmp.Derive.{both_true}
-use Rattle.std.specs.List.{AllByRecursion, list_all, list_any}
+use Rattle.std.specs.List.{AllByRecursion, list_all}
 use Rattle.std.specs.FinMap.{IsAntisymmetric}
 use Rattle.std.specs.FinMap.Entries.{find}
 use Rattle.std.proofs.lemmas.Bool.{and_parts}
@@ -16,7 +16,7 @@ use Rattle.cg_name.specs.Path.{Path, is_root, is_parent}
 use Rattle.cg_name.specs.Order.{name_cmp_total, name_cmp_exact}
 use Rattle.cg_name.specs.declared.controller.Controller.{Controller}
 use Rattle.cg_name.specs.declared.controller.Controller.TheVariants.{Cpuset, Cpu, Io, Memory, Hugetlb, Pids, Rdma, Misc}
-use Rattle.cg_text.specs.Controllers.{has, no_controllers, is_no_controllers, is_within, IsWithin}
+use Rattle.cg_text.specs.Controllers.{has, is_within, IsWithin}
 use Rattle.cg_text.specs.declared.controllers.Controllers.{Controllers}
 use Rattle.cg_text.specs.declared.settings.Settings.{Settings}
 use Rattle.cg_model.specs.Tree.{Tree, group}
@@ -32,14 +32,6 @@ implies false b e h = absurd (true≢false (sym h))
 implied : (a b : Bool) → (a ≡ true → b ≡ true) → (not a || b) ≡ true
 implied true b h = h refl
 implied false b h = refl
-
-neither_first : (a b : Bool) → not (a || b) ≡ true → a ≡ false
-neither_first true b e = absurd (true≢false (sym e))
-neither_first false b e = refl
-
-neither_second : (a b : Bool) → not (a || b) ≡ true → not b ≡ true
-neither_second true b e = absurd (true≢false (sym e))
-neither_second false b e = e
 
 -- ---- sets of controllers
 
@@ -72,30 +64,6 @@ module _ (s t : Controllers) where
   tells_within h =
       let one : (c : Controller) → at c ≡ true = λ c. implied (has s c) (has t c) (h c) in
       both_true (one Cpuset) (both_true (one Cpu) (both_true (one Io) (both_true (one Memory) (both_true (one Hugetlb) (both_true (one Pids) (both_true (one Rdma) (both_true (one Misc) refl)))))))
-
--- the set that the test calls empty has no controller
-pub none_within : (s : Controllers) → is_no_controllers s ≡ true → s ≡ no_controllers
-none_within s e =
-    let e1 : not (list_any (has s) (Cpu ∷ Io ∷ Memory ∷ Hugetlb ∷ Pids ∷ Rdma ∷ Misc ∷ [])) ≡ true = neither_second s.cpuset _ e in
-    let e2 : not (list_any (has s) (Io ∷ Memory ∷ Hugetlb ∷ Pids ∷ Rdma ∷ Misc ∷ [])) ≡ true = neither_second s.cpu _ e1 in
-    let e3 : not (list_any (has s) (Memory ∷ Hugetlb ∷ Pids ∷ Rdma ∷ Misc ∷ [])) ≡ true = neither_second s.io _ e2 in
-    let e4 : not (list_any (has s) (Hugetlb ∷ Pids ∷ Rdma ∷ Misc ∷ [])) ≡ true = neither_second s.memory _ e3 in
-    let e5 : not (list_any (has s) (Pids ∷ Rdma ∷ Misc ∷ [])) ≡ true = neither_second s.hugetlb _ e4 in
-    let e6 : not (list_any (has s) (Rdma ∷ Misc ∷ [])) ≡ true = neither_second s.pids _ e5 in
-    let e7 : not (list_any (has s) (Misc ∷ [])) ≡ true = neither_second s.rdma _ e6 in
-    λ i. record {
-      cpuset = neither_first s.cpuset _ e i;
-      cpu = neither_first s.cpu _ e1 i;
-      io = neither_first s.io _ e2 i;
-      memory = neither_first s.memory _ e3 i;
-      hugetlb = neither_first s.hugetlb _ e4 i;
-      pids = neither_first s.pids _ e5 i;
-      rdma = neither_first s.rdma _ e6 i;
-      misc = neither_first s.misc _ e7 i;
-    }
-
-pub tells_none : (s : Controllers) → s ≡ no_controllers → is_no_controllers s ≡ true
-tells_none s e = ap is_no_controllers e
 
 -- ---- a parent's path
 
@@ -213,11 +181,3 @@ place_is T p s r e a = (
   λ t. (s, e, a ∙ t),
   λ g. sym a ∙ ap (admits p) (sym (same_settings (sym g.1 ∙ e))) ∙ g.2,
 )
-
--- a set that is the empty one exactly where r is true
-pub none_test : (c : Controllers) (r : Bool) → (IsTrue r ↔ (c ≡ no_controllers)) → is_no_controllers c ≡ r
-none_test c true h = tells_none c (h.0 refl)
-none_test c false h = elim (is_no_controllers c) as (λ b. is_no_controllers c ≡ b → b ≡ false) [
-  | true ↦ λ e. absurd (true≢false (sym (h.1 (none_within c e))))
-  | false ↦ λ e. refl
-] refl

@@ -1,5 +1,6 @@
 use Rattle.std.proofs.Common.{refl, sym, ◌∙◌}
-use Rattle.cg_avail.proofs.Refusing.{for_missing, for_used, past_both, tells_none}
+use Rattle.cg_text.proofs.Sets.{tells_none}
+use Rattle.cg_avail.proofs.Refusing.{for_missing, for_used, past_both}
 use Rattle.cg_avail.proofs.plan.Goals.{else-not-is_root-via-else-not-is_root, else-not-is_root-via-then-not-is_root+else-has_processes, else-not-is_root-via-then-not-is_root+then-has_processes+else-not-is_empty}
 use Rattle.cg_avail.proofs.plan.Goals as goal
 

@@ -1,6 +1,7 @@
 use Rattle.std.proofs.Common.{◌||◌, sym, ap, ◌∙◌}
 use Rattle.cg_text.specs.Controllers.{is_no_controllers}
-use Rattle.cg_world.proofs.SoundTrees.{place_is, none_test}
+use Rattle.cg_text.proofs.Sets.{tells_none}
+use Rattle.cg_world.proofs.SoundTrees.{place_is}
 use Rattle.cg_world.proofs.soundness.is_sound_place.Goals as goal
 
 pub returns-then-is_root : goal.returns-then-is_root
@@ -11,4 +12,4 @@ returns-then-is_root c =
 pub returns-else-is_root : goal.returns-else-is_root
 returns-else-is_root c =
     place_is c.args.tree.now _ _ _ (sym c.settings.ensures ∙ c.in-Some.is)
-    (ap (λ b. b || is_no_controllers c.in-Some.settings.control) (sym c.is_root.ensures ∙ c.if-is_root.false) ∙ none_test _ _ c.is_empty.ensures)
+    (ap (λ b. b || is_no_controllers c.in-Some.settings.control) (sym c.is_root.ensures ∙ c.if-is_root.false) ∙ tells_none _ _ c.is_empty.ensures)
