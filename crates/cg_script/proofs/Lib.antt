@@ -6,3 +6,4 @@ mod Playing
 mod SessionNames
 pub mod WorldLemmas
 mod WrittenLines
+pub mod OneOutput

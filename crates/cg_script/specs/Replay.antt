@@ -106,3 +106,11 @@ pub record IsOutputFrom (s : Replay) (text out : List ℕ) : Type 0 where
 -- what is written for a schedule's text, over a world and a limit of the history
 abbrev pub IsOutput : Tree → ℕ → List ℕ → List ℕ → Type 0
 IsOutput T l text out = IsOutputFrom (opened T l) text out
+
+-- the law of outputs: a text has one at most over a tree and a limit,
+abbrev pub OneOutput : Type 0
+OneOutput = (T : Tree) (limit : ℕ) (text a b : List ℕ) → IsOutput T limit text a → IsOutput T limit text b → a ≡ b
+
+-- and it can't have none
+abbrev pub SomeOutput : Type 0
+SomeOutput = (T : Tree) (limit : ℕ) (text : List ℕ) → ¬ ((out : List ℕ) → ¬ (IsOutput T limit text out))

@@ -4,7 +4,7 @@ ghost use Rattle.std.specs.Result.{IsErrOf};
 ghost use Rattle.std.specs.Io.KnownBytes.{Appends};
 ghost use Rattle.cg_script.specs.Device.{AppendsFront, Failed};
 ghost use Rattle.cg_script.specs.Lines.{pending, room_of, CanBreak};
-ghost use Rattle.cg_script.specs.Replay.{IsOutput, IsOutputFrom, AnswersFirst};
+ghost use Rattle.cg_script.specs.Replay.{IsOutput, IsOutputFrom, AnswersFirst, OneOutput, SomeOutput};
 ghost use Rattle.cg_script.specs.declared.fault.ScriptFault.TheVariants as faults;
 
 use crate::device::{Sink, Source, write_all};
@@ -99,3 +99,13 @@ fn answer_line<S: Source>(
         }
     }
 }
+
+/// A schedule's text has one output at most over a tree and a limit of the history.
+pub fn a_schedule_has_one_output_at_most()
+    ensures { OneOutput }
+{}
+
+/// A schedule's text, whatever its bytes, has an output: it can't have none.
+pub fn a_schedule_has_an_output()
+    ensures { SomeOutput }
+{}
