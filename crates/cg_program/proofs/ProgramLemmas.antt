@@ -1,0 +1,20 @@
+-- A run: the world is read, and then a schedule played over it.
+use Rattle.std.proofs.Common.{List, ℕ, ◌≡◌, sym, subst, inr}
+use Rattle.std.specs.Prelude.{◌⊎◌, Option, IfSome, Result, OnOk, OnErr}
+use Rattle.std.proofs.lemmas.Option.{IfSome_then}
+use Rattle.std.proofs.lemmas.Result.{on_ok_weaker, on_err_weaker}
+use Rattle.cg_model.specs.Tree.{Tree}
+use Rattle.cg_script.specs.Lines.{Reading}
+use Rattle.cg_script.specs.WorldPart.{ReadsWorld}
+use Rattle.cg_program.specs.Program.{schedule_text, DoneOver}
+
+-- something is done over the world that was read, with the schedule that is given
+pub done_over : (P : Tree → Option (List ℕ) → Type 0) (left rest : Option (List ℕ)) (given schedule : Option Reading) (T : Tree) → given ≡ schedule → IfSome left (λ text. ReadsWorld text T rest) → P T (schedule_text schedule rest) → DoneOver P left given
+done_over P left rest given schedule T e reads p =
+    subst (DoneOver P left) (sym e) (IfSome_then left reads (λ text h. (T, rest, h, p)))
+
+pub played : {E : Type 0} (P : Tree → Option (List ℕ) → Type 0) (r : Result (Unit {0}) E) (left rest : Option (List ℕ)) (given schedule : Option Reading) (T : Tree) → given ≡ schedule → IfSome left (λ text. ReadsWorld text T rest) → OnOk r (P T (schedule_text schedule rest)) → OnOk r (DoneOver P left given)
+played P r left rest given schedule T e reads = on_ok_weaker r (done_over P left rest given schedule T e reads)
+
+pub stopped : {E : Type 0} (A : Type 0) (P : Tree → Option (List ℕ) → Type 0) (r : Result (Unit {0}) E) (left rest : Option (List ℕ)) (given schedule : Option Reading) (T : Tree) → given ≡ schedule → IfSome left (λ text. ReadsWorld text T rest) → OnErr r (P T (schedule_text schedule rest)) → OnErr r (A ⊎ DoneOver P left given)
+stopped A P r left rest given schedule T e reads = on_err_weaker r (λ p. inr (done_over P left rest given schedule T e reads p))

@@ -1,0 +1,53 @@
+-- What a run does: it reads a world, plays a schedule over it, and tells how it ended.
+use Rattle.std.specs.Prelude.{◌⊎◌, ℕ, List, [], ◌∷◌, ◌++◌, Option, Some, None, IfSome}
+use Rattle.std.specs.Io.KnownBytes.{Appends}
+use Rattle.cg_name.specs.Refusal.{refusal_text}
+use Rattle.cg_model.specs.Tree.{Tree}
+use Rattle.cg_script.specs.Device.{AppendsFront, Failed}
+use Rattle.cg_script.specs.Fault.{refusal_of}
+use Rattle.cg_script.specs.Lines.{Reading, pending, CanBreak}
+use Rattle.cg_script.specs.Replay.{IsOutput}
+use Rattle.cg_script.specs.WorldPart.{ReadsWorld}
+use Rattle.cg_script.specs.declared.fault.ScriptFault.{ScriptFault}
+use Rattle.cg_script.specs.declared.fault.ScriptFault.TheVariants.{Syntax, Memory, ReadFault, WriteFault}
+
+-- the exit status of a run that stopped
+abbrev pub status_of : ScriptFault → ℕ
+status_of Syntax = 2
+status_of Memory = 3
+status_of ReadFault = 3
+status_of WriteFault = 3
+
+-- the line that tells of it
+abbrev pub fault_line : ScriptFault → List ℕ
+fault_line fault = refusal_text (refusal_of fault) ++ 10 ∷ []
+
+-- the text of the schedule: what stands behind the world where it has no reader of its own
+abbrev pub schedule_text : Option Reading → Option (List ℕ) → Option (List ℕ)
+schedule_text None rest = rest
+schedule_text (Some r) rest = pending r
+
+-- a schedule that is known was played over the tree: its whole output was appended
+abbrev pub Plays : Tree → Option (List ℕ) → Option (List ℕ) → Option (List ℕ) → Type 0
+Plays T schedule old new = IfSome schedule (λ text. (written : List ℕ) × IsOutput T 1048576 text written × Appends old new written)
+
+-- the playing stopped: what was appended is the front of the whole output
+abbrev pub Stops : Tree → Option (List ℕ) → Option (List ℕ) → Option (List ℕ) → Type 0
+Stops T schedule old new = IfSome schedule (λ text. (written : List ℕ) → IsOutput T 1048576 text written → AppendsFront old new written)
+
+-- the world at the head of a text was read, where the text is known, and this was done over it with the schedule
+abbrev pub DoneOver : (Tree → Option (List ℕ) → Type 0) → Option (List ℕ) → Option Reading → Type 0
+DoneOver P world schedule = IfSome world (λ text. (T : Tree) × (rest : Option (List ℕ)) × ReadsWorld text T rest × P T (schedule_text schedule rest))
+
+-- a reader has broken
+abbrev pub IsBroken : Reading → Type 0
+IsBroken r = CanBreak r.opening r.failures r.reads
+
+-- one of the readers has
+abbrev pub AreBroken : Reading → Option Reading → Type 0
+AreBroken world None = IsBroken world
+AreBroken world (Some schedule) = IsBroken world ⊎ IsBroken schedule
+
+-- the bytes were appended whole; or a write failed, and those at the front of them were
+abbrev pub WritesUnlessFailed : Option (List ℕ) → Option (List ℕ) → ℕ → ℕ → List ℕ → Type 0
+WritesUnlessFailed old new failed failed' bytes = Appends old new bytes ⊎ (Failed failed failed' × AppendsFront old new bytes)

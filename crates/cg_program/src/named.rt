@@ -1,0 +1,106 @@
+//! A run whose inputs are named by words.
+ghost use Rattle.std.specs.Prelude.{◌≡◌, ◌⊎◌, ◌&&◌, true, false, IfOk, IfSome, MatchOption, IfErr};
+ghost use Rattle.std.specs.Result.{IsErrOf};
+ghost use Rattle.cg_script.specs.Device.{Failed};
+ghost use Rattle.cg_script.specs.Lines.{pending};
+ghost use Rattle.cg_script.specs.WorldLines.{HasNoWorld};
+ghost use Rattle.cg_script.specs.declared.fault.ScriptFault.{ScriptFault};
+ghost use Rattle.cg_script.specs.declared.fault.ScriptFault.TheVariants as faults;
+ghost use Rattle.cg_program.specs.Named.{is_standard, named, DoneOverNamed};
+ghost use Rattle.cg_program.specs.Program.{status_of, fault_line, Plays, Stops, WritesUnlessFailed};
+
+use crate::inputs::{Inputs, OpenFault};
+use crate::replaying::{replay_to, stop};
+use cg_script::device::{Sink, Source};
+use cg_script::fault::ScriptFault;
+use cg_script::lines::LineReader;
+use std::alloc::Global;
+
+/// Replays what two words name: `-` is standard input, and any other word the file of this name, as it stands. Where both
+/// are standard input, the schedule stands behind the world. The world is opened before the schedule, and a file that
+/// can't be opened is a read fault. What is written, and the status, are as `replay_to` says.
+pub fn replay_named<P: Inputs, O: Sink, E: Sink>(
+    alloc: Global,
+    inputs: &P,
+    world: &str,
+    schedule: &str,
+    out: &mut O,
+    err: &mut E,
+) -> u8
+    // All is played, and nothing told;
+    ensures done { result ≡ 0 → DoneOverNamed (λ tree lines. Plays tree lines (O.taken out.old) (O.taken out.new)) (P.standard inputs.now) (P.file inputs.now) world.now schedule.now }
+    ensures quiet { result ≡ 0 → err.new ≡ err.old }
+
+    // or there is a fault, which is told.
+    ensures told { (result ≡ 0) ⊎ ((fault : ScriptFault) × (result ≡ status_of fault)
+        × WritesUnlessFailed (E.taken err.old) (E.taken err.new) (E.failed err.old) (E.failed err.new) (fault_line fault)
+        × (fault ≡ faults.WriteFault → Failed (O.failed out.old) (O.failed out.new))) }
+    ensures syntax { result ≡ 2 → IfSome (named (P.standard inputs.now) (P.file inputs.now) world.now) HasNoWorld × (out.new ≡ out.old) }
+    ensures front { result ≡ 3 → (out.new ≡ out.old) ⊎ DoneOverNamed (λ tree lines. Stops tree lines (O.taken out.old) (O.taken out.new)) (P.standard inputs.now) (P.file inputs.now) world.now schedule.now }
+
+    // A file that can't be opened: nothing is done.
+    ensures no_world { is_standard world.now ≡ false → P.is_missing inputs.now world.now ≡ true → (result ≡ 3) × (out.new ≡ out.old)
+        × WritesUnlessFailed (E.taken err.old) (E.taken err.new) (E.failed err.old) (E.failed err.new) (fault_line faults.ReadFault) }
+    ensures no_schedule { is_standard schedule.now ≡ false → P.is_missing inputs.now schedule.now ≡ true → (result ≡ 3) × (out.new ≡ out.old) }
+{
+    match readers(alloc, inputs, world, schedule) {
+        Ok((mut first, mut second)) => replay_to(alloc, &mut first, &mut second, out, err),
+        Err(fault) => stop(fault, err),
+    }
+}
+
+// The readers of the world and of the schedule, which has none of its own where it stands behind the world.
+fn readers<P: Inputs>(
+    alloc: Global,
+    inputs: &P,
+    world: &str,
+    schedule: &str,
+) -> Result<(LineReader<P::Input>, Option<LineReader<P::Input>>), ScriptFault>
+    ensures world { IfOk result (λ readers. pending readers.0 ≡ named (P.standard inputs.now) (P.file inputs.now) world.now) }
+    ensures schedule { IfOk result (λ readers. MatchOption readers.1 (is_standard world.now && is_standard schedule.now ≡ true)
+        (λ r. (is_standard world.now && is_standard schedule.now ≡ false) × (pending r ≡ named (P.standard inputs.now) (P.file inputs.now) schedule.now))) }
+    ensures no_world { is_standard world.now ≡ false → P.is_missing inputs.now world.now ≡ true → IsErrOf result faults.ReadFault }
+    ensures no_schedule { is_standard schedule.now ≡ false → P.is_missing inputs.now schedule.now ≡ true → (IsErrOf result faults.ReadFault) ⊎ (IsErrOf result faults.Memory) }
+    ensures faults { ¬ (IsErrOf result faults.Syntax) × ¬ (IsErrOf result faults.WriteFault) }
+{
+    let first = open(inputs, world)?;
+    if is_standard(world) && is_standard(schedule) {
+        return Ok((reader(alloc, first)?, None));
+    }
+    let second = open(inputs, schedule)?;
+    Ok((reader(alloc, first)?, Some(reader(alloc, second)?)))
+}
+
+// What the word names.
+fn open<P: Inputs>(inputs: &P, word: &str) -> Result<P::Input, ScriptFault>
+    ensures bytes { IfOk result (λ input. P.Input.left input ≡ named (P.standard inputs.now) (P.file inputs.now) word.now) }
+    ensures missing { is_standard word.now ≡ false → P.is_missing inputs.now word.now ≡ true → IsErrOf result faults.ReadFault }
+    ensures faults { IfErr result (λ e. (e ≡ faults.ReadFault) ⊎ (e ≡ faults.Memory)) }
+{
+    if is_standard(word) {
+        return Ok(inputs.open_standard());
+    }
+    match inputs.open_file(word) {
+        Ok(input) => Ok(input),
+        Err(OpenFault::Memory) => Err(ScriptFault::Memory),
+        Err(OpenFault::Unreadable) => Err(ScriptFault::ReadFault),
+    }
+}
+
+// A reader of the source's lines.
+fn reader<S: Source + Drop>(alloc: Global, source: S) -> Result<LineReader<S>, ScriptFault>
+    ensures pending { IfOk result (λ r. pending r ≡ S.left source) }
+    ensures memory { IfErr result (λ e. e ≡ faults.Memory) }
+{
+    match LineReader::new(alloc, source) {
+        Ok(reader) => Ok(reader),
+        Err(_) => Err(ScriptFault::Memory),
+    }
+}
+
+// Whether the word names standard input.
+fn is_standard(word: &str) -> bool
+    ensures { result ≡ is_standard word.now }
+{
+    matches!(word.as_bytes(), [b'-'])
+}

@@ -1,0 +1,102 @@
+//! A schedule played from a world's text to the end of the run.
+ghost use Rattle.std.specs.Prelude.{◌≡◌, ◌⊎◌, IfErr, IfOk, IfSome, OnErr, OnOk};
+ghost use Rattle.std.specs.Result.{IsErrOf};
+ghost use Rattle.cg_script.specs.Device.{Failed};
+ghost use Rattle.cg_script.specs.Lines.{pending};
+ghost use Rattle.cg_script.specs.WorldLines.{HasNoWorld};
+ghost use Rattle.cg_script.specs.declared.fault.ScriptFault.{ScriptFault};
+ghost use Rattle.cg_script.specs.declared.fault.ScriptFault.TheVariants as faults;
+ghost use Rattle.cg_program.specs.Program.{status_of, fault_line, AreBroken, DoneOver, IsBroken, Plays, Stops, WritesUnlessFailed};
+
+use cg_script::device::{Sink, Source, write_all};
+use cg_script::fault::ScriptFault;
+use cg_script::lines::LineReader;
+use cg_script::replay::replay;
+use cg_script::world_reader::read_world;
+use std::alloc::Global;
+
+/// The most records of a history.
+const LONGEST_HISTORY: u32 = 1_048_576;
+
+/// Reads the world from `world` and plays a schedule over it: that of `schedule`, or what follows the world where there
+/// is none. The answers and the last tree go to `out`. The status is 0 when all is played, 2 when the world isn't in
+/// its grammar, and 3 when memory, a source or the sink fails. For 2 and 3 the refusal stands on a line in `err`.
+pub fn replay_to<W: Source, T: Source, O: Sink, E: Sink>(
+    alloc: Global,
+    world: &mut LineReader<W>,
+    schedule: &mut Option<LineReader<T>>,
+    out: &mut O,
+    err: &mut E,
+) -> u8
+    // All is played, and nothing told;
+    ensures done { result ≡ 0 → DoneOver (λ tree lines. Plays tree lines (O.taken out.old) (O.taken out.new)) (pending world.old) schedule.old }
+    ensures quiet { result ≡ 0 → err.new ≡ err.old }
+
+    // or there is a fault, which is told and has its cause.
+    ensures told { (result ≡ 0) ⊎ ((fault : ScriptFault) × (result ≡ status_of fault)
+        × WritesUnlessFailed (E.taken err.old) (E.taken err.new) (E.failed err.old) (E.failed err.new) (fault_line fault)
+        × (fault ≡ faults.ReadFault → AreBroken world.new schedule.new)
+        × (fault ≡ faults.WriteFault → Failed (O.failed out.old) (O.failed out.new))) }
+    ensures syntax { result ≡ 2 → IfSome (pending world.old) HasNoWorld × (out.new ≡ out.old) }
+    ensures front { result ≡ 3 → (out.new ≡ out.old) ⊎ DoneOver (λ tree lines. Stops tree lines (O.taken out.old) (O.taken out.new)) (pending world.old) schedule.old }
+{
+    match play(alloc, world, schedule, out) {
+        Ok(()) => 0,
+        Err(fault) => stop(fault, err),
+    }
+}
+
+/// Tells a fault on a line of its own, and gives the status of a run that stops at it: 2 for a text that isn't in its
+/// grammar, else 3. It takes no memory.
+pub fn stop<E: Sink>(fault: ScriptFault, err: &mut E) -> u8
+    ensures status { result ≡ status_of fault }
+    ensures line { WritesUnlessFailed (E.taken err.old) (E.taken err.new) (E.failed err.old) (E.failed err.new) (fault_line fault) }
+{
+    let _ = write_all(err, line_of(fault));
+    status_of(fault)
+}
+
+// Plays the schedule over the world.
+fn play<W: Source, T: Source, O: Sink>(
+    alloc: Global,
+    world: &mut LineReader<W>,
+    schedule: &mut Option<LineReader<T>>,
+    out: &mut O,
+) -> Result<(), ScriptFault>
+    ensures done { OnOk result (DoneOver (λ tree lines. Plays tree lines (O.taken out.old) (O.taken out.new)) (pending world.old) schedule.old) }
+    ensures syntax { IsErrOf result faults.Syntax → IfSome (pending world.old) HasNoWorld × (out.new ≡ out.old) }
+    ensures front { OnErr result ((out.new ≡ out.old) ⊎ DoneOver (λ tree lines. Stops tree lines (O.taken out.old) (O.taken out.new)) (pending world.old) schedule.old) }
+    ensures reads { IsErrOf result faults.ReadFault → AreBroken world.new schedule.new }
+    ensures writes { IsErrOf result faults.WriteFault → Failed (O.failed out.old) (O.failed out.new) }
+{
+    let tree = match read_world(alloc, world) {
+        Ok(tree) => tree,
+        Err(fault) => return Err(fault),
+    };
+    match schedule {
+        None => replay(alloc, world, out, tree, LONGEST_HISTORY),
+        Some(reader) => replay(alloc, reader, out, tree, LONGEST_HISTORY),
+    }
+}
+
+// The line that tells a fault.
+fn line_of(fault: ScriptFault) -> &'static [u8]
+    ensures { result.now ≡ fault_line fault }
+{
+    match fault {
+        ScriptFault::Syntax => b"refused 1 syntax\n",
+        ScriptFault::Memory => b"refused 19 memory\n",
+        ScriptFault::ReadFault => b"refused 24 readfault\n",
+        ScriptFault::WriteFault => b"refused 25 writefault\n",
+    }
+}
+
+// The exit status of a run that stopped.
+fn status_of(fault: ScriptFault) -> u8
+    ensures { result ≡ status_of fault }
+{
+    match fault {
+        ScriptFault::Syntax => 2,
+        ScriptFault::Memory | ScriptFault::ReadFault | ScriptFault::WriteFault => 3,
+    }
+}
