@@ -6,41 +6,14 @@ use Rattle.cg_text.specs.Words.{lines_of}
 use Rattle.cg_core.specs.Machine.{stepped}
 use Rattle.cg_core.specs.Record.{Request}
 use Rattle.cg_script.specs.Request.{SpellsLine}
-use Rattle.cg_script.specs.Replay.{Replay, IsOneTooMany, session_number, with_name, newline, answer_line, AsksAs, Answers, AnswersAll, IsOutputFrom, ending_text, opened, OneOutput, SomeOutput}
-use Rattle.cg_script.proofs.OneLine.{line_one}
-
-some_same : {X : Type 0} {x y : X} → Some x ≡ Some y → x ≡ y
-some_same e = cc
-
-some_none : {X : Type 0} {x : X} → Some x ≡ None → ⊥
-some_none e = cc
+use Rattle.cg_script.specs.Replay.{Replay, IsOneTooMany, session_number, with_name, newline, answer_line, Answers, AnswersAll, ending_text, opened, OneOutput, SomeOutput}
+use Rattle.cg_script.proofs.Playing.{answers_one}
 
 -- ---- one output at most
 
 -- two ways to go on are the same: the same is written, and the same replay is left
 abbrev Same : List ℕ → List ℕ → Replay → Replay → Type 0
 Same a b t u = (a ≡ b) × (t ≡ u)
-
-asks_one : (s t u : Replay) (c d : List ℕ × Request) (k l : ℕ) (a b : List ℕ) → c ≡ d → AsksAs s c.0 c.1 k a t → AsksAs s d.0 d.1 l b u → Same a b t u
-asks_one s t u c d k l a b e x y =
-    let P : List ℕ × Request → Type 0 = λ c. AsksAs s c.0 c.1 l b u in
-    let z : AsksAs s c.0 c.1 l b u = subst P (sym e) y in
-    let same : k ≡ l = some_same (sym x.0 ∙ z.0) in (
-      x.1 ∙ ap (λ k. answer_line s.machine k c.1) same ∙ sym z.1,
-      x.2 ∙ ap (λ k. record { names = with_name s.names c.0; machine = stepped s.machine k c.1 }) same ∙ sym z.2,
-    )
-
-answers_one : (s t u : Replay) (line a b : List ℕ) → Answers s line a t → Answers s line b u → Same a b t u
-answers_one s t u line a b (inl x) (inl y) = (x.1 ∙ sym y.1, x.2 ∙ sym y.2)
-answers_one s t u line a b (inl x) (inr (inl y)) = absurd (some_none (line_one line (Some (y.0, y.1)) None y.3 x.0))
-answers_one s t u line a b (inl x) (inr (inr y)) = absurd (y.0 None x.0)
-answers_one s t u line a b (inr (inl x)) (inl y) = absurd (some_none (line_one line (Some (x.0, x.1)) None x.3 y.0))
-answers_one s t u line a b (inr (inl x)) (inr (inl y)) =
-    asks_one s t u (x.0, x.1) (y.0, y.1) x.2 y.2 a b (some_same (line_one line (Some (x.0, x.1)) (Some (y.0, y.1)) x.3 y.3)) x.4 y.4
-answers_one s t u line a b (inr (inl x)) (inr (inr y)) = absurd (some_none (sym x.4.0 ∙ y.0 (Some (x.0, x.1)) x.3))
-answers_one s t u line a b (inr (inr x)) (inl y) = absurd (x.0 None y.0)
-answers_one s t u line a b (inr (inr x)) (inr (inl y)) = absurd (some_none (sym y.4.0 ∙ x.0 (Some (y.0, y.1)) y.3))
-answers_one s t u line a b (inr (inr x)) (inr (inr y)) = (x.1 ∙ sym y.1, x.2 ∙ sym y.2)
 
 lines_one : (lines : List (List ℕ)) (s t u : Replay) (a b : List ℕ) → AnswersAll s lines a t → AnswersAll s lines b u → Same a b t u
 lines_one [] s t u a b x y = (x.0 ∙ sym y.0, x.1 ∙ sym y.1)

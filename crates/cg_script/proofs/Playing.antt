@@ -8,10 +8,10 @@ use Rattle.cg_core.specs.Record.{Request}
 use Rattle.cg_core.specs.Machine.{stepped}
 use Rattle.cg_script.specs.Device.{AppendsFront, WritesWhole}
 use Rattle.cg_text.specs.Words.{lines_of}
-use Rattle.cg_script.specs.Lines.{TakesKnownLine}
+use Rattle.cg_script.specs.Lines.{TakesKnownLine, LosesOfLine}
 use Rattle.cg_script.specs.declared.lines.LineKind.TheVariants.{TooLong, Text}
 use Rattle.cg_script.specs.Request.{SpellsLine}
-use Rattle.cg_script.specs.Replay.{Replay, newline, session_number, with_name, IsOneTooMany, Answers, AnswersAll, AnswersFirst, IsOutputFrom, ending_text, answer_line}
+use Rattle.cg_script.specs.Replay.{Replay, newline, session_number, with_name, IsOneTooMany, Answers, AnswersAll, AnswersFirst, AnswersPassed, IsOutputFrom, ending_text, answer_line}
 use Rattle.cg_script.proofs.DeviceLemmas.{Appends-nil, Appends-append, AppendsTo-front}
 use Rattle.cg_script.proofs.LinesLaw.{lines_of-begins, lines_of-nil}
 use Rattle.cg_script.proofs.OneLine.{line_one}
@@ -69,9 +69,19 @@ answered_text (Some text) (Some rest) line out s t h a = (line, lines_of-begins 
 pub record Plays (s : Replay) (lines : List (List ℕ)) (done : List ℕ) (t : Replay) (rest : List (List ℕ)) : Type 0 where
   pub forth : (more : List ℕ) (last : Replay) → AnswersAll t rest more last → AnswersAll s lines (done ++ more) last
   pub back : (all : List ℕ) (last : Replay) → AnswersAll s lines all last → (more : List ℕ) × (all ≡ done ++ more) × AnswersAll t rest more last
+  pub passed : List (List ℕ)
+  pub whole : lines ≡ passed ++ rest
+  pub answered : AnswersAll s passed done t
+
+-- one line more is answered
+answers_line : (passed : List (List ℕ)) (s t u : Replay) (line done out : List ℕ) → AnswersAll s passed done t → Answers t line out u → AnswersAll s (passed ++ line ∷ []) (done ++ out) u
+answers_line [] s t u line done out h a =
+    (out, [], u, subst (λ r. Answers r line out u) h.1 a, (refl, refl), ap (λ w. w ++ out) h.0 ∙ sym (append-nil out))
+answers_line (x ∷ xs) s t u line done out h a =
+    (h.0, h.1 ++ out, h.2, h.3, answers_line xs h.2 t u line h.1 out h.4 a, ap (λ w. w ++ out) h.5 ∙ append_assoc h.0 h.1 out)
 
 plays_none : (s : Replay) (lines : List (List ℕ)) → Plays s lines [] s lines
-plays_none s lines = record { forth = λ more last h. h; back = λ all last h. (all, refl, h) }
+plays_none s lines = record { forth = λ more last h. h; back = λ all last h. (all, refl, h); passed = []; whole = refl; answered = (refl, refl) }
 
 plays_more : (s t u : Replay) (lines rest : List (List ℕ)) (line done out : List ℕ) → Plays s lines done t (line ∷ rest) → Answers t line out u → Plays s lines (done ++ out) u rest
 plays_more s t u lines rest line done out p a = record {
@@ -83,6 +93,9 @@ plays_more s t u lines rest line done out p a = record {
         before.1 ∙ ap (λ x. done ++ x) (before.2.5 ∙ ap (λ x. x ++ before.2.1) same.0) ∙ sym (append_assoc done out before.2.1),
         subst (λ v. AnswersAll v rest before.2.1 last) same.1 before.2.4,
       );
+  passed = p.passed ++ line ∷ [];
+  whole = p.whole ∙ sym (append_assoc p.passed (line ∷ []) rest);
+  answered = answers_line p.passed s t u line done out p.answered a;
 }
 
 -- the same of a source and a sink, where they tell their bytes
@@ -108,6 +121,12 @@ plays_known_more s t u (Some text) (Some rest) (Some rest') a b c out p h w = (
   plays_more s t u (lines_of text) (lines_of rest') h.0 p.0 out (subst (λ ls. Plays s (lines_of text) p.0 t ls) h.1 p.1) h.2,
   Appends-append a b c p.0 out p.2 w,
 )
+
+-- the reader breaks: the lines that it went past are answered
+pub answers_passed : (s t : Replay) (text rest left a b : Option (List ℕ)) → PlaysKnown s text a b t rest → LosesOfLine rest left → IfSome text (λ x. AnswersPassed s x left a b)
+answers_passed s t None rest left a b p l = tt
+answers_passed s t (Some text) None left a b p l = absurd p
+answers_passed s t (Some text) (Some rest) left a b p l = (p.1.passed, rest, p.1.whole, l, p.0, t, p.1.answered, p.2)
 
 -- ---- what was written, seen from the whole
 

@@ -2,6 +2,7 @@
 use Rattle.std.specs.Prelude.{◌≡◌, ◌⊎◌, ℕ, ◌+◌, nat_eq, nat_lt, if◌then◌else◌, List, [], ◌∷◌, ◌++◌, length, Option, Some, None, position}
 use Rattle.std.specs.List.{list_any}
 use Rattle.std.specs.Cmp.Lexicographic.{pointwise}
+use Rattle.std.specs.Io.KnownBytes.{Appends}
 use Rattle.cg_name.specs.Refusal.{refusal_text}
 use Rattle.cg_name.specs.declared.refusal.Refusal.TheVariants.{Syntax}
 use Rattle.cg_text.specs.Words.{lines_of}
@@ -10,6 +11,7 @@ use Rattle.cg_core.specs.Record.{Request, Abort}
 use Rattle.cg_core.specs.Machine.{Machine, Open, reply, stepped}
 use Rattle.cg_world.specs.World.{world_text}
 use Rattle.cg_script.specs.Answer.{answer_text}
+use Rattle.cg_script.specs.Lines.{LosesOfLine}
 use Rattle.cg_script.specs.Request.{SpellsLine}
 
 abbrev pub newline : List ℕ
@@ -79,6 +81,13 @@ AnswersAll s (line ∷ lines) out t =
 abbrev pub AnswersFirst : Replay → List ℕ → List ℕ → Replay → Option (List ℕ) → Type 0
 AnswersFirst s text out t None = ⊥
 AnswersFirst s text out t (Some rest) = (line : List ℕ) × (lines_of text ≡ line ∷ lines_of rest) × Answers s line out t
+
+-- The lines at the front of a text were answered, and nothing else was written: a reader went past them, and then lost
+-- nothing, or some bytes at the front of the line behind them.
+abbrev pub AnswersPassed : Replay → List ℕ → Option (List ℕ) → Option (List ℕ) → Option (List ℕ) → Type 0
+AnswersPassed s text left old new =
+    (passed : List (List ℕ)) × (behind : List ℕ) × (lines_of text ≡ passed ++ lines_of behind) × LosesOfLine (Some behind) left
+    × (answers : List ℕ) × (t : Replay) × AnswersAll s passed answers t × Appends old new answers
 
 -- at the end the open transaction is aborted
 abbrev pub last_answer : Machine → Option Open → List ℕ

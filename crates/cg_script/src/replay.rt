@@ -3,8 +3,8 @@ ghost use Rattle.std.specs.Prelude.{◌≡◌, ◌⊎◌, ◌≤◌, ◌<◌, []
 ghost use Rattle.std.specs.Result.{IsErrOf};
 ghost use Rattle.std.specs.Io.KnownBytes.{Appends};
 ghost use Rattle.cg_script.specs.Device.{AppendsFront, Failed};
-ghost use Rattle.cg_script.specs.Lines.{pending, room_of, CanBreak};
-ghost use Rattle.cg_script.specs.Replay.{IsOutput, IsOutputFrom, AnswersFirst, OneOutput, SomeOutput};
+ghost use Rattle.cg_script.specs.Lines.{pending, room_of, CanBreak, LosesOfLine};
+ghost use Rattle.cg_script.specs.Replay.{opened, IsOutput, IsOutputFrom, AnswersFirst, AnswersPassed, OneOutput, SomeOutput};
 ghost use Rattle.cg_script.specs.declared.fault.ScriptFault.TheVariants as faults;
 
 use crate::device::{Sink, Source, write_all};
@@ -15,7 +15,8 @@ use cg_world::world::World;
 use std::alloc::Global;
 
 /// Answers the lines of a schedule over a world, one after another, aborts what is still open at the end, and
-/// writes the tree's world text. After a fault what was written is the front of what would have been.
+/// writes the tree's world text. After a fault what was written is the front of what would have been; after a read
+/// fault it is the answers to the lines that the reader went past.
 pub fn replay<S: Source, K: Sink>(
     alloc: Global,
     reader: &mut LineReader<S>,
@@ -28,6 +29,7 @@ pub fn replay<S: Source, K: Sink>(
     ensures output { OnOk result (IfSome (pending reader.old) (λ text. (out : List ℕ) × IsOutput world limit text out × Appends (K.taken sink.old) (K.taken sink.new) out)) }
     ensures front { OnErr result (IfSome (pending reader.old) (λ text. (out : List ℕ) → IsOutput world limit text out → AppendsFront (K.taken sink.old) (K.taken sink.new) out)) }
     ensures reads { IsErrOf result faults.ReadFault → CanBreak reader.new.opening reader.new.failures reader.new.reads }
+    ensures passed { IsErrOf result faults.ReadFault → IfSome (pending reader.old) (λ text. AnswersPassed (opened world limit) text (pending reader.new) (K.taken sink.old) (K.taken sink.new)) }
     ensures writes { IsErrOf result faults.WriteFault → Failed (K.failed sink.old) (K.failed sink.new) }
     ensures syntax { ¬ (IsErrOf result faults.Syntax) }
 {
@@ -47,6 +49,7 @@ fn play<S: Source, K: Sink>(
     ensures output { OnOk result (IfSome (pending reader.old) (λ text. (out : List ℕ) × IsOutputFrom player.old text out × Appends (K.taken sink.old) (K.taken sink.new) out)) }
     ensures front { OnErr result (IfSome (pending reader.old) (λ text. (out : List ℕ) → IsOutputFrom player.old text out → AppendsFront (K.taken sink.old) (K.taken sink.new) out)) }
     ensures reads { IsErrOf result faults.ReadFault → CanBreak reader.new.opening reader.new.failures reader.new.reads }
+    ensures passed { IsErrOf result faults.ReadFault → IfSome (pending reader.old) (λ text. AnswersPassed player.old text (pending reader.new) (K.taken sink.old) (K.taken sink.new)) }
     ensures writes { IsErrOf result faults.WriteFault → Failed (K.failed sink.old) (K.failed sink.new) }
     ensures syntax { ¬ (IsErrOf result faults.Syntax) }
 {
@@ -78,6 +81,7 @@ fn answer_line<S: Source>(
     ensures ended { IfOk result (λ more. more ≡ false → IfSome (pending reader.old) (λ text. text ≡ []) × (player.new ≡ player.old) × (out.new.items ≡ [])) }
     ensures progress { IfOk result (λ more. more ≡ true → room_of reader.new < room_of reader.old) }
     ensures reads { IsErrOf result faults.ReadFault → CanBreak reader.new.opening reader.new.failures reader.new.reads }
+    ensures loses { IsErrOf result faults.ReadFault → LosesOfLine (pending reader.old) (pending reader.new) }
     ensures faults { IfErr result (λ e. (e ≡ faults.ReadFault) ⊎ (e ≡ faults.Memory)) }
 {
     let Ok(kind) = reader.next_line() else {

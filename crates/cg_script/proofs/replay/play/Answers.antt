@@ -4,13 +4,21 @@ use Rattle.cg_script.specs.Device.{AppendsFront}
 use Rattle.cg_script.specs.Lines.{pending}
 use Rattle.cg_script.specs.Replay.{ending_text}
 use Rattle.cg_script.proofs.OneLine.{on_any_err, when_ok}
-use Rattle.cg_script.proofs.Playing.{front_none, front_line, front_end, whole_end, plays_known_more, wrote_front, wrote_whole}
+use Rattle.std.proofs.lemmas.Result.{err_from_is_err_and}
+use Rattle.cg_script.proofs.WorldLemmas.{err_handed_on}
+use Rattle.cg_script.proofs.Playing.{answers_passed, front_none, front_line, front_end, whole_end, plays_known_more, wrote_front, wrote_whole}
 use Rattle.cg_script.proofs.replay.play.Goals as goal
 
 pub returns-in_err-answer_line-clause-front : goal.returns-in_err-answer_line-clause-front
 returns-in_err-answer_line-clause-front g c =
     on_any_err c.from_residual.result
     (front_none c.args.player.now (pending c.args.reader.now) (pending c.lines.reader) (g.K.Sink.taken c.args.sink.now) (g.K.Sink.taken c.lines.sink) c.lines.player c.lines.invariant.plays)
+
+pub returns-in_err-answer_line-clause-passed : goal.returns-in_err-answer_line-clause-passed
+returns-in_err-answer_line-clause-passed g c = λ broken.
+    let p = err_from_is_err_and c.from_residual.result c.from_residual.ensures.1 in
+    let loses = c.in_err-answer_line.ensures.loses (err_handed_on c.from_residual.result p.0 c.in_err-answer_line.field-0.0 _ p.1 p.2 broken) in
+    answers_passed c.args.player.now c.lines.player (pending c.args.reader.now) (pending c.lines.reader) (pending c.answer_line.new.reader) (g.K.Sink.taken c.args.sink.now) (g.K.Sink.taken c.lines.sink) c.lines.invariant.plays loses
 
 pub returns-then-is_err-clause-front : goal.returns-then-is_err-clause-front
 returns-then-is_err-clause-front g c =
