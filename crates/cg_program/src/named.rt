@@ -3,7 +3,7 @@ ghost use Rattle.std.specs.Prelude.{◌≡◌, ◌⊎◌, ◌&&◌, true, false,
 ghost use Rattle.std.specs.Result.{IsErrOf};
 ghost use Rattle.cg_script.specs.Device.{Failed};
 ghost use Rattle.cg_script.specs.Lines.{pending};
-ghost use Rattle.cg_script.specs.WorldLines.{HasNoWorld};
+ghost use Rattle.cg_script.specs.WorldPart.{HasNoWorld};
 ghost use Rattle.cg_script.specs.declared.fault.ScriptFault.{ScriptFault};
 ghost use Rattle.cg_script.specs.declared.fault.ScriptFault.TheVariants as faults;
 ghost use Rattle.cg_program.specs.Named.{is_standard, named, DoneOverNamed};

@@ -6,7 +6,7 @@ use Rattle.std.proofs.lemmas.List.Splits.{slice_split_none, slice_split_at, slic
 use Rattle.std.proofs.lemmas.List.Elements.{All-weaker}
 use Rattle.cg_text.specs.Words.{is_newline, without_empty_last, lines_of}
 use Rattle.cg_script.specs.Lines.{HasNoNewline, BeginsWithLine, StepsAreLines}
-use Rattle.cg_script.specs.declared.lines.LineKind.TheVariants.{End, TooLong, Text}
+use Rattle.cg_script.specs.declared.lines.LineKind.TheVariants.{End, TooLong, Text, Last}
 
 -- a text that is cut at newlines has a first piece
 first_piece_of : (text : List ℕ) → (piece : List ℕ) × (pieces : List (List ℕ)) × (slice_split is_newline text ≡ piece ∷ pieces)
@@ -59,4 +59,5 @@ lines_of-begins text line rest h =
 pub steps_are_lines : StepsAreLines
 steps_are_lines text End line rest h = (ap lines_of h.0 ∙ lines_of-nil, ap lines_of h.2 ∙ lines_of-nil)
 steps_are_lines text TooLong line rest h = (h.1, h.2, lines_of-begins text h.1 rest h.3)
-steps_are_lines text Text line rest h = (h.0, lines_of-begins text line rest h.1)
+steps_are_lines text Text line rest h = (h.0, lines_of-begins text line rest (h.1, inl h.2))
+steps_are_lines text Last line rest h = (h.0, lines_of-begins text line rest (h.1, inr h.2), ap lines_of h.2.2 ∙ lines_of-nil)

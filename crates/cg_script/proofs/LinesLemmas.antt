@@ -5,7 +5,7 @@ use Rattle.std.specs.List.{slice_range}
 use Rattle.std.specs.Io.KnownBytes.{prepend_known, Consumes, Keeps, IsAtEnd}
 use Rattle.std.proofs.lemmas.List.{drop-take}
 use Rattle.std.proofs.lemmas.List.Elements.{All-append}
-use Rattle.cg_script.specs.Lines.{HasNoNewline, BeginsWithLine, TakesLine, TakesKnownLine, LosesOfLine, Reading, pending, IsKept, TakesPiece, IsFirstNewline, kind_where, last_kind_where}
+use Rattle.cg_script.specs.Lines.{HasNoNewline, IsLastLine, TakesLine, TakesKnownLine, LosesOfLine, Reading, pending, IsKept, TakesPiece, IsFirstNewline, kind_where, ending_kind_where, last_kind_where}
 use Rattle.cg_script.specs.declared.lines.LineKind.TheVariants.{End}
 
 -- nothing more is known than what is known
@@ -49,23 +49,29 @@ Consumes-kept None new h = tt
 Consumes-kept (Some xs) None h = h
 Consumes-kept (Some xs) (Some ys) h = sym h
 
--- a whole line is taken, with what follows it
-BeginsWithLine-taken : (text rest whole line : List ℕ) (fits : Bool) → BeginsWithLine text whole rest → IsKept whole fits line → TakesLine text (kind_where fits) line rest
-BeginsWithLine-taken text rest whole line true h k =
-    subst (λ (l : List ℕ). (length l ≤ 65536) × BeginsWithLine text l rest) (sym k.0) (k.1, h)
-BeginsWithLine-taken text rest whole line false h k = (k.0, whole, k.1, h)
+-- a whole line is taken, with what follows its newline
+taken_at_newline : (text rest whole line : List ℕ) (fits : Bool) → HasNoNewline whole → text ≡ whole ++ 10 ∷ rest → IsKept whole fits line → TakesLine text (kind_where fits) line rest
+taken_at_newline text rest whole line true n h k =
+    subst (λ (l : List ℕ). (length l ≤ 65536) × HasNoNewline l × (text ≡ l ++ 10 ∷ rest)) (sym k.0) (k.1, n, h)
+taken_at_newline text rest whole line false n h k = (k.0, whole, k.1, (n, inl h))
+
+-- a whole line is taken, which has none
+taken_at_end : (text rest whole line : List ℕ) (fits : Bool) → HasNoNewline whole → IsLastLine text whole rest → IsKept whole fits line → TakesLine text (ending_kind_where fits) line rest
+taken_at_end text rest whole line true n h k =
+    subst (λ (l : List ℕ). (length l ≤ 65536) × HasNoNewline l × IsLastLine text l rest) (sym k.0) (k.1, n, h)
+taken_at_end text rest whole line false n h k = (k.0, whole, k.1, (n, inr h))
 
 pub takes_at_newline : (old new : Option (List ℕ)) (whole line : List ℕ) (fits : Bool) → HasNoNewline whole → Consumes old new (whole ++ 10 ∷ []) → IsKept whole fits line → TakesKnownLine old (kind_where fits) line new
 takes_at_newline None new whole line fits n h k = tt
 takes_at_newline (Some text) None whole line fits n h k = h
 takes_at_newline (Some text) (Some rest) whole line fits n h k =
-    BeginsWithLine-taken text rest whole line fits (n, inl (h ∙ append_assoc whole (10 ∷ []) rest)) k
+    taken_at_newline text rest whole line fits n (h ∙ append_assoc whole (10 ∷ []) rest) k
 
-pub takes_at_end : (old new : Option (List ℕ)) (whole line : List ℕ) (fits : Bool) → HasNoNewline whole → Consumes old new whole → IsAtEnd new → 0 < length whole → IsKept whole fits line → TakesKnownLine old (kind_where fits) line new
+pub takes_at_end : (old new : Option (List ℕ)) (whole line : List ℕ) (fits : Bool) → HasNoNewline whole → Consumes old new whole → IsAtEnd new → 0 < length whole → IsKept whole fits line → TakesKnownLine old (ending_kind_where fits) line new
 takes_at_end None new whole line fits n h e p k = tt
 takes_at_end (Some text) None whole line fits n h e p k = h
 takes_at_end (Some text) (Some rest) whole line fits n h e p k =
-    BeginsWithLine-taken text rest whole line fits (n, inr (h ∙ ap (λ l. whole ++ l) e ∙ append-nil whole, p, e)) k
+    taken_at_end text rest whole line fits n (h ∙ ap (λ l. whole ++ l) e ∙ append-nil whole, p, e) k
 
 pub takes_nothing : (old new : Option (List ℕ)) (line : List ℕ) → Consumes old new [] → IsAtEnd new → line ≡ [] → TakesKnownLine old End line new
 takes_nothing None new line h e k = tt
@@ -175,7 +181,7 @@ IsAtEnd-pending : (left : Option (List ℕ)) → IsAtEnd left → IsAtEnd (prepe
 IsAtEnd-pending None h = tt
 IsAtEnd-pending (Some xs) h = h
 
-takes_last : (a s : Reading) (fits : Bool) → Gathered a s fits → s.buffered ≡ [] → IsAtEnd s.left → (0 < length s.line) ⊎ (fits ≡ false) → TakesKnownLine (pending a) (kind_where fits) s.line (pending s)
+takes_last : (a s : Reading) (fits : Bool) → Gathered a s fits → s.buffered ≡ [] → IsAtEnd s.left → (0 < length s.line) ⊎ (fits ≡ false) → TakesKnownLine (pending a) (ending_kind_where fits) s.line (pending s)
 takes_last a s fits h e k some =
     takes_at_end (pending a) (pending s) h.0 s.line fits h.1 h.2 (subst IsAtEnd (sym (pending-left s e)) (IsAtEnd-pending s.left k)) (IsKept-some h.0 fits s.line h.3 some) h.3
 

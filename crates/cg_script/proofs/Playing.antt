@@ -9,7 +9,7 @@ use Rattle.cg_core.specs.Machine.{stepped}
 use Rattle.cg_script.specs.Device.{AppendsFront, WritesWhole}
 use Rattle.cg_text.specs.Words.{lines_of}
 use Rattle.cg_script.specs.Lines.{TakesKnownLine, LosesOfLine}
-use Rattle.cg_script.specs.declared.lines.LineKind.TheVariants.{TooLong, Text}
+use Rattle.cg_script.specs.declared.lines.LineKind.TheVariants.{TooLong, Text, Last}
 use Rattle.cg_script.specs.Request.{SpellsLine}
 use Rattle.cg_script.specs.Replay.{Replay, newline, session_number, with_name, IsOneTooMany, Answers, AnswersAll, AnswersFirst, AnswersPassed, IsOutputFrom, ending_text, answer_line}
 use Rattle.cg_script.proofs.DeviceLemmas.{Appends-nil, Appends-append, AppendsTo-front}
@@ -60,7 +60,12 @@ answered_too_long (Some text) (Some rest) line out s h e =
 pub answered_text : (old new : Option (List ℕ)) (line out : List ℕ) (s t : Replay) → TakesKnownLine old Text line new → Answers s line out t → IfSome old (λ text. AnswersFirst s text out t new)
 answered_text None new line out s t h a = tt
 answered_text (Some text) None line out s t h a = absurd h
-answered_text (Some text) (Some rest) line out s t h a = (line, lines_of-begins text line rest h.1, a)
+answered_text (Some text) (Some rest) line out s t h a = (line, lines_of-begins text line rest (h.1, inl h.2), a)
+
+pub answered_last : (old new : Option (List ℕ)) (line out : List ℕ) (s t : Replay) → TakesKnownLine old Last line new → Answers s line out t → IfSome old (λ text. AnswersFirst s text out t new)
+answered_last None new line out s t h a = tt
+answered_last (Some text) None line out s t h a = absurd h
+answered_last (Some text) (Some rest) line out s t h a = (line, lines_of-begins text line rest (h.1, inr h.2), a)
 
 -- ---- all lines so far
 

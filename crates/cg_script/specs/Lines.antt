@@ -4,34 +4,43 @@ use Rattle.std.specs.Io.KnownBytes.{prepend_known, Consumes}
 use Rattle.cg_text.specs.Words.{lines_of}
 use Rattle.cg_script.specs.Device.{Failed, more}
 use Rattle.cg_script.specs.declared.lines.LineKind.{LineKind}
-use Rattle.cg_script.specs.declared.lines.LineKind.TheVariants.{End, TooLong, Text}
+use Rattle.cg_script.specs.declared.lines.LineKind.TheVariants.{End, TooLong, Text, Last}
 
 -- no byte is a newline
 abbrev pub HasNoNewline : List ℕ → Type 0
 HasNoNewline bytes = All (λ b. b ≢ 10) bytes
 
+-- all of the text is one line, without a newline
+abbrev pub IsLastLine : List ℕ → List ℕ → List ℕ → Type 0
+IsLastLine text line rest = (text ≡ line) × (0 < length line) × (rest ≡ [])
+
 -- the text's first line ends at a newline, and the rest follows it; or it is all of the text
 abbrev pub BeginsWithLine : List ℕ → List ℕ → List ℕ → Type 0
-BeginsWithLine text line rest =
-    HasNoNewline line × ((text ≡ line ++ 10 ∷ rest) ⊎ ((text ≡ line) × (0 < length line) × (rest ≡ [])))
+BeginsWithLine text line rest = HasNoNewline line × ((text ≡ line ++ 10 ∷ rest) ⊎ IsLastLine text line rest)
 
--- what a line is called, by whether its bytes are at most 65,536
+-- what a line with a newline is called, by whether its bytes are at most 65,536
 abbrev pub kind_where : Bool → LineKind
 kind_where true = Text
 kind_where false = TooLong
+
+-- and one without
+abbrev pub ending_kind_where : Bool → LineKind
+ending_kind_where true = Last
+ending_kind_where false = TooLong
 
 -- the same at the end of the input, where a line with no byte is none
 abbrev pub last_kind_where : Bool → List ℕ → LineKind
 last_kind_where false line = TooLong
 last_kind_where true [] = End
-last_kind_where true (b ∷ bytes) = Text
+last_kind_where true (b ∷ bytes) = Last
 
 -- A step through the text: it is at its end, or its first line is taken, with all of its bytes where
 -- they are at most 65,536 and with none where they are more.
 abbrev pub TakesLine : List ℕ → LineKind → List ℕ → List ℕ → Type 0
 TakesLine text End line rest = (text ≡ []) × (line ≡ []) × (rest ≡ [])
 TakesLine text TooLong line rest = (line ≡ []) × (whole : List ℕ) × (65536 < length whole) × BeginsWithLine text whole rest
-TakesLine text Text line rest = (length line ≤ 65536) × BeginsWithLine text line rest
+TakesLine text Text line rest = (length line ≤ 65536) × HasNoNewline line × (text ≡ line ++ 10 ∷ rest)
+TakesLine text Last line rest = (length line ≤ 65536) × HasNoNewline line × IsLastLine text line rest
 
 -- the same where the text is known
 abbrev pub TakesKnownLine : Option (List ℕ) → LineKind → List ℕ → Option (List ℕ) → Type 0
@@ -96,6 +105,7 @@ abbrev pub TakesFirst : List (List ℕ) → LineKind → List ℕ → List (List
 TakesFirst lines End line rest = (lines ≡ []) × (rest ≡ [])
 TakesFirst lines TooLong line rest = (whole : List ℕ) × (65536 < length whole) × (lines ≡ whole ∷ rest)
 TakesFirst lines Text line rest = (length line ≤ 65536) × (lines ≡ line ∷ rest)
+TakesFirst lines Last line rest = (length line ≤ 65536) × (lines ≡ line ∷ rest) × (rest ≡ [])
 
 -- the law of steps: a step through a text is a step through its lines
 abbrev pub StepsAreLines : Type 0

@@ -1,31 +1,39 @@
 -- How the lines of the world at the head of a text are gathered.
 use Rattle.std.specs.Prelude.{◌≡◌, ℕ, ◌+◌, ◌<◌, List, ◌∷◌, [], ◌++◌, length, Option, Some, None, ⊤}
-use Rattle.cg_text.specs.Words.{Word, lines_of, Says}
-use Rattle.cg_model.specs.Tree.{Tree}
-use Rattle.cg_world.specs.World.{SpellsWorld}
-use Rattle.cg_script.specs.WorldPart.{joined, BeginsWithWorld}
+use Rattle.std.specs.Io.KnownBytes.{Consumes}
+use Rattle.cg_text.specs.Words.{Word, Says}
+use Rattle.cg_script.specs.Lines.{HasNoNewline}
+use Rattle.cg_script.specs.WorldPart.{BeginsWithWorld, EndsWorld}
 
--- known bytes begin with these lines and go on with the new ones
-abbrev pub GoesPast : Option (List ℕ) → List (List ℕ) → Option (List ℕ) → Type 0
-GoesPast None lines new = ⊤
-GoesPast (Some text) lines None = ⊥
-GoesPast (Some text) lines (Some rest) = lines_of text ≡ lines ++ lines_of rest
-
--- the bytes are the lines of the world at the head of the text
+-- the bytes are the part of the text through the first line that ends a world, and the rest follows
 abbrev pub GathersWorld : List ℕ → List ℕ → Option (List ℕ) → Type 0
-GathersWorld text bytes None = ⊥
-GathersWorld text bytes (Some rest) =
-    (lines : List (List ℕ)) × (last : List ℕ) × BeginsWithWorld text lines last (lines_of rest) × (bytes ≡ joined (lines ++ last ∷ []))
+GathersWorld text part None = ⊥
+GathersWorld text part (Some rest) = BeginsWithWorld text part rest
 
--- the text's lines through the first that ends a world spell no tree
-abbrev pub HasNoWorld : List ℕ → Type 0
-HasNoWorld text =
-    (lines : List (List ℕ)) (last : List ℕ) (rest : List (List ℕ)) (T : Tree) → BeginsWithWorld text lines last rest → SpellsWorld (joined (lines ++ last ∷ [])) T → ⊥
+-- a line was taken off known bytes with its newline, and added to a text
+abbrev pub AddsLine : Option (List ℕ) → Option (List ℕ) → List ℕ → List ℕ → List ℕ → Type 0
+AddsLine old new before after line =
+    HasNoNewline line × (after ≡ before ++ (line ++ 10 ∷ [])) × Consumes old new (line ++ 10 ∷ [])
 
--- behind so many bytes the line says nothing that a line may, or is too much, and no text of a world has it there
+-- known bytes are all taken
+abbrev pub EndsAt : Option (List ℕ) → Option (List ℕ) → List ℕ → Type 0
+EndsAt None new line = ⊤
+EndsAt (Some text) None line = ⊥
+EndsAt (Some text) (Some rest) line = (text ≡ line) × (rest ≡ [])
+
+-- a line without a newline was taken and added, and nothing is left
+abbrev pub AddsLast : Option (List ℕ) → Option (List ℕ) → List ℕ → List ℕ → List ℕ → Type 0
+AddsLast old new before after line = HasNoNewline line × (after ≡ before ++ line) × EndsAt old new line
+
+-- behind so many bytes a line with its newline says nothing that a line may, or is too much
 abbrev pub SpoilsWorld : ℕ → List ℕ → Type 0
 SpoilsWorld gathered line = (said : Option (List Word)) → Says line said → 16777216 < gathered + (length line + 1)
 
--- the text has no line, or its first one spoils the world
-abbrev pub StopsWorld : ℕ → List ℕ → Type 0
-StopsWorld gathered text = (line : List ℕ) (others : List (List ℕ)) → lines_of text ≡ line ∷ others → SpoilsWorld gathered line
+-- and a line without a newline ends no world, or is too much
+abbrev pub SpoilsEnd : ℕ → List ℕ → Type 0
+SpoilsEnd gathered line = EndsWorld line → 16777216 < gathered + length line
+
+-- behind so many bytes the first line of the text spoils the world
+pub record StopsWorld (gathered : ℕ) (text : List ℕ) : Type 0 where
+  pub line : (line rest : List ℕ) → HasNoNewline line → text ≡ line ++ 10 ∷ rest → SpoilsWorld gathered line
+  pub last : (line : List ℕ) → HasNoNewline line → text ≡ line → SpoilsEnd gathered line

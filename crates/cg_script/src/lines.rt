@@ -35,8 +35,10 @@ pub enum LineKind {
     End,
     /// A line of more than 65,536 bytes, which is skipped.
     TooLong,
-    /// A line of at most 65,536 bytes.
+    /// A line of at most 65,536 bytes, with its newline behind it.
     Text,
+    /// The same without a newline, at the end of the input.
+    Last,
 }
 
 /// Reads lines from a source. A line ends before a newline or at the end of the input, where an
@@ -256,10 +258,12 @@ fn kind_of(fits: bool) -> LineKind
 fn last_kind(fits: bool, line: &[u8]) -> LineKind
     ensures { result ≡ last_kind_where fits line.now }
 {
-    if fits && line.is_empty() {
+    if !fits {
+        LineKind::TooLong
+    } else if line.is_empty() {
         LineKind::End
     } else {
-        kind_of(fits)
+        LineKind::Last
     }
 }
 

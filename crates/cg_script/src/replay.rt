@@ -4,7 +4,7 @@ ghost use Rattle.std.specs.Result.{IsErrOf};
 ghost use Rattle.std.specs.Io.KnownBytes.{Appends};
 ghost use Rattle.cg_script.specs.Device.{AppendsFront, Failed};
 ghost use Rattle.cg_script.specs.Lines.{pending, room_of, CanBreak, LosesOfLine};
-ghost use Rattle.cg_script.specs.Replay.{opened, IsOutput, IsOutputFrom, AnswersFirst, AnswersPassed, OneOutput, SomeOutput};
+ghost use Rattle.cg_script.specs.Replay.{opened, Answers, IsOutput, IsOutputFrom, AnswersFirst, AnswersPassed, OneOutput, SomeOutput};
 ghost use Rattle.cg_script.specs.declared.fault.ScriptFault.TheVariants as faults;
 
 use crate::device::{Sink, Source, write_all};
@@ -95,12 +95,25 @@ fn answer_line<S: Source>(
             }
             Ok(true)
         }
-        LineKind::Text => {
-            if player.answer(alloc, reader.line(), out).is_err() {
-                return Err(ScriptFault::Memory);
-            }
-            Ok(true)
-        }
+        LineKind::Text => answer_with(alloc, player, reader.line(), out),
+        LineKind::Last => answer_with(alloc, player, reader.line(), out),
+    }
+}
+
+// Answers a line of text into `out`, which is empty.
+fn answer_with(
+    alloc: Global,
+    player: &mut Player,
+    line: &[u8],
+    out: &mut Vec<u8>,
+) -> Result<bool, ScriptFault>
+    requires { out.old.items ≡ [] }
+    ensures answered { IfOk result (λ more. (more ≡ true) × Answers player.old line.now out.new.items player.new) }
+    ensures memory { IfErr result (λ e. e ≡ faults.Memory) }
+{
+    match player.answer(alloc, line, out) {
+        Ok(()) => Ok(true),
+        Err(_) => Err(ScriptFault::Memory),
     }
 }
 

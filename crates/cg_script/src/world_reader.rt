@@ -1,13 +1,11 @@
 //! Reads the world at the head of a text, line by line.
-ghost use Rattle.std.specs.Prelude.{Option, ◌≡◌, ◌<◌, ◌≤◌, ◌+◌, ◌↔◌, List, ℕ, [], ◌∷◌, ◌++◌, length, codes, map, IfOk, IfErr, IfSome, OnOk, IsTrue};
+ghost use Rattle.std.specs.Prelude.{Option, Some, ◌≡◌, ◌⊎◌, ◌<◌, ◌≤◌, ◌+◌, ◌↔◌, true, false, List, ℕ, [], ◌∷◌, ◌++◌, length, codes, map, IfOk, IfErr, IfSome, OnOk, IsTrue};
 ghost use Rattle.std.specs.Result.{IsErrOf};
 ghost use Rattle.cg_name.specs.Refusal.{IsSyntaxOrMemory};
 ghost use Rattle.cg_text.specs.Words.{Word, Says};
-ghost use Rattle.cg_model.specs.Tree.{Tree};
-ghost use Rattle.cg_world.specs.World.{SpellsWorld};
 ghost use Rattle.cg_script.specs.Lines.{pending, room_of, CanBreak};
-ghost use Rattle.cg_script.specs.WorldPart.{EndsWorld, joined, BeginsWithWorld, ReadsWorld};
-ghost use Rattle.cg_script.specs.WorldLines.{GoesPast, GathersWorld, HasNoWorld, SpoilsWorld, StopsWorld};
+ghost use Rattle.cg_script.specs.WorldPart.{EndsWorld, HasNoWorld, ReadsWorld};
+ghost use Rattle.cg_script.specs.WorldLines.{AddsLast, AddsLine, GathersWorld, SpoilsEnd, SpoilsWorld, StopsWorld};
 ghost use Rattle.cg_script.specs.declared.fault.ScriptFault.TheVariants as faults;
 
 use crate::device::Source;
@@ -18,18 +16,18 @@ use cg_text::words::read_words;
 use cg_world::world::World;
 use std::alloc::Global;
 
-/// The most bytes of a world's text, through the newline of the line that ends it.
+/// The most bytes of a world's text, through the line that ends it and that line's newline, where it has one.
 const LONGEST_WORLD: usize = 16_777_216;
 
-/// The world that the reader's lines through the first `end` spell; the reader goes on behind that line.
-/// `Syntax` where they spell none, where they have more than 16,777,216 bytes, each with its newline, and where
-/// no line says `end`. After a fault the reader stands somewhere in the world's lines.
+/// The world that the text through the first line `end` spells, that line's newline included where there is one; the
+/// reader goes on behind it. `Syntax` where it spells none, where it has more than 16,777,216 bytes, and where no line
+/// says `end`. After a fault the reader stands somewhere in the world's lines.
 pub fn read_world<S: Source>(
     alloc: Global,
     reader: &mut LineReader<S>,
 ) -> Result<World, ScriptFault>
     ensures value { IfOk result (λ w. IfSome (pending reader.old) (λ text. ReadsWorld text w (pending reader.new))) }
-    ensures syntax { IsErrOf result faults.Syntax → IfSome (pending reader.old) (λ text. (lines : List (List ℕ)) (last : List ℕ) (rest : List (List ℕ)) (T : Tree) → BeginsWithWorld text lines last rest → SpellsWorld (joined (lines ++ last ∷ [])) T → ⊥) }
+    ensures syntax { IsErrOf result faults.Syntax → IfSome (pending reader.old) HasNoWorld }
     ensures reads { IsErrOf result faults.ReadFault → CanBreak reader.new.opening reader.new.failures reader.new.reads }
     ensures writes { ¬ (IsErrOf result faults.WriteFault) }
 {
@@ -41,7 +39,7 @@ pub fn read_world<S: Source>(
     }
 }
 
-// The lines through the first that ends a world, each with its newline.
+// The text through the first line that ends a world.
 fn gather_world<S: Source>(
     alloc: Global,
     reader: &mut LineReader<S>,
@@ -65,9 +63,9 @@ fn take_line<S: Source>(
     reader: &mut LineReader<S>,
     text: &mut Vec<u8>,
 ) -> Result<bool, ScriptFault>
-    ensures takes { OnOk result (GoesPast (pending reader.old) (reader.new.line ∷ []) (pending reader.new)) }
-    ensures added { OnOk result (text.new.items ≡ text.old.items ++ (reader.new.line ++ 10 ∷ [])) }
-    ensures ended { IfOk result (λ ended. IsTrue ended ↔ EndsWorld reader.new.line) }
+    ensures goes_on { IfOk result (λ ended. ended ≡ false → AddsLine (pending reader.old) (pending reader.new) text.old.items text.new.items reader.new.line × (EndsWorld reader.new.line → ⊥)) }
+    ensures ended { IfOk result (λ ended. ended ≡ true → EndsWorld reader.new.line
+        × (AddsLine (pending reader.old) (pending reader.new) text.old.items text.new.items reader.new.line ⊎ AddsLast (pending reader.old) (pending reader.new) text.old.items text.new.items reader.new.line)) }
     ensures progress { OnOk result (room_of reader.new < room_of reader.old) }
     ensures syntax { IsErrOf result faults.Syntax → IfSome (pending reader.old) (StopsWorld (length text.old.items)) }
     ensures reads { IsErrOf result faults.ReadFault → CanBreak reader.new.opening reader.new.failures reader.new.reads }
@@ -75,6 +73,7 @@ fn take_line<S: Source>(
 {
     match reader.next_line() {
         Ok(LineKind::Text) => add_line(alloc, reader.line(), text),
+        Ok(LineKind::Last) => add_last(alloc, reader.line(), text),
         Ok(LineKind::TooLong) => Err(ScriptFault::Syntax),
         Ok(LineKind::End) => Err(ScriptFault::Syntax),
         Err(_) => Err(ScriptFault::ReadFault),
@@ -85,7 +84,6 @@ fn take_line<S: Source>(
 fn add_line(alloc: Global, line: &[u8], text: &mut Vec<u8>) -> Result<bool, ScriptFault>
     ensures added { OnOk result (text.new.items ≡ text.old.items ++ (line.now ++ 10 ∷ [])) }
     ensures ended { IfOk result (λ ended. IsTrue ended ↔ EndsWorld line.now) }
-    ensures short { OnOk result (length text.new.items ≤ 16777216) }
     ensures syntax { IsErrOf result faults.Syntax → SpoilsWorld (length text.old.items) line.now }
     ensures reads { ¬ (IsErrOf result faults.ReadFault) }
     ensures writes { ¬ (IsErrOf result faults.WriteFault) }
@@ -110,6 +108,37 @@ fn append_line(alloc: Global, line: &[u8], text: &mut Vec<u8>) -> Result<bool, R
     let ended = ends_world(alloc, line)?;
     text.extend_from_slice(line)?;
     text.push(b'\n')?;
+    Ok(ended)
+}
+
+// Adds a line that has no newline to the text: the one that ends a world. `Syntax` where it ends none, or is too much.
+fn add_last(alloc: Global, line: &[u8], text: &mut Vec<u8>) -> Result<bool, ScriptFault>
+    ensures added { OnOk result (text.new.items ≡ text.old.items ++ line.now) }
+    ensures ended { IfOk result (λ ended. (ended ≡ true) × EndsWorld line.now) }
+    ensures syntax { IsErrOf result faults.Syntax → SpoilsEnd (length text.old.items) line.now }
+    ensures reads { ¬ (IsErrOf result faults.ReadFault) }
+    ensures writes { ¬ (IsErrOf result faults.WriteFault) }
+{
+    if text.len() + line.len() > LONGEST_WORLD {
+        return Err(ScriptFault::Syntax);
+    }
+    match append_last(alloc, line, text) {
+        Ok(ended) if ended => Ok(true),
+        Ok(_) => Err(ScriptFault::Syntax),
+        Err(Refusal::Syntax) => Err(ScriptFault::Syntax),
+        Err(_) => Err(ScriptFault::Memory),
+    }
+}
+
+// The same where there is room in the text. False where the line ends no world.
+fn append_last(alloc: Global, line: &[u8], text: &mut Vec<u8>) -> Result<bool, Refusal>
+    ensures added { OnOk result (text.new.items ≡ text.old.items ++ line.now) }
+    ensures ended { IfOk result (λ ended. IsTrue ended ↔ EndsWorld line.now) }
+    ensures syntax { IsErrOf result Refusal.Syntax → (said : Option (List Word)) → Says line.now said → ⊥ }
+    ensures refusals { IfErr result IsSyntaxOrMemory }
+{
+    let ended = ends_world(alloc, line)?;
+    text.extend_from_slice(line)?;
     Ok(ended)
 }
 

@@ -1,10 +1,10 @@
-use Rattle.std.proofs.Common.{◌≡◌, ◌++◌, sym, ap, subst, ◌∙◌}
+use Rattle.std.proofs.Common.{◌≡◌, ◌++◌, ℕ, List, sym, ap, subst, ◌∙◌}
 use Rattle.cg_name.specs.Refusal.{refusal_text}
 use Rattle.cg_name.specs.declared.refusal.Refusal.TheVariants.{Syntax}
 use Rattle.cg_script.specs.Lines.{pending, TakesKnownLine}
 use Rattle.cg_script.specs.Replay.{newline, Answers}
-use Rattle.cg_script.proofs.OneLine.{when_ok}
-use Rattle.cg_script.proofs.Playing.{answered_too_long, answered_text}
+use Rattle.cg_script.proofs.OneLine.{when_ok, if_ok_weaker}
+use Rattle.cg_script.proofs.Playing.{answered_too_long, answered_text, answered_last}
 use Rattle.cg_script.proofs.replay.answer_line.Goals as goal
 
 pub returns-else-is_err-clause-answered : goal.returns-else-is_err-clause-answered
@@ -16,13 +16,22 @@ returns-else-is_err-clause-answered g c =
     λ e. answered_too_long (pending old) (pending new) new.line c.refuse.new.out.items c.args.player.now takes
     (appended ∙ ap (λ x. x ++ (refusal_text Syntax ++ newline)) c.requires)
 
-pub returns-else-is_err-2-clause-answered : goal.returns-else-is_err-2-clause-answered
-returns-else-is_err-2-clause-answered g c =
+pub returns-in-Text-clause-answered : goal.returns-in-Text-clause-answered
+returns-in-Text-clause-answered g c =
     let old = c.args.reader.now in
     let new = c.next_line.new.self in
     let takes = subst (λ kind. TakesKnownLine (pending old) kind new.line (pending new)) c.in-Text.is c.in-Ok.ensures.takes in
-    let answered = when_ok c.answer.result (sym c.is_err-in-Text.ensures.value ∙ c.if-is_err-2.false) c.answer.ensures.ok in
-    let written : c.answer.new.out.items ≡ answered.0 = answered.1 ∙ ap (λ x. x ++ answered.0) c.requires in
-    let of_line = subst (λ line. Answers c.args.player.now line answered.0 c.answer.new.self) c.line.ensures answered.2 in
-    λ e. answered_text (pending old) (pending new) new.line c.answer.new.out.items c.args.player.now c.answer.new.self takes
-    (subst (λ out. Answers c.args.player.now new.line out c.answer.new.self) (sym written) of_line)
+    let first = λ (line : List ℕ) (answers : Answers c.args.player.now line c.answer_with.new.out.items c.answer_with.new.player) (same : line ≡ new.line).
+    answered_text (pending old) (pending new) new.line c.answer_with.new.out.items c.args.player.now c.answer_with.new.player takes
+    (subst (λ l. Answers c.args.player.now l c.answer_with.new.out.items c.answer_with.new.player) same answers) in
+    if_ok_weaker c.answer_with.result (λ more h e. first c.line.result.now h.1 c.line.ensures) c.answer_with.ensures.answered
+
+pub returns-in-Last-clause-answered : goal.returns-in-Last-clause-answered
+returns-in-Last-clause-answered g c =
+    let old = c.args.reader.now in
+    let new = c.next_line.new.self in
+    let takes = subst (λ kind. TakesKnownLine (pending old) kind new.line (pending new)) c.in-Last.is c.in-Ok.ensures.takes in
+    let first = λ (line : List ℕ) (answers : Answers c.args.player.now line c.answer_with-in-Last.new.out.items c.answer_with-in-Last.new.player) (same : line ≡ new.line).
+    answered_last (pending old) (pending new) new.line c.answer_with-in-Last.new.out.items c.args.player.now c.answer_with-in-Last.new.player takes
+    (subst (λ l. Answers c.args.player.now l c.answer_with-in-Last.new.out.items c.answer_with-in-Last.new.player) same answers) in
+    if_ok_weaker c.answer_with-in-Last.result (λ more h e. first c.line-in-Last.result.now h.1 c.line-in-Last.ensures) c.answer_with-in-Last.ensures.answered

@@ -1,11 +1,6 @@
-use Rattle.std.proofs.Common.{ℕ, List, subst, sym, ◌∙◌}
-use Rattle.std.specs.Prelude.{IfSome}
-use Rattle.std.proofs.lemmas.Bool.{false≢true}
 use Rattle.std.proofs.lemmas.Result.{err_from_is_err_and}
 use Rattle.cg_script.specs.Lines.{pending}
-use Rattle.cg_script.specs.WorldPart.{EndsWorld}
-use Rattle.cg_script.specs.WorldLines.{GathersWorld}
-use Rattle.cg_script.proofs.WorldLemmas.{Gathered, err_handed_on, gathered_more, gathered_stops, gathered_world}
+use Rattle.cg_script.proofs.WorldLemmas.{err_handed_on, gathered_more, gathered_stops, gathered_world}
 use Rattle.cg_script.proofs.world_reader.gather_world.Goals as goal
 
 pub returns-in_err-take_line-clause-syntax : goal.returns-in_err-take_line-clause-syntax
@@ -16,19 +11,10 @@ returns-in_err-take_line-clause-syntax g c = λ refused.
 
 pub lines-preserved : goal.lines-preserved
 lines-preserved g c =
-    let start = pending c.args.reader.now in
-    let next = pending c.take_line.new.reader in
-    let line = c.take_line.new.reader.line in
-    let ended = c.in_ok-take_line.ensures.ended in
-    let no_end : EndsWorld line → ⊥ = λ ends. false≢true (sym c.if-branch.false ∙ ended.1 ends) in
-    subst (λ bytes. Gathered start bytes next) (sym {A = List ℕ} c.in_ok-take_line.ensures.added)
-    (gathered_more start (pending c.lines.reader) next c.lines.text.items line c.lines.invariant c.in_ok-take_line.ensures.takes no_end)
+    let goes_on = c.in_ok-take_line.ensures.goes_on c.if-branch.false in
+    gathered_more (pending c.args.reader.now) (pending c.lines.reader) (pending c.take_line.new.reader) c.lines.text.items c.take_line.new.text.items c.take_line.new.reader.line c.lines.invariant goes_on.0 goes_on.1
 
 pub returns-then-branch-clause-value : goal.returns-then-branch-clause-value
 returns-then-branch-clause-value g c =
-    let start = pending c.args.reader.now in
-    let next = pending c.take_line.new.reader in
-    let line = c.take_line.new.reader.line in
-    let ends : EndsWorld line = c.in_ok-take_line.ensures.ended.0 c.if-branch.true in
-    subst (λ bytes. IfSome start (λ text. GathersWorld text bytes next)) (sym {A = List ℕ} c.in_ok-take_line.ensures.added)
-    (gathered_world start (pending c.lines.reader) next c.lines.text.items line c.lines.invariant c.in_ok-take_line.ensures.takes ends)
+    let ended = c.in_ok-take_line.ensures.ended c.if-branch.true in
+    gathered_world (pending c.args.reader.now) (pending c.lines.reader) (pending c.take_line.new.reader) c.lines.text.items c.take_line.new.text.items c.take_line.new.reader.line c.lines.invariant ended.0 ended.1
