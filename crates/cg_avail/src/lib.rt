@@ -5,9 +5,6 @@ ghost use Rattle.std.specs.Prelude.{◌≡◌, ◌&&◌, not, find};
 ghost use Rattle.cg_text.specs.Controllers.{has, all_controllers};
 ghost use Rattle.cg_model.specs.Control.{plan, not_available, in_use};
 
-#[cfg(test)]
-mod tests;
-
 use cg_name::controller::Controller;
 use cg_name::refusal::Refusal;
 use cg_text::control_ops::ControlOps;

@@ -5,5 +5,3 @@ pub mod blanks;
 pub mod cpu_set;
 pub mod laws;
 mod list;
-#[cfg(test)]
-mod tests;

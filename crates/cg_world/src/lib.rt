@@ -10,8 +10,6 @@ mod reading;
 mod soundness;
 mod stage;
 pub mod statement;
-#[cfg(test)]
-mod tests;
 pub mod version;
 pub mod world;
 mod writing;

@@ -17,9 +17,6 @@ use cg_name::refusal::Refusal;
 use cg_text::words::read_words;
 use std::alloc::Global;
 
-#[cfg(test)]
-mod tests;
-
 // The most bytes of a world text.
 const LONGEST_TEXT: usize = 16_777_216;
 

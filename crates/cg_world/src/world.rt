@@ -15,9 +15,6 @@ use cg_text::settings::Settings;
 use std::alloc::Global;
 use std::marker::Model;
 
-#[cfg(test)]
-mod tests;
-
 /// A sound tree that a world text can spell.
 #[derive(Drop)]
 pub struct World {

@@ -25,9 +25,6 @@ use cg_text::settings::Settings;
 use itoa::Buffer;
 use std::collections::BTreeMap;
 
-#[cfg(test)]
-mod tests;
-
 impl World {
     /// Appends the world's text, in version 1 where it can be: its groups in the order of their paths, its
     /// processes by ascending PID. `Memory` leaves `out` as it was.
