@@ -7,6 +7,4 @@ pub mod laws;
 mod limits;
 pub mod machine;
 pub mod record;
-#[cfg(test)]
-mod tests;
 pub mod tree;

@@ -155,6 +155,3 @@ pub fn write_all<K: Sink>(sink: &mut K, bytes: &[u8]) -> Result<(), DeviceFault>
     }
     Ok(())
 }
-
-#[cfg(test)]
-mod tests;

@@ -9,6 +9,4 @@ pub mod player;
 pub mod replay;
 pub mod request;
 pub mod session;
-#[cfg(test)]
-mod tests;
 pub mod world_reader;

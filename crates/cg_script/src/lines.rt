@@ -298,6 +298,3 @@ fn read_over<S: Source>(source: &mut S, chunk: &mut Vec<u8>) -> Result<usize, De
 {
     source.read(chunk.as_mut_slice())
 }
-
-#[cfg(test)]
-mod tests;

@@ -113,6 +113,3 @@ fn append_request(request: &Request, out: &mut Vec<u8>) -> Result<(), Refusal>
     }
     Ok(())
 }
-
-#[cfg(test)]
-mod tests;

@@ -160,8 +160,3 @@ fn is_end(words: &[&str]) -> bool
 {
     matches!(words, ["end"])
 }
-
-#[cfg(test)]
-mod reads;
-#[cfg(test)]
-mod tests;
