@@ -4,8 +4,8 @@ use cg_script::device::{FromRead, Source};
 use cg_script::lines::{LineFault, LineKind, LineReader};
 use std::alloc::{AllocError, Global};
 
-/// The lines up to the end or a fault: each in brackets, `!` for one that is too long, `.` for the
-/// end, `?` for a fault.
+/// The lines up to the end or a fault: each in brackets, in angles where it has no newline, `!` for one that is too long,
+/// `.` for the end, `?` for a fault.
 fn shown<S: Source>(
     alloc: Global,
     reader: &mut LineReader<S>,
@@ -16,15 +16,19 @@ fn shown<S: Source>(
         match reader.next_line() {
             Ok(LineKind::End) => out.extend_from_slice(b".")?,
             Ok(LineKind::TooLong) => out.extend_from_slice(b"!")?,
-            Ok(LineKind::Text) => {
-                out.extend_from_slice(b"[")?;
-                out.extend_from_slice(reader.line())?;
-                out.extend_from_slice(b"]")?;
-            }
+            Ok(LineKind::Text) => between(&mut out, b"[", reader.line(), b"]")?,
+            Ok(LineKind::Last) => between(&mut out, b"<", reader.line(), b">")?,
             Err(_) => out.extend_from_slice(b"?")?,
         }
     }
     Ok(out)
+}
+
+// Appends the line between two marks.
+fn between(out: &mut Vec<u8>, front: &[u8], line: &[u8], back: &[u8]) -> Result<(), AllocError> {
+    out.extend_from_slice(front)?;
+    out.extend_from_slice(line)?;
+    out.extend_from_slice(back)
 }
 
 // Whether these are the first four lines of a source.
@@ -47,13 +51,13 @@ fn are_lines_of(alloc: Global, text: &str, want: &str) -> Result<bool, LineFault
 
 const TEXTS: [(&str, &str); 8] = [
     ("", "...."),
-    ("a", "[a]..."),
+    ("a", "<a>..."),
     ("a\n", "[a]..."),
     ("\n", "[]..."),
-    ("a\n\nb", "[a][][b]."),
+    ("a\n\nb", "[a][]<b>."),
     ("\n\n", "[][].."),
     ("ab\r\ncd\n", "[ab\r][cd].."),
-    ("\r", "[\r]..."),
+    ("\r", "<\r>..."),
 ];
 
 #[test]
@@ -69,7 +73,7 @@ fn texts_are_cut_at_newlines(rt: HostRuntime) {
 #[test]
 fn a_slice_is_read(rt: HostRuntime) {
     let source = FromRead::new(&b"one\ntwo"[..]);
-    assert!(rt; are_lines(rt.alloc(), source, "[one][two]..") == Ok(true));
+    assert!(rt; are_lines(rt.alloc(), source, "[one]<two>..") == Ok(true));
 }
 
 // What the reader comes to and how many bytes it gives at a line of so many bytes, and whether what follows is
@@ -86,21 +90,22 @@ fn first_line(
     let kind = reader.next_line()?;
     let given = reader.line().len();
     let rest = shown(alloc, &mut reader, 2)?;
-    let want: &[u8] = if behind.is_empty() { b".." } else { b"[y]." };
+    let want: &[u8] = if behind.is_empty() { b".." } else { b"<y>." };
     Ok((kind, given, rest.as_slice() == want))
 }
 
-// Whether that is so with and without another line behind it, however many bytes a read gives.
+// Whether that is so alone, where the first kind is that of the line, and with a newline and another line behind it, where the
+// second is, however many bytes a read gives.
 fn is_first_line(
     alloc: Global,
     length: usize,
-    kind: LineKind,
+    kinds: (LineKind, LineKind),
     given: usize,
 ) -> Result<bool, LineFault> {
     for most in &[1, 3, 65_536] {
         let alone = first_line(alloc, length, *most, b"")?;
         let before_another = first_line(alloc, length, *most, b"\ny")?;
-        if alone != (kind, given, true) || before_another != (kind, given, true) {
+        if alone != (kinds.0, given, true) || before_another != (kinds.1, given, true) {
             return Ok(false);
         }
     }
@@ -109,10 +114,12 @@ fn is_first_line(
 
 #[test]
 fn lines_have_up_to_65536_bytes(rt: HostRuntime) {
-    assert!(rt; is_first_line(rt.alloc(), 65_535, LineKind::Text, 65_535) == Ok(true));
-    assert!(rt; is_first_line(rt.alloc(), 65_536, LineKind::Text, 65_536) == Ok(true));
-    assert!(rt; is_first_line(rt.alloc(), 65_537, LineKind::TooLong, 0) == Ok(true));
-    assert!(rt; is_first_line(rt.alloc(), 200_000, LineKind::TooLong, 0) == Ok(true));
+    let short = (LineKind::Last, LineKind::Text);
+    let long = (LineKind::TooLong, LineKind::TooLong);
+    assert!(rt; is_first_line(rt.alloc(), 65_535, short, 65_535) == Ok(true));
+    assert!(rt; is_first_line(rt.alloc(), 65_536, short, 65_536) == Ok(true));
+    assert!(rt; is_first_line(rt.alloc(), 65_537, long, 0) == Ok(true));
+    assert!(rt; is_first_line(rt.alloc(), 200_000, long, 0) == Ok(true));
 }
 
 // Whether these are the lines of a source that fails at that read, after so many reads.
