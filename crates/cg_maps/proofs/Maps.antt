@@ -1,11 +1,14 @@
 -- Finite maps by what they answer.
-use Rattle.std.proofs.Common.{◌≡◌, Bool, true, false, cond, not, ◌&&◌, ◌||◌, T, map, unwrap_or, List, ◌≢◌, ◌⊎◌, refl, sym, ap, subst, ◌∙◌, inl, inr, true≢false, Option, Some, None, option_map, [], ◌∷◌, Ordering, Equal, Less, Greater}
+use Rattle.std.proofs.Common.{◌≡◌, Bool, true, false, cond, not, ◌&&◌, ◌||◌, T, map, unwrap_or, List, ◌≢◌, ◌⊎◌, refl, sym, ap, subst, ◌∙◌, inl, inr, true≢false, Option, Some, None, option_map, [], ◌∷◌, Ordering, Equal, Less, Greater, arith}
+use Rattle.std.proofs.lemmas.Option.{none-some}
 use Rattle.std.specs.Ordering.{eq_by_cmp, is_eq, is_lt, ordering_reverse}
 use Rattle.std.specs.Cmp.{IsTotalOrder, tied_itself, eq_by_cmp_equiv, Equal-is}
 use Rattle.std.specs.FinMap.{IsAntisymmetric}
 use Rattle.std.specs.FinMap.Entries.{find, below_all, is_sorted, is_sorted-put, find-put, find-where_key, same_entries}
-use Rattle.std.specs.List.{AllByRecursion, list_any}
-use Rattle.cg_maps.specs.FiniteMap.{FiniteMap, from_entries, empty, get, insert, retain, set_at, same_list, list-checked, bare, domain, entries, keys, is_nonempty}
+use Rattle.std.specs.List.{AllByRecursion, Contains, list_any}
+use Rattle.std.proofs.lemmas.List.Elements.{All-from_recursion, All-contains, Contains-append_right}
+use Rattle.cg_maps.specs.FiniteMap.{FiniteMap, from_entries, empty, get, insert, retain, set_at, same_list, list-checked, bare, domain, entries, keys, len, is_nonempty}
+use Rattle.cg_maps.specs.Laws.{EachKeyOnce, IsListed}
 
 turned : {A : Type 0} (b : Bool) (x y : A) → cond (not b) x y ≡ cond b y x
 turned true x y = refl
@@ -119,10 +122,8 @@ module _ {K X : Type 0} {R : K → K → Ordering} (o : IsTotalOrder R) where
   unfolding get entries
   each_entry m = found m.list m.sorted
 
-  -- no key stands twice
   abbrev pub KeysDiffer : List (K × X) → Type 0
-  KeysDiffer [] = Unit {0}
-  KeysDiffer (e ∷ es) = AllByRecursion (λ f. e.0 ≢ f.0) es × KeysDiffer es
+  KeysDiffer es = EachKeyOnce es
 
   differ : (es : List (K × X)) → T (is_sorted R es) → KeysDiffer es
   differ [] h = tt
@@ -175,6 +176,24 @@ module _ {K X : Type 0} {R : K → K → Ordering} where
     pub entry_passes : (m : FiniteMap R X) (t : K × X → Bool) (q : K) (v : X) → get m q ≡ Some v → t (q, v) ≡ true → list_any t (entries m) ≡ true
     unfolding entries get
     entry_passes m t q v e h = passed t q v m.list h e
+
+module _ {K X : Type 0} {R : K → K → Ordering} (o : IsTotalOrder R) (same : IsAntisymmetric R) where
+  found_is_listed : (q : K) (v : X) (es : List (K × X)) → find R q es ≡ Some v → Contains es (q, v)
+  found_is_listed q v [] e = absurd (none-some v e)
+  found_is_listed q v (x ∷ es) e =
+      elim (eq_by_cmp R q x.0) as (λ b. eq_by_cmp R q x.0 ≡ b → cond b (Some x.1) (find R q es) ≡ Some v → Contains (x ∷ es) (q, v)) [
+        | true ↦ λ k f. (0, omega arith, λ i. (sym (is_same o same q x.0 k) i, ap (λ o. unwrap_or o v) f i))
+        | false ↦ λ k f. Contains-append_right (x ∷ []) es (q, v) (found_is_listed q v es f)
+      ] refl e
+
+  pub entries_held : (m : FiniteMap R X) → IsListed R X m
+  unfolding get entries keys len
+  entries_held m = record {
+    held = λ k v. (All-contains (λ e. get m e.0 ≡ Some e.1) (entries m) (k, v) (All-from_recursion _ (entries m) (each_entry o m)), found_is_listed k v m.list);
+    once = keys_differ o m;
+    keys = refl;
+    counted = refl;
+  }
 
 pub get-empty : {K X : Type 0} (R : K → K → Ordering) (q : K) → get (empty {X = X} {R = R}) q ≡ None
 unfolding get empty

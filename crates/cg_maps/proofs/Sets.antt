@@ -1,5 +1,5 @@
 -- Finite sets by their members.
-use Rattle.std.proofs.Common.{◌≡◌, ℕ, zero, suc, Bool, true, false, cond, not, ◌&&◌, ◌||◌, ◌==◌, T, nat_lt, map, List, [], ◌∷◌, refl, sym, ap, subst, ◌∙◌, true≢false, Option, Some, None, option_map, Ordering, Less, Equal, Greater, nat_cmp, arith}
+use Rattle.std.proofs.Common.{◌≡◌, ◌↔◌, ℕ, zero, suc, Bool, true, false, cond, not, ◌&&◌, ◌||◌, ◌==◌, T, nat_lt, map, List, [], ◌∷◌, refl, sym, ap, subst, ◌∙◌, true≢false, Option, Some, None, option_map, Ordering, Less, Equal, Greater, nat_cmp, arith}
 use Rattle.std.proofs.lemmas.Bool.Decides.{nat_tests}
 use Rattle.std.specs.List.Sorted.{IsStrictlySortedBy}
 use Rattle.std.specs.Option.{is_some}
@@ -81,6 +81,11 @@ none_in_empty s e n = ap is_some (none_in_keys s n (no_item (keys s) e))
     no_item : (ns : List ℕ) → not (is_nonempty ns) ≡ true → is_nonempty ns ≡ false
     no_item [] e = refl
     no_item (n ∷ ns) e = absurd (true≢false (sym e))
+
+-- a set with no member is empty
+pub empty_has_none : (s : FiniteSet) → (is_empty_set s ≡ true) ↔ ((n : ℕ) → has s n ≡ false)
+unfolding members keys empty
+empty_has_none s = (none_in_empty s, λ none. ap is_empty_set (same_set s no_members (λ n. none n ∙ sym (has-no_members n))))
 
 pub empty_set-is : (s : FiniteSet) → is_empty_set s ≡ true → s ≡ no_members
 empty_set-is s e = same_set s no_members (λ n. none_in_empty s e n ∙ sym (has-no_members n))
