@@ -1,5 +1,6 @@
 -- One setting of a group gets a value, and the others stay.
-use Rattle.std.proofs.Common.{◌≡◌, false, refl, ap, true≢false, Option, Some, None, option_map}
+use Rattle.std.proofs.Common.{◌≡◌, true, false, refl, sym, ap, true≢false, Option, Some, None, option_map}
+use Rattle.std.specs.Option.{is_some}
 use Rattle.cg_text.specs.declared.settings.Settings.{Settings}
 use Rattle.cg_model.specs.Key.{Field, Control, Freeze, Cpus, MaxDescendants, MaxDepth, Setting, setting, with_setting, part_replaced, same_field}
 
@@ -56,3 +57,8 @@ pub part_back : (f : Field) (v : Option (Setting f)) (s : Option Settings) → p
 part_back f v None = refl
 part_back f None (Some s) = ap Some (setting_kept f s)
 part_back f (Some v) (Some s) = ap Some (setting_back f v s)
+
+pub part_there : (f : Field) (v : Option (Setting f)) (s : Option Settings) → is_some (option_map (setting f) s) ≡ true → is_some v ≡ true → option_map (setting f) (part_replaced f v s) ≡ v
+part_there f v None h k = absurd (true≢false (sym h))
+part_there f None (Some s) h k = absurd (true≢false (sym k))
+part_there f (Some v) (Some s) h k = ap Some (setting_there f v s)

@@ -1,5 +1,6 @@
 -- Puts: what was put is there, puts of keys that don't touch change places, and a put of the value before undoes a put.
-use Rattle.std.proofs.Common.{◌≡◌, ℕ, false, ◌&&◌, ◌==◌, ◌≢◌, refl, sym, ap, subst, ◌∙◌, inl, inr, true≢false, Option, Some, None, option_map, eq-eqb}
+use Rattle.std.proofs.Common.{◌≡◌, ℕ, true, false, ◌&&◌, ◌==◌, ◌≢◌, refl, sym, ap, subst, ◌∙◌, inl, inr, true≢false, Option, Some, None, option_map, eq-eqb}
+use Rattle.std.specs.Option.{is_some}
 use Rattle.std.specs.Cmp.{IsTotalOrder, nat_cmp_total}
 use Rattle.std.specs.FinMap.{IsAntisymmetric, nat_cmp-IsAntisymmetric}
 use Rattle.std.specs.declared.cmp.Ordering.{Ordering}
@@ -9,8 +10,9 @@ use Rattle.cg_name.specs.Order.{path_cmp_total, path_cmp_exact}
 use Rattle.cg_name.specs.Path.{Path}
 use Rattle.cg_text.specs.declared.settings.Settings.{Settings}
 use Rattle.cg_model.specs.Tree.{Tree, group, place_of}
-use Rattle.cg_model.specs.Key.{Field, setting, Key, Group, Place, Part, Online, Held, value_at, replaced, part_replaced, put, same_field, touch}
-use Rattle.cg_model_laws.proofs.Fields.{part_swap, part_other, part_back}
+use Rattle.cg_model.specs.Key.{Field, Setting, setting, Key, Group, Place, Part, Online, Held, value_at, replaced, part_replaced, put, same_field, touch}
+use Rattle.cg_model_laws.specs.Laws.{CanHold}
+use Rattle.cg_model_laws.proofs.Fields.{part_swap, part_other, part_back, part_there}
 use Rattle.cg_model_laws.proofs.Paths.{same_path-from, paths_differ, path_cases}
 
 -- the groups and the places after they are set
@@ -68,6 +70,33 @@ put_back (Place k) v T = ap (λ m. record T { places = m }) (remade_back nat_cmp
 put_back (Part p f) v T = ap (λ m. record T { groups = m }) (remade_back path_cmp_total path_cmp_exact T.groups p (part_replaced f v) (part_replaced f (option_map (setting f) (group T p))) (part_back f v (group T p)))
 put_back Online None T = refl
 put_back Online (Some v) T = refl
+
+replaced_there : (o v : Option Path) → is_some o ≡ true → is_some v ≡ true → replaced o v ≡ v
+replaced_there None v h k = absurd (true≢false (sym h))
+replaced_there (Some x) None h k = absurd (true≢false (sym k))
+replaced_there (Some x) (Some v) h k = refl
+
+-- a key holds what is put there, where it can
+pub put_there : (k : Key) (v : Option (Held k)) (T : Tree) → CanHold T k v → value_at (put k v T) k ≡ v
+put_there (Group p) v T h = group_here T p v
+put_there (Place k) v T h = place_here T k _ ∙ replaced_there (place_of T k) v h.0 h.1
+put_there (Part p f) v T h = ap (option_map (setting f)) (group_here T p _) ∙ part_there f v (group T p) h.0 h.1
+put_there Online None T h = absurd (true≢false (sym h.1))
+put_there Online (Some v) T h = refl
+
+module _ (T : Tree) where
+  -- nothing is put where nothing is
+  pub part_absent : (p : Path) (f : Field) (v : Option (Setting f)) → group T p ≡ None → put (Part p f) v T ≡ T
+  part_absent p f v e =
+      ap (λ s. with_group T p (part_replaced f v s)) e
+      ∙ ap (with_group T p) (sym e)
+      ∙ ap (λ m. record T { groups = m }) (maps.set_same path_cmp_total path_cmp_exact T.groups p)
+
+  pub place_absent : (k : ℕ) (v : Option Path) → place_of T k ≡ None → put (Place k) v T ≡ T
+  place_absent k v e =
+      ap (λ o. with_place T k (replaced o v)) e
+      ∙ ap (with_place T k) (sym e)
+      ∙ ap (λ m. record T { places = m }) (maps.set_same nat_cmp_total nat_cmp-IsAntisymmetric T.places k)
 
 -- two settings of one group that don't touch are two fields
 fields_differ : (p q : Path) (f g : Field) → p ≡ q → touch (Part p f) (Part q g) ≡ false → same_field f g ≡ false

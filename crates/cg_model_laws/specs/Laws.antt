@@ -1,10 +1,11 @@
 -- The laws of one command and of two, for contracts to cite.
-use Rattle.std.specs.Prelude.{◌≡◌, false, true, List, [], ◌∷◌}
+use Rattle.std.specs.Prelude.{◌≡◌, ℕ, false, true, List, [], ◌∷◌, Option, None, is_some}
 use Rattle.std.specs.List.{AllByRecursion}
+use Rattle.cg_name.specs.Path.{Path}
 use Rattle.cg_name.specs.declared.refusal.Refusal.{Refusal}
-use Rattle.cg_model.specs.Tree.{Tree}
+use Rattle.cg_model.specs.Tree.{Tree, group, place_of}
 use Rattle.cg_model.specs.Sound.{Sound}
-use Rattle.cg_model.specs.Key.{touch}
+use Rattle.cg_model.specs.Key.{Field, Setting, Key, Group, Place, Part, Held, value_at, put, touch}
 use Rattle.cg_model.specs.Change.{Change, done, undone, Fits}
 use Rattle.cg_model.specs.System.{Outcome, Refuse, Accept}
 use Rattle.cg_model.specs.Command.{Command, IsProper}
@@ -12,6 +13,23 @@ use Rattle.cg_model.specs.Effect.{effect}
 use Rattle.cg_model.specs.History.{is_own_check}
 use Rattle.cg_model.specs.Footprint.{Mark, clashes, footprint}
 use Rattle.cg_model_laws.specs.Covers.{AgreeOn, IsCounted}
+
+-- a group's settings may come and go; any other key takes a value where it holds one
+abbrev pub CanHold : Tree → (k : Key) → Option (Held k) → Type 0
+CanHold T (Group p) v = Unit {0}
+CanHold T k v = (is_some (value_at T k) ≡ true) × (is_some v ≡ true)
+
+-- a key holds what is put there, where it can
+abbrev pub PutIsHeld : Type 0
+PutIsHeld = (T : Tree) (k : Key) (v : Option (Held k)) → CanHold T k v → value_at (put k v T) k ≡ v
+
+-- a key holds what it held where the key that is put doesn't touch it
+abbrev pub OthersKeep : Type 0
+OthersKeep = (T : Tree) (k l : Key) (v : Option (Held k)) → touch l k ≡ false → value_at (put k v T) l ≡ value_at T l
+
+-- a setting of an absent group, and the place of an unknown PID, can't be put
+abbrev pub AbsentStays : Type 0
+AbsentStays = (T : Tree) → ((p : Path) (f : Field) (v : Option (Setting f)) → group T p ≡ None → put (Part p f) v T ≡ T) × ((k : ℕ) (v : Option Path) → place_of T k ≡ None → put (Place k) v T ≡ T)
 
 -- after an accepted command its inverse fits, and undoing gives the tree before
 abbrev pub Identity : Type 0

@@ -2,7 +2,14 @@
 //! where they say so.
 #![tactic(auto)]
 
-ghost use Rattle.cg_model_laws.specs.Laws.{ClashesBothWays, Frame, FrameOfCommands, Identity, KeysApart, Locality, OwnChecks, SoundKept, Swap};
+ghost use Rattle.cg_model_laws.specs.Laws.{AbsentStays, ClashesBothWays, Frame, FrameOfCommands, Identity, KeysApart, Locality, OthersKeep, OwnChecks, PutIsHeld, SoundKept, Swap};
+
+/// A put changes its key alone: it holds the value then, where it can, and the keys that it doesn't touch what they held.
+pub fn puts_change_their_key_alone()
+    ensures held { PutIsHeld }
+    ensures others { OthersKeep }
+    ensures absent { AbsentStays }
+{}
 
 /// After an accepted command its inverse fits, and undoing gives the tree before.
 pub fn accepted_commands_are_undone()
