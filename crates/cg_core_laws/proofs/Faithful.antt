@@ -14,7 +14,7 @@ use Rattle.cg_core_laws.proofs.Log.{Log, held, log_step_at, log_noted, log_step}
 use Rattle.cg_core_laws.proofs.Kept.{Kept}
 use Rattle.cg_core_laws.proofs.LogHeadline.{kept_sound, kept_orders}
 use Rattle.cg_core_laws.proofs.Unchanged.{same_history_at}
-use Rattle.cg_core_laws.proofs.Tied.{shapes, Tied, shapes_append, ran}
+use Rattle.cg_core_laws.proofs.Tied.{as_items, Tied, as_items_append, ran}
 use Rattle.cg_core_laws.proofs.Quiet.{quiet_step}
 use Rattle.cg_core_laws.proofs.Least.{Falls, falls_without, least_holder, Falling}
 use Rattle.cg_core_laws.proofs.Replies.{tree_is, held_is, step_answer}
@@ -34,15 +34,15 @@ module _ (y : System) where
   grows_noted c s r p false k i e = absurd (cc (k, e))
 
 module _ (y : System) (laws : SystemLaws y) (o : y.State) where
-  shapes_blocks : (c : Log y) (ts : List ℕ) → Tied y o c → shapes (blocks ts c.entries c.done) ≡ stacked ts c.history (committed c.history)
-  shapes_blocks c [] d = d.done
-  shapes_blocks c (t ∷ ts) d = shapes_append y o (only t c.entries) _ ∙ (rw (d.lives t, shapes_blocks c ts d))
+  as_items_blocks : (c : Log y) (ts : List ℕ) → Tied y o c → as_items (blocks ts c.entries c.done) ≡ stacked ts c.history (committed c.history)
+  as_items_blocks c [] d = d.done
+  as_items_blocks c (t ∷ ts) d = as_items_append y o (only t c.entries) _ ∙ (rw (d.lives t, as_items_blocks c ts d))
 
   orders : (c : Log y) (ts : List ℕ) → Kept y o c → Tied y o c → IsOrder ts c.history → Accepted y o (stacked ts c.history (committed c.history)) × (run_items y o (stacked ts c.history (committed c.history)) ≡ c.tree)
   orders c ts k d order =
       let p = kept_orders y laws o c ts k order.0 (λ u. order.1 u ∙ ap (λ ps. among u (numbers ps)) (sym d.opens)) in
       let q = ran y o (blocks ts c.entries c.done) p.0 in
-      let e = shapes_blocks c ts d in
+      let e = as_items_blocks c ts d in
       (subst (Accepted y o) e q.1, sym (ap (run_items y o) e) ∙ q.0 ∙ p.1)
 
   pub serial_from : y.Sound o → (c : Log y) → Invariant y o c → IsSerial y o (machine_of c)

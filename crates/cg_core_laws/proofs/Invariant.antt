@@ -17,7 +17,7 @@ use Rattle.cg_core_laws.proofs.Steps.{step_kept, start_kept}
 use Rattle.cg_core_laws.proofs.LogHeadline.{done_runs, own_runs}
 use Rattle.cg_core_laws.proofs.Unchanged.{SameHistory, same_history_at}
 use Rattle.cg_core_laws.proofs.Tied.{Tied, ran}
-use Rattle.cg_core_laws.proofs.Replies.{own_shapes, answer_at}
+use Rattle.cg_core_laws.proofs.Replies.{own_as_items, answer_at}
 use Rattle.cg_core_laws.proofs.StepsTied.{step_tied, start_tied}
 
 pub record Invariant (y : System) (o : y.State) (c : Log y) : Type 0 where
@@ -33,7 +33,7 @@ module _ (y : System) (laws : SystemLaws y) (o : y.State) where
     tree = subst (Accepted y o) d.stands (ran y o c.entries k.runs).1;
     own = λ t m.
         let n : among t (numbers c.opens) ≡ true = ap (λ ps. among t (numbers ps)) d.opens ∙ m in
-        subst (Accepted y o) (own_shapes y laws o c t d) (ran y o (only t c.entries ++ c.done) (own_runs y laws o c t k n)).1;
+        subst (Accepted y o) (own_as_items y laws o c t d) (ran y o (only t c.entries ++ c.done) (own_runs y laws o c t k n)).1;
   }
 
   -- one more record, or none

@@ -16,6 +16,7 @@ mod Quiet
 mod Least
 mod MachineOf
 mod AsLog
+mod OfHistory
 mod Replies
 mod StepsTied
 mod Invariant

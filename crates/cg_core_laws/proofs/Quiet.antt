@@ -9,10 +9,10 @@ use Rattle.cg_model.specs.Reply.{has_savepoint, commands_above}
 use Rattle.cg_model.specs.Machine.{Entry, Did, Mark, has_mark}
 use Rattle.cg_core_laws.proofs.Trace.{only}
 use Rattle.cg_core_laws.proofs.Log.{Log, log_holder, pop, log_back_to, try_do, do_at, undo_at, others, is_full_log, log_step_in, log_step_out, log_step_at, log_noted, log_step}
-use Rattle.cg_core_laws.proofs.Tied.{shapes}
+use Rattle.cg_core_laws.proofs.Tied.{as_items}
 
 module _ (y : System) where
-  pub mark_is : (n : Name) (l : List (Entry y)) → has_mark n l ≡ has_savepoint n (shapes l)
+  pub mark_is : (n : Name) (l : List (Entry y)) → has_mark n l ≡ has_savepoint n (as_items l)
   mark_is n [] = refl
   mark_is n (Did t h c a d f ∷ l) = mark_is n l
   mark_is n (Mark t h m ∷ l) = ap (λ b. same_name m n || b) (mark_is n l)
@@ -21,11 +21,11 @@ module _ (y : System) where
   back_cond true m k j c p e i = refl
   back_cond false m k j c p e i = i e
 
-  pub back_answer : (t : ℕ) (n : Name) (l : List (Entry y)) (c : Log y) (k : ℕ) → has_mark n l ≡ true → (log_back_to y t n l c k).1 ≡ WentBack (commands_above n k (shapes l))
+  pub back_answer : (t : ℕ) (n : Name) (l : List (Entry y)) (c : Log y) (k : ℕ) → has_mark n l ≡ true → (log_back_to y t n l c k).1 ≡ WentBack (commands_above n k (as_items l))
   back_answer t n [] c k e = absurd (cc e)
   back_answer t n (Did u h b a d f ∷ l) c k e = back_answer t n l (pop y c t (Did u h b a d f)) (k + 1) e
   back_answer t n (Mark u h m ∷ l) c k e =
-      back_cond (same_name m n) (has_mark n l) k (commands_above n k (shapes l)) _ _ e (back_answer t n l (pop y c t (Mark u h m)) k)
+      back_cond (same_name m n) (has_mark n l) k (commands_above n k (as_items l)) _ _ e (back_answer t n l (pop y c t (Mark u h m)) k)
 
   -- where the answer isn't recorded, the machine is as it was
   abbrev Quiet : Request y → Log y → Log y × Answer → Type 0

@@ -15,7 +15,7 @@ use Rattle.cg_core_laws.proofs.Log.{Log, log_holder, log_back_to, undo_at, other
 use Rattle.cg_core_laws.proofs.Open.{transaction_open}
 use Rattle.cg_core_laws.proofs.Kept.{Kept}
 use Rattle.cg_core_laws.proofs.LogHeadline.{own_state, own_runs, do_answer, note_answer}
-use Rattle.cg_core_laws.proofs.Tied.{shapes, EntriesTrue, Tied, shapes_append, length_shapes, entries_true_only, ran}
+use Rattle.cg_core_laws.proofs.Tied.{as_items, EntriesTrue, Tied, as_items_append, length_as_items, entries_true_only, ran}
 use Rattle.cg_core_laws.proofs.Quiet.{mark_is, back_answer}
 
 module _ (y : System) where
@@ -23,13 +23,13 @@ module _ (y : System) where
   cond_answer true p q = refl
   cond_answer false p q = refl
 
-  undo_answer : (c : Log y) (t : ℕ) (l : List (Entry y)) → (undo_at y c t l).1 ≡ undo_reply (shapes l)
+  undo_answer : (c : Log y) (t : ℕ) (l : List (Entry y)) → (undo_at y c t l).1 ≡ undo_reply (as_items l)
   undo_answer c t [] = refl
   undo_answer c t (Mark u h n ∷ l) = refl
   undo_answer c t (Did u h b a d f ∷ l) = refl
 
 module _ (y : System) (laws : SystemLaws y) (o : y.State) where
-  hits_are : (f : y.Footprint) (l : List (Entry y)) → EntriesTrue y o l → hits y f l ≡ clashes_with y o f (shapes l)
+  hits_are : (f : y.Footprint) (l : List (Entry y)) → EntriesTrue y o l → hits y f l ≡ clashes_with y o f (as_items l)
   hits_are f [] m = refl
   hits_are f (Did t h c a d g ∷ l) m = rw m.0 (ap (λ b. y.clashes (y.footprint c (tree_of y o h)) f || b) (hits_are f l m.2))
   hits_are f (Mark t h n ∷ l) m = hits_are f l m
@@ -45,17 +45,17 @@ module _ (y : System) (laws : SystemLaws y) (o : y.State) where
   tree_is c k t = k.tree ∙ sym (ran y o c.entries k.runs).0 ∙ ap (run_items y o) t.stands
 
   -- what t did above what was committed, as the history has it
-  pub own_shapes : (c : Log y) (t : ℕ) → Tied y o c → shapes (only t c.entries ++ c.done) ≡ live t c.history ++ committed c.history
-  own_shapes c t d = shapes_append y o (only t c.entries) c.done ∙ (rw (d.lives t, d.done))
+  pub own_as_items : (c : Log y) (t : ℕ) → Tied y o c → as_items (only t c.entries ++ c.done) ≡ live t c.history ++ committed c.history
+  own_as_items c t d = as_items_append y o (only t c.entries) c.done ∙ (rw (d.lives t, d.done))
 
   own_is : (c : Log y) (t : ℕ) → Kept y o c → Tied y o c → among t (numbers c.opens) ≡ true → own_state y o c t ≡ own_tree y o t c.history
-  own_is c t k d m = sym (ran y o (only t c.entries ++ c.done) (own_runs y laws o c t k m)).0 ∙ ap (run_items y o) (own_shapes c t d)
+  own_is c t k d m = sym (ran y o (only t c.entries ++ c.done) (own_runs y laws o c t k m)).0 ∙ ap (run_items y o) (own_as_items c t d)
 
   -- as many items as entries
   pub held_is : (c : Log y) (ps : Opens) → Tied y o c → held ps c.entries ≡ live_count ps c.history
   held_is c [] d = refl
   held_is c (p ∷ ps) d =
-      let n : length (only p.1 c.entries) ≡ length (live p.1 c.history) = sym (length_shapes y o (only p.1 c.entries)) ∙ ap length (d.lives p.1) in
+      let n : length (only p.1 c.entries) ≡ length (live p.1 c.history) = sym (length_as_items y o (only p.1 c.entries)) ∙ ap length (d.lives p.1) in
       rw (n, held_is c ps d)
 
   full_is : (c : Log y) → Tied y o c → is_full_log c ≡ is_full c.limit c.history

@@ -6,6 +6,7 @@ use Rattle.cg_model.specs.History.{Request}
 use Rattle.cg_model.specs.Opens.{transaction_in, opens}
 use Rattle.cg_model.specs.Machine.{Machine, opened, steps}
 use Rattle.cg_core_laws.specs.Headline.{AreProper, IsSerial, IsFaithful, GoesBack, OthersStay, CommitsStay}
+use Rattle.cg_core_laws.specs.Stacks.{IsOfHistory}
 use Rattle.cg_core_laws.proofs.SystemLaws.{SystemLaws}
 use Rattle.cg_core_laws.proofs.Log.{Log, log_opened, log_steps}
 use Rattle.cg_core_laws.proofs.Unchanged.{limit_steps}
@@ -13,6 +14,7 @@ use Rattle.cg_core_laws.proofs.Least.{falling}
 use Rattle.cg_core_laws.proofs.Room.{HasRoom, rooms}
 use Rattle.cg_core_laws.proofs.Invariant.{invariant}
 use Rattle.cg_core_laws.proofs.AsLog.{steps_are}
+use Rattle.cg_core_laws.proofs.OfHistory as tied
 use Rattle.cg_core_laws.proofs.Faithful.{serial_from, faithful_from}
 use Rattle.cg_core_laws.proofs.GoingBack.{goes_back, others_stay, commits_stay}
 
@@ -31,6 +33,9 @@ module _ (y : System) (laws : SystemLaws y) (o : y.State) (sound : y.Sound o) (l
   faithful =
       let room : 2 ≤ log_after.limit → HasRoom log_after = λ le. rooms y laws o limit rs proper (subst (λ n. 2 ≤ n) (limit_steps y rs (log_opened y o limit)) le) in
       subst (IsFaithful y o) (steps_are y laws o limit rs proper) (faithful_from y laws o log_after (invariant y laws o limit rs proper) (falling y o limit rs) room)
+
+  pub of_history : IsOfHistory y o after
+  of_history = subst (IsOfHistory y o) (steps_are y laws o limit rs proper) (tied.of_history y o log_after (invariant y laws o limit rs proper).tied)
 
   pub going_back : (s t : ℕ) → transaction_in s (opens after.history) ≡ Some t → GoesBack y after s t
   going_back s t e = goes_back y o after faithful s t e

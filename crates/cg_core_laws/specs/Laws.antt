@@ -12,6 +12,7 @@ use Rattle.cg_model.specs.Live.{live}
 use Rattle.cg_model.specs.Reply.{clashes_with, is_full}
 use Rattle.cg_model.specs.Machine.{Machine, opened, step, steps}
 use Rattle.cg_core_laws.specs.Room.{RoomKept, CommitSweeps}
+use Rattle.cg_core_laws.specs.Stacks.{IsOfHistory}
 use Rattle.cg_core_laws.specs.Headline.{AreProper, IsSerial, IsFaithful, GoesBack, OthersStay, CommitsStay}
 
 -- what holds after every list of steps of any sessions, interleaved in any way, from any sound tree, whatever the limit
@@ -23,6 +24,13 @@ Serial = AfterAnySteps (λ opening m. IsSerial cgroups opening m)
 
 abbrev pub Faithful : Type 0
 Faithful = AfterAnySteps (λ opening m. IsFaithful cgroups opening m)
+
+abbrev pub OfHistory : Type 0
+OfHistory = AfterAnySteps (λ opening m. IsOfHistory cgroups opening m)
+
+-- the limit stays that of the opening
+abbrev pub LimitKept : Type 0
+LimitKept = (opening : Tree) (limit : ℕ) (requests : List (ℕ × Request cgroups)) → AreProper requests → (steps cgroups (opened cgroups opening limit) requests).limit ≡ limit
 
 abbrev pub GoingBack : Type 0
 GoingBack = AfterAnySteps (λ opening m. (s t : ℕ) → transaction_in s (opens m.history) ≡ Some t → GoesBack cgroups m s t)

@@ -1,4 +1,5 @@
 pub mod Unwind
 pub mod Headline
+pub mod Stacks
 pub mod Room
 pub mod Laws

@@ -2,7 +2,7 @@
 //! any way.
 #![tactic(auto)]
 
-ghost use Rattle.cg_core_laws.specs.Laws.{BusyExactly, CommitsKept, Faithful, GoingBack, OthersUntouched, Roomy, Serial, Sweeping};
+ghost use Rattle.cg_core_laws.specs.Laws.{BusyExactly, CommitsKept, Faithful, GoingBack, LimitKept, OfHistory, OthersUntouched, Roomy, Serial, Sweeping};
 
 /// The tree is the opening tree changed by the surviving commands alone; every inverse fits when its turn comes, in
 /// whatever interleaving open transactions are unwound; and the committed transactions in commit order, then each open one
@@ -15,6 +15,13 @@ pub fn transactions_are_serial()
 /// the places that are kept for going back always suffice.
 pub fn the_machine_is_faithful_to_its_history()
     ensures { Faithful }
+{}
+
+/// The open transactions, their stacks and the counts are those that the history gives, with the inverse and the footprint
+/// that each command had when it was accepted; and the limit is the opening's.
+pub fn the_machine_is_that_of_its_history()
+    ensures history { OfHistory }
+    ensures limit { LimitKept }
 {}
 
 /// Undo, Back, Abort and Commit are never refused where they have something to do, and take off exactly their own items.

@@ -1,0 +1,47 @@
+-- The machine of a machine with a log is that of its history.
+use Rattle.std.proofs.Common.{◌≡◌, ℕ, List, [], ◌∷◌, map, length, suc, refl, sym, ap, ◌∙◌}
+use Rattle.std.specs.List.{AllByRecursion}
+use Rattle.cg_model.specs.System.{System}
+use Rattle.cg_model.specs.History.{Request, History}
+use Rattle.cg_model.specs.Opens.{Opens}
+use Rattle.cg_model.specs.Live.{live}
+use Rattle.cg_model.specs.Machine.{Entry, Transaction, opened, steps}
+use Rattle.cg_core_laws.specs.Stacks.{as_items, EntriesTrue, IsOfHistory}
+use Rattle.cg_core_laws.specs.Headline.{AreProper}
+use Rattle.cg_core_laws.proofs.SystemLaws.{SystemLaws}
+use Rattle.cg_core_laws.proofs.Trace.{only}
+use Rattle.cg_core_laws.proofs.Log.{Log, log_opened}
+use Rattle.cg_core_laws.proofs.Unchanged.{limit_steps}
+use Rattle.cg_core_laws.proofs.AsLog.{steps_are}
+use Rattle.cg_core_laws.proofs.MachineOf.{stacks_of, machine_of}
+use Rattle.cg_core_laws.proofs.Tied.{Tied, entries_true_only}
+
+module _ (y : System) (o : y.State) where
+  opens_of : (ps : Opens) (log : List (Entry y)) → map (λ (x : Transaction y). (x.session, x.number)) (stacks_of ps log) ≡ ps
+  opens_of [] log = refl
+  opens_of (p ∷ ps) log = ap (λ qs. p ∷ qs) (opens_of ps log)
+
+  count_of : (ps : Opens) (log : List (Entry y)) → length (stacks_of ps log) ≡ length ps
+  count_of [] log = refl
+  count_of (p ∷ ps) log = ap suc (count_of ps log)
+
+  stacks_live : (ps : Opens) (log : List (Entry y)) (h : History y) → ((u : ℕ) → as_items (only u log) ≡ live u h) → AllByRecursion (λ (x : Transaction y). as_items x.stack ≡ live x.number h) (stacks_of ps log)
+  stacks_live [] log h lives = tt
+  stacks_live (p ∷ ps) log h lives = (lives p.1, stacks_live ps log h lives)
+
+  stacks_true : (ps : Opens) (log : List (Entry y)) → EntriesTrue y o log → AllByRecursion (λ (x : Transaction y). EntriesTrue y o x.stack) (stacks_of ps log)
+  stacks_true [] log true_ones = tt
+  stacks_true (p ∷ ps) log true_ones = (entries_true_only y o p.1 log true_ones, stacks_true ps log true_ones)
+
+  pub of_history : (c : Log y) → Tied y o c → IsOfHistory y o (machine_of c)
+  of_history c d = record {
+    transactions = opens_of c.opens c.entries ∙ d.opens;
+    open_count = count_of c.opens c.entries ∙ ap length d.opens;
+    stacks = stacks_live c.opens c.entries c.history d.lives;
+    entries = stacks_true c.opens c.entries d.entries_true;
+    begun = d.begun;
+    commits = d.commits;
+  }
+
+  pub limit_kept : SystemLaws y → (limit : ℕ) (rs : List (ℕ × Request y)) → AreProper rs → (steps y (opened y o limit) rs).limit ≡ limit
+  limit_kept laws limit rs proper = ap (λ m. m.limit) (sym (steps_are y laws o limit rs proper)) ∙ limit_steps y rs (log_opened y o limit)

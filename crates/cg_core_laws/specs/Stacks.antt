@@ -1,0 +1,34 @@
+-- The machine's stacks, numbers and counts, as its history gives them.
+use Rattle.std.specs.Prelude.{◌≡◌, List, [], ◌∷◌, map, length}
+use Rattle.std.specs.List.{AllByRecursion}
+use Rattle.cg_model.specs.System.{System, Accept}
+use Rattle.cg_model.specs.Opens.{opens, begins, commits}
+use Rattle.cg_model.specs.Live.{Item, Ran, Marked, Items, live}
+use Rattle.cg_model.specs.Run.{tree_of}
+use Rattle.cg_model.specs.Machine.{Entry, Did, Mark, Machine}
+
+-- what stands on a stack, without inverses and footprints
+abbrev pub as_item : {y : System} → Entry y → Item y
+as_item (Did t h c a d f) = Ran t h c a
+as_item (Mark t h n) = Marked t h n
+
+abbrev pub as_items : {y : System} → List (Entry y) → Items y
+as_items [] = []
+as_items (x ∷ l) = as_item x ∷ as_items l
+
+-- each command has the footprint and the inverse that it had when it was accepted: in the tree of the records before it
+abbrev pub EntriesTrue : (y : System) → y.State → List (Entry y) → Type 0
+EntriesTrue y o [] = Unit {0}
+EntriesTrue y o (Did t h c a d f ∷ l) = (f ≡ y.footprint c (tree_of y o h)) × (y.effect c (tree_of y o h) ≡ Accept a d) × EntriesTrue y o l
+EntriesTrue y o (Mark t h n ∷ l) = EntriesTrue y o l
+
+-- the machine's transactions and counts are those of its history
+pub record IsOfHistory (y : System) (o : y.State) (m : Machine y) : Type 0 where
+  -- the open transactions, each as its session and its number
+  pub transactions : map (λ x. (x.session, x.number)) m.transactions ≡ opens m.history
+  pub open_count : length m.transactions ≡ length (opens m.history)
+  -- the stack of each is what stands of it, with its inverses and footprints
+  pub stacks : AllByRecursion (λ x. as_items x.stack ≡ live x.number m.history) m.transactions
+  pub entries : AllByRecursion (λ x. EntriesTrue y o x.stack) m.transactions
+  pub begun : m.begun ≡ begins m.history
+  pub commits : m.commits ≡ commits m.history
