@@ -11,10 +11,10 @@ use Rattle.cg_model.specs.Command.{Command, Create, Remove, Migrate}
 use Rattle.cg_model.specs.Effect.{effect}
 use Rattle.cg_model.specs.Footprint.{Mark, X, Count, is_limited, count_of, counts, old_place, clashes, footprint}
 use Rattle.cg_model_laws.specs.Covers.{SameAround, AgreeOn, IsCounted}
-use Rattle.cg_model_laws.specs.Laws.{Identity, KeysApart, Frame, FrameOfCommands}
+use Rattle.cg_model_laws.specs.Laws.{Identity, KeysApart, ChangesAreMarked, KeysOfBothApart, Frame, FrameOfCommands}
 use Rattle.cg_model_laws.proofs.Marks.{Apart, AllApart, apart_from_test, all_along-from}
 use Rattle.cg_model_laws.proofs.Seen.{group_above}
-use Rattle.cg_model_laws.proofs.Lawful.{IsLawful, undone-done, Fits-done, none_touch, frame_mark, frame_marks}
+use Rattle.cg_model_laws.proofs.Lawful.{IsLawful, undone-done, Fits-done, none_touch, all_marked, keys_apart_from, frame_mark, frame_marks}
 use Rattle.cg_model_laws.proofs.IfAccepted.{IfAccepted}
 use Rattle.cg_model_laws.proofs.CommandChanges.{command_lawful}
 
@@ -26,6 +26,13 @@ identity c T o cs e = let h : IsLawful (footprint c T) T cs = lawful_of c T o cs
 
 pub keys_apart : KeysApart
 keys_apart c T o cs e = none_touch (footprint c T) cs T (lawful_of c T o cs e)
+
+pub changes_marked : ChangesAreMarked
+changes_marked c T o cs e = all_marked (footprint c T) cs T (lawful_of c T o cs e)
+
+pub keys_of_both_apart : KeysOfBothApart
+keys_of_both_apart c d T U o q cs ds e f a =
+    keys_apart_from (footprint c T) (footprint d U) cs ds T U (lawful_of c T o cs e) (lawful_of d U q ds f) (apart_from_test (footprint c T) (footprint d U) a)
 
 pub frame : Frame
 frame c T o cs e g a n = frame_marks (footprint c T) cs T g (lawful_of c T o cs e) (apart_from_test (footprint c T) g a) n

@@ -1,15 +1,18 @@
 -- Lists of changes: what is asked of those of a command, and what follows for their inverse and for what they leave.
-use Rattle.std.proofs.Common.{◌≡◌, false, List, [], ◌∷◌, refl, sym, ap, subst, ◌∙◌, Option}
-use Rattle.std.specs.List.{AllByRecursion}
+use Rattle.std.proofs.Common.{◌≡◌, true, false, List, [], ◌∷◌, refl, sym, ap, subst, ◌∙◌, true≢false, Option}
+use Rattle.std.proofs.lemmas.Bool.{and_left, both_ways, false_from_ne_true}
+use Rattle.std.specs.List.{AllByRecursion, list_any}
+use Rattle.cg_name.specs.Path.{Path, same_path, is_prefix, comparable}
 use Rattle.cg_model.specs.Tree.{Tree}
 use Rattle.cg_model.specs.Key.{Key, Group, Place, Part, Online, Held, value_at, put, touch}
 use Rattle.cg_model.specs.Change.{Change, done, undone, Fits}
-use Rattle.cg_model.specs.Footprint.{Mark, clash}
-use Rattle.cg_model_laws.specs.Covers.{Agree, AgreeOn, IsCounted}
-use Rattle.cg_model_laws.specs.Laws.{NoneTouch}
+use Rattle.cg_model.specs.Footprint.{Mark, X, Pid, clash}
+use Rattle.cg_model_laws.specs.Covers.{Agree, AgreeOn, IsCounted, may_change}
+use Rattle.cg_model_laws.specs.Laws.{NoneTouch, KeysDontTouch}
 use Rattle.cg_model_laws.proofs.Lists.{all_map}
+use Rattle.cg_model_laws.proofs.Paths.{same_path-is, prefix_itself, comparable_down}
 use Rattle.cg_model_laws.proofs.Keys.{put_back, put_apart}
-use Rattle.cg_model_laws.proofs.Marks.{Apart, AllApart}
+use Rattle.cg_model_laws.proofs.Marks.{Apart, AllApart, clash-swapped}
 use Rattle.cg_model_laws.proofs.Agreement.{agree_itself, agree_trans}
 use Rattle.cg_model_laws.proofs.Frame.{marks_of, CountedAt, frame_put}
 
@@ -21,10 +24,11 @@ abbrev pub IsNoGroup : Key → Type 0
 IsNoGroup (Group p) = ⊥
 IsNoGroup k = Unit {0}
 
--- the value before is the present one, the key takes the value left, and f covers the change
+-- the value before is the present one, the key takes the value left, a mark of f lets it change, and f covers the change
 pub record IsLawfulPut (f : List Mark) (T : Tree) (k : Key) (b l : Option (Held k)) : Type 0 where
   pub was : value_at T k ≡ b
   pub is : value_at (put k l T) k ≡ l
+  pub marked : list_any (λ m. may_change m k) f ≡ true
   pub covered : AllByRecursion (Under f) (marks_of T k b l)
 
 -- each change is lawful where it is made, and the later keys are no groups and don't touch it
@@ -52,6 +56,46 @@ Fits-done f (c ∷ cs) T h = (kept c.key cs (put c.key c.left T) h.2 ∙ h.0.is,
 pub none_touch : (f : List Mark) (cs : List Change) (T : Tree) → IsLawful f T cs → NoneTouch cs
 none_touch f [] T h = tt
 none_touch f (c ∷ cs) T h = (h.2, none_touch f cs (put c.key c.left T) h.3)
+
+-- ---- the keys
+
+pub all_marked : (f : List Mark) (cs : List Change) (T : Tree) → IsLawful f T cs → AllByRecursion (λ c. list_any (λ m. may_change m c.key) f ≡ true) cs
+all_marked f [] T h = tt
+all_marked f (c ∷ cs) T h = (h.0.marked, all_marked f cs (put c.key c.left T) h.3)
+
+-- the mark of a key: what clashes with none of f doesn't clash with it
+abbrev mark_of : Key → Mark
+mark_of (Group p) = X p
+mark_of (Place k) = Pid k
+mark_of (Part p f) = X p
+mark_of Online = X []
+
+under_mark : (f : List Mark) (T : Tree) (k : Key) (b l : Option (Held k)) → IsLawfulPut f T k b l → Under f (mark_of k)
+under_mark f T (Group p) b l h = h.covered.0
+under_mark f T (Place k) b l h = h.covered.0
+under_mark f T (Part p g) b l h = h.covered.0
+under_mark f T Online b l h = h.covered.0
+
+all_under : (f : List Mark) (cs : List Change) (T : Tree) → IsLawful f T cs → AllByRecursion (λ c. Under f (mark_of c.key)) cs
+all_under f [] T h = tt
+all_under f (c ∷ cs) T h = (under_mark f T c.key c.before c.left h.0, all_under f cs (put c.key c.left T) h.3)
+
+paths_apart : (p q : Path) → comparable p q ≡ false → same_path p q ≡ false
+paths_apart p q n = false_from_ne_true _ (λ e. both_ways _ n (comparable_down p q (subst (λ x. is_prefix p x ≡ true) (same_path-is p q e) (prefix_itself p))))
+
+marks_apart : (k l : Key) → clash (mark_of k) (mark_of l) ≡ false → touch k l ≡ false
+marks_apart (Group p) (Group q) n = paths_apart p q n
+marks_apart (Group p) (Part q g) n = paths_apart p q n
+marks_apart (Part p f) (Group q) n = paths_apart p q n
+marks_apart (Part p f) (Part q g) n = and_left _ _ (paths_apart p q n)
+marks_apart (Place k) (Place l) n = n
+marks_apart Online Online n = absurd (true≢false n)
+marks_apart k l n = refl
+
+-- footprints that don't clash cover keys that don't touch
+pub keys_apart_from : (f g : List Mark) (cs ds : List Change) (T U : Tree) → IsLawful f T cs → IsLawful g U ds → AllApart f g → KeysDontTouch cs ds
+keys_apart_from f g cs ds T U h k a =
+    all_map (λ c u. all_map (λ d v. marks_apart c.key d.key (clash-swapped (mark_of c.key) (mark_of d.key) ∙ v (mark_of c.key) (all_map (λ n w. clash-swapped n (mark_of c.key) ∙ u n w) g a))) ds (all_under g ds U k)) cs (all_under f cs T h)
 
 -- ---- what marks cover that clash with none of f
 

@@ -1,6 +1,6 @@
 -- The changes of writing cgroup.subtree_control are lawful: the children's CPUs are emptied one by one, and the control comes last.
 use Rattle.std.proofs.Common.{◌≡◌, Bool, true, false, cond, ◌&&◌, List, [], ◌∷◌, ◌≢◌, refl, ap, ◌∙◌, Option, Some, None, option_map}
-use Rattle.std.proofs.lemmas.Bool.{both_ways, or_from, and_left, and_right, false_from_ne_true}
+use Rattle.std.proofs.lemmas.Bool.{both_ways, or_from, or_left, and_left, and_right, false_from_ne_true}
 use Rattle.std.proofs.lemmas.Option.{none-some}
 use Rattle.std.specs.List.{AllByRecursion}
 use Rattle.cg_maps.specs.FiniteMap.{empty}
@@ -18,7 +18,7 @@ use Rattle.cg_model.specs.Change.{Change, change}
 use Rattle.cg_model.specs.Control.{planned, used_below, emptied, loses_cpuset, control_change, controlled, subtree_effect}
 use Rattle.cg_model.specs.Footprint.{X, S, N, Pid, Count}
 use Rattle.cg_model_laws.proofs.Lists.{all_map, all_with}
-use Rattle.cg_model_laws.proofs.Paths.{same_path-apart, prefix_trans, prefixes_of_one, parent-prefix, comparable_down}
+use Rattle.cg_model_laws.proofs.Paths.{same_path-apart, prefix_itself, prefix_trans, prefixes_of_one, parent-prefix, comparable_down}
 use Rattle.cg_model_laws.proofs.Fields.{setting_there}
 use Rattle.cg_model_laws.proofs.Keys.{group_here, put_apart}
 use Rattle.cg_model_laws.proofs.Marks.{same_path-swapped}
@@ -73,14 +73,14 @@ takes f None w v e = absurd (none-some w e)
 takes f (Some s) w v e = ap Some (setting_there f v s)
 
 all_lawful : (p : Path) (s t : Controllers) (es : List (Path × Settings)) (T : Tree) → AllByRecursion (λ e. is_parent p e.0 ≡ true) es → AllByRecursion (CpusAre T) es → maps.KeysDiffer path_cmp_total es → value_at T (Part p Control) ≡ Some s → IsLawful (X p ∷ []) T (those p s t es)
-all_lawful p s t [] T h v d c = (record { was = c; is = ap (option_map (setting Control)) (group_here T p _) ∙ takes Control (group T p) s t c; covered = (λ n a. a.0, tt) }, tt, tt, tt)
+all_lawful p s t [] T h v d c = (record { was = c; is = ap (option_map (setting Control)) (group_here T p _) ∙ takes Control (group T p) s t c; marked = or_left _ _ (prefix_itself p); covered = (λ n a. a.0, tt) }, tt, tt, tt)
 all_lawful p s t (e ∷ es) T h v d c =
     let apart : AllByRecursion (λ f. touch (Part e.0 Cpus) (Part f.0 Cpus) ≡ false) es = all_map (λ f ne. cpus_apart e.0 f.0 ne) es d.0 in
     let after : Tree = put (Part e.0 Cpus) (Some empty) T in
     elim (is_empty_set e.1.cpus) as (λ b. IsLawful (X p ∷ []) T (or_kept p s t e (those p s t es) b)) [
       | true ↦ all_lawful p s t es T h.1 v.1 d.1 c
       | false ↦ (
-        record { was = v.0; is = ap (option_map (setting Cpus)) (group_here T e.0 _) ∙ takes Cpus (group T e.0) e.1.cpus empty v.0; covered = (under_above p e.0 (parent-prefix p e.0 h.0), tt) },
+        record { was = v.0; is = ap (option_map (setting Cpus)) (group_here T e.0 _) ∙ takes Cpus (group T e.0) e.1.cpus empty v.0; marked = or_left _ _ (parent-prefix p e.0 h.0); covered = (under_above p e.0 (parent-prefix p e.0 h.0), tt) },
         all_changes p s t (λ d. IsNoGroup d.key) es (all_map (λ f _. tt) es h.1) tt,
         all_changes p s t (λ d. touch (Part e.0 Cpus) d.key ≡ false) es apart (and_right (same_path e.0 p) false refl),
         all_lawful p s t es after h.1 (all_with (λ f c t. put_apart (Part f.0 Cpus) (Part e.0 Cpus) (Some empty) T (flipped e.0 f.0 t) ∙ c) es v.1 apart) d.1

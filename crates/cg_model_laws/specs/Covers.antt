@@ -1,9 +1,10 @@
 -- What marks cover of a tree, and trees that agree on it.
-use Rattle.std.specs.Prelude.{◌≡◌, ℕ, true, cond, List, Option, Some, None}
+use Rattle.std.specs.Prelude.{◌≡◌, ℕ, Bool, true, false, cond, ◌==◌, List, Option, Some, None}
 use Rattle.std.specs.List.{AllByRecursion}
-use Rattle.cg_name.specs.Path.{Path, is_prefix, comparable}
+use Rattle.cg_name.specs.Path.{Path, is_root, is_prefix, comparable}
 use Rattle.cg_model.specs.Tree.{Tree, group, place_of}
 use Rattle.cg_model.specs.Derived.{descendants}
+use Rattle.cg_model.specs.Key.{Key, Group, Place, Part, Online}
 use Rattle.cg_model.specs.Footprint.{Mark, X, S, N, Pid, Count, is_limited}
 
 -- a process's place as far as it is p or below it
@@ -33,3 +34,12 @@ AgreeOn f T U = AllByRecursion (λ m. Agree m T U) f
 abbrev pub IsCounted : Tree → Mark → Type 0
 IsCounted T (Count p) = is_limited (group T p) ≡ true
 IsCounted T m = Unit {0}
+
+-- a key may be changed under a mark: groups and their settings under that of their subtree, the online CPUs under that of the
+-- root, a process's place under its own
+abbrev pub may_change : Mark → Key → Bool
+may_change (X p) (Group q) = is_prefix p q
+may_change (X p) (Part q f) = is_prefix p q
+may_change (X p) Online = is_root p
+may_change (Pid k) (Place l) = k == l
+may_change _ _ = false

@@ -1,6 +1,6 @@
 -- The laws of one command and of two, for contracts to cite.
 use Rattle.std.specs.Prelude.{◌≡◌, ℕ, false, true, List, [], ◌∷◌, Option, None, is_some}
-use Rattle.std.specs.List.{AllByRecursion}
+use Rattle.std.specs.List.{AllByRecursion, list_any}
 use Rattle.cg_name.specs.Path.{Path}
 use Rattle.cg_name.specs.declared.refusal.Refusal.{Refusal}
 use Rattle.cg_model.specs.Tree.{Tree, group, place_of}
@@ -12,7 +12,7 @@ use Rattle.cg_model.specs.Command.{Command, IsProper}
 use Rattle.cg_model.specs.Effect.{effect}
 use Rattle.cg_model.specs.History.{is_own_check}
 use Rattle.cg_model.specs.Footprint.{Mark, clashes, footprint}
-use Rattle.cg_model_laws.specs.Covers.{AgreeOn, IsCounted}
+use Rattle.cg_model_laws.specs.Covers.{AgreeOn, IsCounted, may_change}
 
 -- a group's settings may come and go; any other key takes a value where it holds one
 abbrev pub CanHold : Tree → (k : Key) → Option (Held k) → Type 0
@@ -55,6 +55,19 @@ OwnChecks = (c : Command) (T : Tree) (r : Refusal) → effect c T ≡ Refuse r �
 -- what its footprint covers decides a command's answer, its changes and its footprint
 abbrev pub Locality : Type 0
 Locality = (T U : Tree) → T.controllers ≡ U.controllers → (c : Command) → AgreeOn (footprint c T) T U → (effect c T ≡ effect c U) × (footprint c T ≡ footprint c U)
+
+-- an accepted command changes only keys that its marks let it change
+abbrev pub ChangesAreMarked : Type 0
+ChangesAreMarked = (c : Command) (T : Tree) (o : Outcome) (cs : List Change) → effect c T ≡ Accept o cs → AllByRecursion (λ d. list_any (λ m. may_change m d.key) (footprint c T) ≡ true) cs
+
+-- no key of the one list of changes touches a key of the other
+abbrev pub KeysDontTouch : List Change → List Change → Type 0
+KeysDontTouch cs ds = AllByRecursion (λ c. AllByRecursion (λ d. touch c.key d.key ≡ false) ds) cs
+
+-- commands whose footprints don't clash, each taken in its own tree, change keys that don't touch
+abbrev pub KeysOfBothApart : Type 0
+KeysOfBothApart = (c d : Command) (T U : Tree) (o q : Outcome) (cs ds : List Change) → effect c T ≡ Accept o cs → effect d U ≡ Accept q ds
+    → clashes (footprint c T) (footprint d U) ≡ false → KeysDontTouch cs ds
 
 -- an accepted command changes nothing that marks cover that clash with none of its own
 abbrev pub Frame : Type 0

@@ -2,7 +2,7 @@
 //! where they say so.
 #![tactic(auto)]
 
-ghost use Rattle.cg_model_laws.specs.Laws.{AbsentStays, ClashesBothWays, Frame, FrameOfCommands, Identity, KeysApart, Locality, OthersKeep, OwnChecks, PutIsHeld, SoundKept, Swap};
+ghost use Rattle.cg_model_laws.specs.Laws.{AbsentStays, ChangesAreMarked, ClashesBothWays, Frame, FrameOfCommands, Identity, KeysApart, KeysOfBothApart, Locality, OthersKeep, OwnChecks, PutIsHeld, SoundKept, Swap};
 
 /// A put changes its key alone: it holds the value then, where it can, and the keys that it doesn't touch what they held.
 pub fn puts_change_their_key_alone()
@@ -21,6 +21,11 @@ pub fn keys_of_an_inverse_are_apart()
     ensures { KeysApart }
 {}
 
+/// Commands whose footprints don't clash change keys that don't touch, even where they run in different trees.
+pub fn keys_of_commands_that_do_not_clash_are_apart()
+    ensures { KeysOfBothApart }
+{}
+
 /// An accepted command keeps a tree sound.
 pub fn accepted_commands_keep_trees_sound()
     ensures { SoundKept }
@@ -36,8 +41,10 @@ pub fn footprints_decide_effects()
     ensures { Locality }
 {}
 
-/// An accepted command changes nothing that marks cover that clash with none of its own.
+/// An accepted command changes only keys that its marks let it change, and nothing that marks cover that clash with none of
+/// its own.
 pub fn accepted_commands_change_what_they_mark()
+    ensures changes { ChangesAreMarked }
     ensures marks { Frame }
     ensures commands { FrameOfCommands }
 {}
