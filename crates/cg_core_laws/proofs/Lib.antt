@@ -27,6 +27,7 @@ mod GoingBack
 mod Theorem
 mod CgroupsLaws
 mod BusyExact
+mod KeysOfOthers
 mod GroupChanges
 mod Stages
 mod Holding

@@ -12,7 +12,8 @@ use Rattle.cg_core_laws.proofs.Log.{Log, log_opened, log_steps}
 use Rattle.cg_core_laws.proofs.Unchanged.{limit_steps}
 use Rattle.cg_core_laws.proofs.Least.{falling}
 use Rattle.cg_core_laws.proofs.Room.{HasRoom, rooms}
-use Rattle.cg_core_laws.proofs.Invariant.{invariant}
+use Rattle.cg_core_laws.proofs.Invariant.{Invariant, invariant}
+use Rattle.cg_core_laws.proofs.MachineOf.{machine_of}
 use Rattle.cg_core_laws.proofs.AsLog.{steps_are}
 use Rattle.cg_core_laws.proofs.OfHistory as tied
 use Rattle.cg_core_laws.proofs.Faithful.{serial_from, faithful_from}
@@ -26,8 +27,12 @@ module _ (y : System) (laws : SystemLaws y) (o : y.State) (sound : y.Sound o) (l
   abbrev log_after : Log y
   log_after = log_steps y (log_opened y o limit) rs
 
+  -- what the invariant gives of a machine with a log
+  pub by_log : (P : Machine y → Type 0) → ((c : Log y) → Invariant y o c → P (machine_of c)) → P after
+  by_log P h = subst P (steps_are y laws o limit rs proper) (h log_after (invariant y laws o limit rs proper))
+
   pub serial : IsSerial y o after
-  serial = subst (IsSerial y o) (steps_are y laws o limit rs proper) (serial_from y laws o sound log_after (invariant y laws o limit rs proper))
+  serial = by_log (IsSerial y o) (serial_from y laws o sound)
 
   pub faithful : IsFaithful y o after
   faithful =
@@ -35,7 +40,7 @@ module _ (y : System) (laws : SystemLaws y) (o : y.State) (sound : y.Sound o) (l
       subst (IsFaithful y o) (steps_are y laws o limit rs proper) (faithful_from y laws o log_after (invariant y laws o limit rs proper) (falling y o limit rs) room)
 
   pub of_history : IsOfHistory y o after
-  of_history = subst (IsOfHistory y o) (steps_are y laws o limit rs proper) (tied.of_history y o log_after (invariant y laws o limit rs proper).tied)
+  of_history = by_log (IsOfHistory y o) (λ c i. tied.of_history y o c i.tied)
 
   pub going_back : (s t : ℕ) → transaction_in s (opens after.history) ≡ Some t → GoesBack y after s t
   going_back s t e = goes_back y o after faithful s t e

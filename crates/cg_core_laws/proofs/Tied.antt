@@ -66,7 +66,7 @@ module _ (y : System) (o : y.State) where
   length_as_items [] = refl
   length_as_items (x ∷ a) = ap suc (length_as_items a)
 
-  entries_true_one : (x : Entry y) (a : List (Entry y)) → EntriesTrue y o (x ∷ a) → EntriesTrue y o a
+  pub entries_true_one : (x : Entry y) (a : List (Entry y)) → EntriesTrue y o (x ∷ a) → EntriesTrue y o a
   entries_true_one (Did t h c a' d f) a m = m.2
   entries_true_one (Mark t h n) a m = m
 

@@ -1,5 +1,6 @@
 -- The headline, of the machine over the tree of control groups.
-use Rattle.std.specs.Prelude.{◌≡◌, ◌↔◌, ℕ, ◌≤◌, true, false, List, Some}
+use Rattle.std.specs.Prelude.{◌≡◌, ◌≢◌, ◌↔◌, ℕ, ◌≤◌, true, false, List, Some}
+use Rattle.std.specs.List.{AllByRecursion}
 use Rattle.cg_name.specs.declared.refusal.Refusal.TheVariants.{Busy}
 use Rattle.cg_model.specs.Tree.{Tree}
 use Rattle.cg_model.specs.Sound.{Sound}
@@ -11,6 +12,8 @@ use Rattle.cg_model.specs.Opens.{numbers, among, without, transaction_in, opens}
 use Rattle.cg_model.specs.Live.{live}
 use Rattle.cg_model.specs.Reply.{clashes_with, is_full}
 use Rattle.cg_model.specs.Machine.{Machine, opened, step, steps}
+use Rattle.cg_model.specs.Room.{inverse}
+use Rattle.cg_model_laws.specs.Laws.{KeysDontTouch}
 use Rattle.cg_core_laws.specs.Room.{RoomKept, CommitSweeps}
 use Rattle.cg_core_laws.specs.Stacks.{IsOfHistory}
 use Rattle.cg_core_laws.specs.Headline.{AreProper, IsSerial, IsFaithful, GoesBack, OthersStay, CommitsStay}
@@ -52,6 +55,14 @@ pub record IsLeastInTheWay (opening : Tree) (m : Machine cgroups) (t : ℕ) (c :
 abbrev pub BusyExactly : Type 0
 BusyExactly = AfterAnySteps (λ opening m. (s t : ℕ) → transaction_in s (opens m.history) ≡ Some t → is_full m.limit m.history ≡ false → (c : Command) (u : ℕ)
     → ((step cgroups m s (Do c)).1 ≡ Refused (Busy (record { 0 = u }))) ↔ IsLeastInTheWay opening m t c u)
+
+-- no key that a live command changed touches a key that a live command of another open transaction changed
+abbrev pub LiveKeysApart : Tree → Machine cgroups → Type 0
+LiveKeysApart opening m = (t u : ℕ) → among t (numbers (opens m.history)) ≡ true → among u (numbers (opens m.history)) ≡ true → t ≢ u
+    → AllByRecursion (λ x. AllByRecursion (λ z. KeysDontTouch (inverse opening x) (inverse opening z)) (live u m.history)) (live t m.history)
+
+abbrev pub KeysOfOthersApart : Type 0
+KeysOfOthersApart = AfterAnySteps LiveKeysApart
 
 -- every live inverse has room when its turn comes, and what nobody needs may be swept
 abbrev pub Roomy : Type 0

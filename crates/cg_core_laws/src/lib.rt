@@ -2,7 +2,7 @@
 //! any way.
 #![tactic(auto)]
 
-ghost use Rattle.cg_core_laws.specs.Laws.{BusyExactly, CommitsKept, Faithful, GoingBack, LimitKept, OfHistory, OthersUntouched, Roomy, Serial, Sweeping};
+ghost use Rattle.cg_core_laws.specs.Laws.{BusyExactly, CommitsKept, Faithful, GoingBack, KeysOfOthersApart, LimitKept, OfHistory, OthersUntouched, Roomy, Serial, Sweeping};
 
 /// The tree is the opening tree changed by the surviving commands alone; every inverse fits when its turn comes, in
 /// whatever interleaving open transactions are unwound; and the committed transactions in commit order, then each open one
@@ -43,6 +43,11 @@ pub fn commits_stay()
 /// the least of these.
 pub fn busy_names_the_least_in_the_way()
     ensures { BusyExactly }
+{}
+
+/// No key of a live command touches a key of another open transaction's live command.
+pub fn live_commands_change_keys_apart()
+    ensures { KeysOfOthersApart }
 {}
 
 /// Every live inverse has room when its turn comes, and the entries that nobody needs may be swept, lower paths first.
