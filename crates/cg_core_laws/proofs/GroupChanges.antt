@@ -1,18 +1,19 @@
 -- Which groups a list of changes makes or takes away: what the changes of an accepted command tell of the trees before and
 -- after it, and what undoing them leaves.
-use Rattle.std.proofs.Common.{◌≡◌, ℕ, Bool, true, false, cond, not, ◌&&◌, ◌||◌, List, [], ◌∷◌, inl, inr, refl, sym, ap, subst, ◌∙◌, Option, Some, None}
+use Rattle.std.proofs.Common.{◌≡◌, ℕ, Bool, true, false, cond, not, ◌&&◌, ◌||◌, List, [], ◌∷◌, inl, inr, refl, sym, ap, subst, ◌∙◌, Option, Some, None, Result, Ok, Err}
 use Rattle.std.specs.Option.{is_some}
 use Rattle.std.specs.List.{AllByRecursion}
 use Rattle.std.proofs.lemmas.Bool.{cond_both, or_parts, or_cases, or_left, or_right}
 use Rattle.cg_maps.specs.FiniteMap.{empty}
 use Rattle.cg_maps.specs.FiniteSet.{FiniteSet, is_empty_set}
 use Rattle.cg_name.specs.Path.{Path, is_root}
+use Rattle.cg_name.specs.declared.refusal.Refusal.{Refusal}
 use Rattle.cg_name.specs.declared.refusal.Refusal.TheVariants.{Controlled, NoFile}
 use Rattle.cg_text.specs.declared.control_ops.ControlOps.{ControlOps}
 use Rattle.cg_text.specs.declared.controllers.Controllers.{Controllers}
 use Rattle.cg_text.specs.declared.settings.Settings.{Settings}
 use Rattle.cg_model.specs.Tree.{Tree, group, place_of}
-use Rattle.cg_model.specs.Derived.{processes, available, with_cpuset, is_populated, is_frozen, effective_cpus}
+use Rattle.cg_model.specs.Derived.{with_cpuset}
 use Rattle.cg_model.specs.Sound.{admits}
 use Rattle.cg_model.specs.Key.{Field, Setting, Key, Group, Place, Part, Held, value_at, part_replaced, put}
 use Rattle.cg_model.specs.Key as keys
@@ -22,7 +23,8 @@ use Rattle.cg_model.specs.Command.{Command, Create, Remove, Migrate, Subtree, Fr
 use Rattle.cg_model.specs.Groups.{create_effect, remove_effect}
 use Rattle.cg_model_laws.proofs.Plans.{planned_both}
 use Rattle.cg_model.specs.Control.{planned, used_below, emptied, loses_cpuset, control_change, subtree_effect}
-use Rattle.cg_model.specs.Writes.{migrate_effect, written, freeze_effect, cpus_effect, limit_effect, shown, show_effect}
+use Rattle.cg_model.specs.Writes.{migrate_effect, written, freeze_effect, cpus_effect, limit_effect, show_effect}
+use Rattle.cg_model.specs.File.{file}
 use Rattle.cg_model.specs.Effect.{effect}
 use Rattle.cg_model.specs.Room.{is_group_key, changes_group, changes_of, room_for, RoomFor}
 use Rattle.cg_model_laws.proofs.Paths.{same_path-is, same_path-itself, paths_differ, path_cases}
@@ -101,9 +103,9 @@ module _ (T : Tree) where
   limit_written p f v None = tt
   limit_written p f v (Some s) = (tt, tt)
 
-  text_shown : (o : Option (List ℕ)) → TrueOf (shown o)
-  text_shown None = tt
-  text_shown (Some text) = tt
+  file_shown : (r : Result (List ℕ) Refusal) → TrueOf (show_effect r)
+  file_shown (Err r) = tt
+  file_shown (Ok text) = tt
 
   -- the changes of a command tell it, where it is accepted
   pub tells : (c : Command) → TrueOf (effect c T)
@@ -114,7 +116,7 @@ module _ (T : Tree) where
   tells (Subtree p ops) = subtree_written p ops _ _ _ _
   tells (Freeze p v) = freeze_written p v _
   tells (Cpus p v) = cpus_written p v _ _
-  tells (Show p f) = elim (group T p) as (λ s. TrueOf (show_effect p f s (available T p) (processes T p) (is_populated T p) (is_frozen T p) (effective_cpus T p))) [ None ↦ tt | Some s ↦ text_shown _ ]
+  tells (Show p f) = file_shown (file T p f)
   tells (Online v) = (tt, tt)
   tells (MaxDescendants p v) = limit_written p keys.MaxDescendants v _
   tells (MaxDepth p v) = limit_written p keys.MaxDepth v _

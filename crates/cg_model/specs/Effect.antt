@@ -1,7 +1,8 @@
 -- What each command does, by what it sees of the tree.
 use Rattle.cg_maps.specs.FiniteMap.{is_nonempty}
 use Rattle.cg_model.specs.Tree.{Tree, group, place_of, parent_group}
-use Rattle.cg_model.specs.Derived.{children, processes, available, is_populated, is_frozen, effective_cpus}
+use Rattle.cg_model.specs.Derived.{children, processes, available}
+use Rattle.cg_model.specs.File.{file}
 use Rattle.cg_model.specs.Key as keys
 use Rattle.cg_model.specs.Command.{Command, Create, Remove, Migrate, Subtree, Freeze, Cpus, Show, Online, MaxDescendants, MaxDepth, Effect}
 use Rattle.cg_model.specs.Groups.{too_many, too_deep, create_effect, remove_effect}
@@ -15,7 +16,7 @@ effect (Migrate k p) T = migrate_effect k p (place_of T k) (group T p)
 effect (Subtree p ops) T = subtree_effect p ops (group T p) (available T p) (children T p) (is_nonempty (processes T p))
 effect (Freeze p v) T = freeze_effect p v (group T p)
 effect (Cpus p v) T = cpus_effect p v (group T p) (available T p)
-effect (Show p f) T = show_effect p f (group T p) (available T p) (processes T p) (is_populated T p) (is_frozen T p) (effective_cpus T p)
+effect (Show p f) T = show_effect (file T p f)
 effect (Online v) T = online_effect v T.online
 effect (MaxDescendants p v) T = limit_effect p keys.MaxDescendants v (group T p)
 effect (MaxDepth p v) T = limit_effect p keys.MaxDepth v (group T p)

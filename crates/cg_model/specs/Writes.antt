@@ -1,15 +1,14 @@
 -- Moving processes, writing single settings and reading files (cgroup-v2, Organizing Processes and Threads: Processes;
 -- Core Interface Files; Cpuset Interface Files). That any set of CPUs may be set online is this project's own choice.
-use Rattle.std.specs.Prelude.{ℕ, Bool, cond, not, ◌&&◌, List, [], ◌∷◌, Option, Some, None}
+use Rattle.std.specs.Prelude.{ℕ, Bool, cond, not, ◌&&◌, List, [], ◌∷◌, Option, Some, None, Result, Ok, Err}
 use Rattle.cg_maps.specs.FiniteSet.{FiniteSet}
 use Rattle.cg_name.specs.Path.{Path, is_root}
+use Rattle.cg_name.specs.declared.refusal.Refusal.{Refusal}
 use Rattle.cg_name.specs.declared.refusal.Refusal.TheVariants.{NoGroup, NoProcess, Controlled, NoFile}
 use Rattle.cg_text.specs.declared.controllers.Controllers.{Controllers}
-use Rattle.cg_text.specs.declared.file_name.FileName.{FileName}
 use Rattle.cg_text.specs.declared.settings.Settings.{Settings}
 use Rattle.cg_model.specs.Sound.{admits}
 use Rattle.cg_model.specs.Derived.{with_cpuset}
-use Rattle.cg_model.specs.File.{file_of}
 use Rattle.cg_model.specs.Key.{Field, Setting, setting, Freeze, Cpus, Place, Part, Online}
 use Rattle.cg_model.specs.Change.{change}
 use Rattle.cg_model.specs.System.{Done, Text, Refuse, Accept}
@@ -41,11 +40,7 @@ limit_effect p f v (Some s) = written p f v s
 abbrev pub online_effect : FiniteSet → FiniteSet → Effect
 online_effect v e = Accept Done (change Online (Some e) (Some v) ∷ [])
 
-abbrev pub shown : Option (List ℕ) → Effect
-shown None = Refuse NoFile
-shown (Some text) = Accept (Text text) []
-
--- the path, the file, and what the files of the group show
-abbrev pub show_effect : Path → FileName → Option Settings → Option Controllers → List ℕ → Bool → Bool → FiniteSet → Effect
-show_effect p f None a pids populated frozen e = Refuse NoGroup
-show_effect p f (Some s) a pids populated frozen e = shown (file_of (is_root p) s a pids populated frozen e f)
+-- a file is shown, or why there is none
+abbrev pub show_effect : Result (List ℕ) Refusal → Effect
+show_effect (Err r) = Refuse r
+show_effect (Ok text) = Accept (Text text) []

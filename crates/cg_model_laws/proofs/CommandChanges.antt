@@ -1,13 +1,14 @@
 -- The changes of each accepted command are lawful under its footprint.
-use Rattle.std.proofs.Common.{◌≡◌, ℕ, Bool, true, false, cond, not, ◌&&◌, List, [], ◌∷◌, refl, Option, Some, None}
+use Rattle.std.proofs.Common.{◌≡◌, ℕ, Bool, true, false, cond, not, ◌&&◌, List, [], ◌∷◌, refl, Option, Some, None, Result, Ok, Err}
 use Rattle.cg_maps.specs.FiniteSet.{FiniteSet}
 use Rattle.cg_name.specs.Path.{Path, is_root}
+use Rattle.cg_name.specs.declared.refusal.Refusal.{Refusal}
 use Rattle.cg_name.specs.declared.refusal.Refusal.TheVariants.{Controlled, NoFile}
 use Rattle.cg_text.specs.Settings.{fresh}
 use Rattle.cg_text.specs.declared.controllers.Controllers.{Controllers}
 use Rattle.cg_text.specs.declared.settings.Settings.{Settings}
 use Rattle.cg_model.specs.Tree.{Tree, group, place_of}
-use Rattle.cg_model.specs.Derived.{with_cpuset, processes, available, is_populated, is_frozen, effective_cpus}
+use Rattle.cg_model.specs.Derived.{with_cpuset}
 use Rattle.cg_model.specs.Sound.{admits}
 use Rattle.cg_model.specs.Key as keys
 use Rattle.cg_model.specs.Key.{Field, Setting, Group, Place, Part}
@@ -15,7 +16,8 @@ use Rattle.cg_model.specs.Change.{change}
 use Rattle.cg_model.specs.System.{Done, Refuse, Accept}
 use Rattle.cg_model.specs.Command.{Command, Create, Remove, Migrate, Subtree, Freeze, Cpus, Show, Online, MaxDescendants, MaxDepth}
 use Rattle.cg_model.specs.Groups.{create_effect, remove_effect}
-use Rattle.cg_model.specs.Writes.{migrate_effect, written, freeze_effect, cpus_effect, limit_effect, shown, show_effect}
+use Rattle.cg_model.specs.Writes.{migrate_effect, written, freeze_effect, cpus_effect, limit_effect, show_effect}
+use Rattle.cg_model.specs.File.{file}
 use Rattle.cg_model.specs.Effect.{effect}
 use Rattle.cg_model.specs.Footprint.{Mark, X, S, N, Pid, counts, old_place, footprint}
 use Rattle.cg_model_laws.proofs.Lawful.{IsLawful}
@@ -61,9 +63,9 @@ module _ (T : Tree) where
   limit_lawful p f v None e = tt
   limit_lawful p f v (Some s) e = written_lawful p f v s e
 
-  shown_lawful : (f : List Mark) (o : Option (List ℕ)) → IfAccepted (shown o) (IsLawful f T)
-  shown_lawful f None = tt
-  shown_lawful f (Some t) = tt
+  shown_lawful : (f : List Mark) (r : Result (List ℕ) Refusal) → IfAccepted (show_effect r) (IsLawful f T)
+  shown_lawful f (Err r) = tt
+  shown_lawful f (Ok text) = tt
 
   -- the changes of a command that is accepted
   pub command_lawful : (c : Command) → IfAccepted (effect c T) (IsLawful (footprint c T) T)
@@ -74,7 +76,7 @@ module _ (T : Tree) where
   command_lawful (Subtree p ops) = subtree_lawful T p ops _ _ _ refl
   command_lawful (Freeze p v) = freeze_lawful p v _ refl
   command_lawful (Cpus p v) = cpus_lawful p v _ _ refl
-  command_lawful (Show p f) = elim (group T p) as (λ s. IfAccepted (show_effect p f s (available T p) (processes T p) (is_populated T p) (is_frozen T p) (effective_cpus T p)) (IsLawful (S p ∷ []) T)) [ None ↦ tt | Some s ↦ shown_lawful _ _ ]
+  command_lawful (Show p f) = shown_lawful (S p ∷ []) (file T p f)
   command_lawful (Online v) = lawful_alone T _ keys.Online _ _ (online_put T v)
   command_lawful (MaxDescendants p v) = limit_lawful p keys.MaxDescendants v _ refl
   command_lawful (MaxDepth p v) = limit_lawful p keys.MaxDepth v _ refl

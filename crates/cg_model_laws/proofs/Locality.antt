@@ -12,6 +12,7 @@ use Rattle.cg_model.specs.Command.{Command, Create, Remove, Migrate, Subtree, Fr
 use Rattle.cg_model.specs.Groups.{reaches, is_full, is_too_deep, too_many, too_deep, create_effect, remove_effect}
 use Rattle.cg_model.specs.Control.{subtree_effect}
 use Rattle.cg_model.specs.Writes.{migrate_effect, freeze_effect, cpus_effect, limit_effect, online_effect, show_effect}
+use Rattle.cg_model.specs.File.{file_seen}
 use Rattle.cg_model.specs.Effect.{effect}
 use Rattle.cg_model.specs.Footprint.{X, N, Pid, Count, is_finite, count_of, joined, counts, old_place, footprint}
 use Rattle.cg_model_laws.specs.Covers.{SameAround, Agree, AgreeOn}
@@ -42,7 +43,7 @@ module _ (T U : Tree) where
   effect_same machine (Subtree p ops) h = λ i. subtree_effect p ops (group_same h.0 i) (available_same h.0 machine i) (children_same h.0 i) (is_nonempty (processes_same h.0 i))
   effect_same machine (Freeze p v) h = λ i. freeze_effect p v (group_same h.0 i)
   effect_same machine (Cpus p v) h = λ i. cpus_effect p v (group_same h.0 i) (available_same h.0 machine i)
-  effect_same machine (Show p f) h = let s = h.0 in λ i. show_effect p f (group_same s i) (available_same s machine i) (processes_same s i) (populated_same s i) (frozen_same s i) (effective_same s i)
+  effect_same machine (Show p f) h = let s = h.0 in λ i. show_effect (file_seen p f (group_same s i) (available_same s machine i) (processes_same s i) (populated_same s i) (frozen_same s i) (effective_same s i))
   effect_same machine (Online v) h = λ i. online_effect v (h.0.online i)
   effect_same machine (MaxDescendants p v) h = λ i. limit_effect p keys.MaxDescendants v (group_same h.0 i)
   effect_same machine (MaxDepth p v) h = λ i. limit_effect p keys.MaxDepth v (group_same h.0 i)

@@ -17,7 +17,8 @@ use Rattle.cg_model.specs.Change.{change}
 use Rattle.cg_model.specs.Command.{Command, Create, Remove, Migrate, Subtree, Freeze, Cpus, Show, Online, MaxDescendants, MaxDepth, Effect}
 use Rattle.cg_model.specs.Groups.{create_effect, remove_effect}
 use Rattle.cg_model.specs.Control.{used_below, subtree_effect}
-use Rattle.cg_model.specs.Writes.{migrate_effect, written, freeze_effect, cpus_effect, limit_effect, shown, show_effect}
+use Rattle.cg_model.specs.Writes.{migrate_effect, written, freeze_effect, cpus_effect, limit_effect, show_effect}
+use Rattle.cg_model.specs.File.{or_no_file, file_seen}
 use Rattle.cg_model.specs.Effect.{effect}
 use Rattle.cg_model.specs.History.{is_own_check}
 use Rattle.cg_model_laws.specs.Laws.{OwnChecks}
@@ -65,7 +66,7 @@ limits : (p : Path) (f : Field) (v : Setting f) (own : Option Settings) → IsOw
 limits p f v None = refl
 limits p f v (Some s) = tt
 
-shows : (text : Option (List ℕ)) → IsOwn (shown text)
+shows : (text : Option (List ℕ)) → IsOwn (show_effect (or_no_file text))
 shows None = refl
 shows (Some text) = tt
 
@@ -79,7 +80,7 @@ of_command (Freeze p v) T = freezes p v _
 of_command (Cpus p v) T = asks p v _ _
 of_command (Show p f) T = shown_or_absent (group T p)
   where
-    shown_or_absent : (own : Option Settings) → IsOwn (show_effect p f own (available T p) (processes T p) (is_populated T p) (is_frozen T p) (effective_cpus T p))
+    shown_or_absent : (own : Option Settings) → IsOwn (show_effect (file_seen p f own (available T p) (processes T p) (is_populated T p) (is_frozen T p) (effective_cpus T p)))
     shown_or_absent None = refl
     shown_or_absent (Some s) = shows _
 of_command (Online v) T = tt

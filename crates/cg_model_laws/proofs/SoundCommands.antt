@@ -1,15 +1,14 @@
 -- An accepted command keeps a tree sound: the ten commands, one by one.
-use Rattle.std.proofs.Common.{◌≡◌, ℕ, Bool, true, false, not, ◌&&◌, List, [], ◌∷◌, refl, sym, ap, subst, ◌∙◌, Option, Some, None}
+use Rattle.std.proofs.Common.{◌≡◌, ℕ, Bool, true, false, not, ◌&&◌, List, [], ◌∷◌, refl, sym, ap, subst, ◌∙◌, Option, Some, None, Result, Ok, Err}
 use Rattle.std.proofs.lemmas.Bool.{cond_both, and_parts}
 use Rattle.std.proofs.lemmas.Option.{none-some, same_Some}
 use Rattle.cg_maps.specs.FiniteMap.{is_nonempty}
 use Rattle.cg_maps.specs.FiniteSet.{FiniteSet, is_empty_set}
 use Rattle.cg_name.specs.Name.{Name}
 use Rattle.cg_name.specs.Path.{Path, is_root, is_parent}
+use Rattle.cg_name.specs.declared.refusal.Refusal.{Refusal}
 use Rattle.cg_name.specs.declared.refusal.Refusal.TheVariants.{Controlled, NoFile}
 use Rattle.cg_text.specs.Settings.{fresh}
-use Rattle.cg_text.specs.declared.controllers.Controllers.{Controllers}
-use Rattle.cg_text.specs.declared.file_name.FileName.{FileName}
 use Rattle.cg_text.specs.declared.settings.Settings.{Settings}
 use Rattle.cg_model.specs.Tree.{Tree, group, place_of, parent_group}
 use Rattle.cg_model.specs.Derived.{children, processes, available, with_cpuset}
@@ -20,9 +19,9 @@ use Rattle.cg_model.specs.Change.{Change, change, done}
 use Rattle.cg_model.specs.System.{Done, Refuse, Accept}
 use Rattle.cg_model.specs.Command.{Command, Create, Remove, Migrate, Subtree, Freeze, Cpus, Show, Online, MaxDescendants, MaxDepth, IsProper}
 use Rattle.cg_model.specs.Groups.{create_effect, remove_effect}
-use Rattle.cg_model.specs.Writes.{migrate_effect, written, freeze_effect, cpus_effect, limit_effect, shown, show_effect}
+use Rattle.cg_model.specs.Writes.{migrate_effect, written, freeze_effect, cpus_effect, limit_effect, show_effect}
 use Rattle.cg_model.specs.Effect.{effect}
-use Rattle.cg_model.specs.File.{file_of}
+use Rattle.cg_model.specs.File.{file}
 use Rattle.cg_model_laws.specs.Laws.{SoundKept}
 use Rattle.cg_model_laws.proofs.Paths.{never}
 use Rattle.cg_model_laws.proofs.Parents.{last_is_parent, no_child, no_process, available_below}
@@ -109,14 +108,9 @@ module _ (T : Tree) (sound : Sound T) where
       let (control, cpus, freeze) = same s in
       put_part T sound p s e f v (same_control_and_cpus T sound p s e (with_setting f v s) control cpus (λ is. freeze ∙ (own_root T sound p s e is).freeze))
 
-  text_shown : (o : Option (List ℕ)) → IfAccepted (shown o) AfterIsSound
-  text_shown None = tt
-  text_shown (Some text) = sound
-
-  file_shown : (p : Path) (f : FileName) (own : Option Settings) (a : Option Controllers) (pids : List ℕ) (populated frozen : Bool) (e : FiniteSet)
-      → IfAccepted (show_effect p f own a pids populated frozen e) AfterIsSound
-  file_shown p f None a pids populated frozen e = tt
-  file_shown p f (Some s) a pids populated frozen e = text_shown (file_of (is_root p) s a pids populated frozen e f)
+  file_shown : (r : Result (List ℕ) Refusal) → IfAccepted (show_effect r) AfterIsSound
+  file_shown (Err r) = tt
+  file_shown (Ok text) = sound
 
   online_put : (v : FiniteSet) → is_empty_set v ≡ false → Sound (put keys.Online (Some v) T)
   online_put v h = record { root = let (s, e, r) = sound.root in (s, e, same_root T _ s refl r); child = sound.child; process = sound.process; online = h }
@@ -129,7 +123,7 @@ module _ (T : Tree) (sound : Sound T) where
   sound_after (Subtree p ops) h = subtree_sound T sound p ops _ _ refl refl
   sound_after (Freeze p v) h = freeze_written p v _ refl
   sound_after (Cpus p v) h = cpus_written p v _ refl
-  sound_after (Show p f) h = file_shown p f _ _ _ _ _ _
+  sound_after (Show p f) h = file_shown (file T p f)
   sound_after (Online v) h = online_put v h
   sound_after (MaxDescendants p v) h = limit_written p keys.MaxDescendants v _ refl (λ s. (refl, refl, refl))
   sound_after (MaxDepth p v) h = limit_written p keys.MaxDepth v _ refl (λ s. (refl, refl, refl))
