@@ -5,8 +5,9 @@ use Rattle.cg_model.specs.System.{System}
 use Rattle.cg_model.specs.History.{Request, History}
 use Rattle.cg_model.specs.Opens.{Opens}
 use Rattle.cg_model.specs.Live.{live}
-use Rattle.cg_model.specs.Machine.{Entry, Transaction, opened, steps}
-use Rattle.cg_core_laws.specs.Stacks.{as_items, EntriesTrue, IsOfHistory}
+use Rattle.cg_model.specs.Reply.{footprints, marks}
+use Rattle.cg_model.specs.Machine.{Entry, Did, Mark, Transaction, opened, steps}
+use Rattle.cg_core_laws.specs.Stacks.{as_items, footprints_on, EntriesTrue, IsOfHistory}
 use Rattle.cg_core_laws.specs.Headline.{AreProper}
 use Rattle.cg_core_laws.proofs.SystemLaws.{SystemLaws}
 use Rattle.cg_core_laws.proofs.Trace.{only}
@@ -33,12 +34,23 @@ module _ (y : System) (o : y.State) where
   stacks_true [] log true_ones = tt
   stacks_true (p ∷ ps) log true_ones = (entries_true_only y o p.1 log true_ones, stacks_true ps log true_ones)
 
+  held_of : (l : List (Entry y)) → EntriesTrue y o l → footprints_on l ≡ footprints y o (as_items l)
+  held_of [] h = refl
+  held_of (Did t th c a d f ∷ l) h = λ i. h.0 i ∷ held_of l h.2 i
+  held_of (Mark t th n ∷ l) h = held_of l h
+
+  stacks_hold : (ps : Opens) (log : List (Entry y)) (h : History y) → EntriesTrue y o log → ((u : ℕ) → as_items (only u log) ≡ live u h) → AllByRecursion (λ (x : Transaction y). footprints_on x.stack ≡ marks y o x.number h) (stacks_of ps log)
+  stacks_hold [] log h true_ones lives = tt
+  stacks_hold (p ∷ ps) log h true_ones lives =
+      (held_of (only p.1 log) (entries_true_only y o p.1 log true_ones) ∙ ap (footprints y o) (lives p.1), stacks_hold ps log h true_ones lives)
+
   pub of_history : (c : Log y) → Tied y o c → IsOfHistory y o (machine_of c)
   of_history c d = record {
     transactions = opens_of c.opens c.entries ∙ d.opens;
     open_count = count_of c.opens c.entries ∙ ap length d.opens;
     stacks = stacks_live c.opens c.entries c.history d.lives;
     entries = stacks_true c.opens c.entries d.entries_true;
+    marks = stacks_hold c.opens c.entries c.history d.entries_true d.lives;
     begun = d.begun;
     commits = d.commits;
   }

@@ -5,6 +5,7 @@ use Rattle.cg_model.specs.System.{System, Accept}
 use Rattle.cg_model.specs.Opens.{opens, begins, commits}
 use Rattle.cg_model.specs.Live.{Item, Ran, Marked, Items, live}
 use Rattle.cg_model.specs.Run.{tree_of}
+use Rattle.cg_model.specs.Reply.{marks}
 use Rattle.cg_model.specs.Machine.{Entry, Did, Mark, Machine}
 
 -- what stands on a stack, without inverses and footprints
@@ -15,6 +16,12 @@ as_item (Mark t h n) = Marked t h n
 abbrev pub as_items : {y : System} → List (Entry y) → Items y
 as_items [] = []
 as_items (x ∷ l) = as_item x ∷ as_items l
+
+-- the footprints on a stack
+abbrev pub footprints_on : {y : System} → List (Entry y) → List y.Footprint
+footprints_on [] = []
+footprints_on (Did t h c a d f ∷ l) = f ∷ footprints_on l
+footprints_on (Mark t h n ∷ l) = footprints_on l
 
 -- each command has the footprint and the inverse that it had when it was accepted: in the tree of the records before it
 abbrev pub EntriesTrue : (y : System) → y.State → List (Entry y) → Type 0
@@ -30,5 +37,7 @@ pub record IsOfHistory (y : System) (o : y.State) (m : Machine y) : Type 0 where
   -- the stack of each is what stands of it, with its inverses and footprints
   pub stacks : AllByRecursion (λ x. as_items x.stack ≡ live x.number m.history) m.transactions
   pub entries : AllByRecursion (λ x. EntriesTrue y o x.stack) m.transactions
+  -- what each holds are its marks
+  pub marks : AllByRecursion (λ x. footprints_on x.stack ≡ marks y o x.number m.history) m.transactions
   pub begun : m.begun ≡ begins m.history
   pub commits : m.commits ≡ commits m.history

@@ -1,5 +1,6 @@
 -- The answer to the next request, from the history alone, by the order of refusals; and legal histories.
 use Rattle.std.specs.Prelude.{◌≡◌, ℕ, ◌+◌, ◌-◌, nat_lt, ◌||◌, Bool, true, false, cond, List, [], ◌∷◌, length, Option, Some, None}
+use Rattle.std.specs.List.{list_any}
 use Rattle.cg_name.specs.Name.{Name, same_name}
 use Rattle.cg_name.specs.declared.refusal.Refusal.TheVariants.{NoTransaction, AlreadyOpen, Full, Busy, NoSavepoint, NameTaken, NothingToUndo}
 use Rattle.cg_model.specs.System.{System, Done, Attempt, Refuse, Accept}
@@ -8,11 +9,19 @@ use Rattle.cg_model.specs.Opens.{Opens, numbers, without, transaction_in, opens,
 use Rattle.cg_model.specs.Live.{Ran, Marked, Items, live}
 use Rattle.cg_model.specs.Run.{tree_of, own_tree, Defined}
 
--- the footprint clashes with that of a command here, which it had in the tree of the records before it
+-- the footprint of each command here, which it had in the tree of the records before it
+abbrev pub footprints : (y : System) → y.State → Items y → List y.Footprint
+footprints y o [] = []
+footprints y o (Ran t h c a ∷ l) = y.footprint c (tree_of y o h) ∷ footprints y o l
+footprints y o (Marked t h n ∷ l) = footprints y o l
+
+-- what a transaction holds: the footprints of its live commands
+abbrev pub marks : (y : System) → y.State → ℕ → History y → List y.Footprint
+marks y o t h = footprints y o (live t h)
+
+-- the footprint clashes with that of a command here
 abbrev pub clashes_with : (y : System) → y.State → y.Footprint → Items y → Bool
-clashes_with y o f [] = false
-clashes_with y o f (Ran t h c a ∷ l) = y.clashes (y.footprint c (tree_of y o h)) f || clashes_with y o f l
-clashes_with y o f (Marked t h n ∷ l) = clashes_with y o f l
+clashes_with y o f l = list_any (λ g. y.clashes g f) (footprints y o l)
 
 -- the one that was found, or else u where the test passes
 abbrev pub found_or : Option ℕ → Bool → ℕ → Option ℕ
