@@ -25,6 +25,7 @@ mod Unwinding
 mod Faithful
 mod GoingBack
 mod Theorem
+mod Scripts
 mod CgroupsLaws
 mod BusyExact
 mod KeysOfOthers

@@ -2,4 +2,5 @@ pub mod Unwind
 pub mod Headline
 pub mod Stacks
 pub mod Room
+pub mod Scripts
 pub mod Laws

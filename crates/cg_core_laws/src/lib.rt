@@ -2,6 +2,7 @@
 //! any way.
 #![tactic(auto)]
 
+ghost use Rattle.cg_core_laws.specs.Scripts.{CommittedScripts, CommitTrees, TreesOfScripts};
 ghost use Rattle.cg_core_laws.specs.Laws.{BusyExactly, CommitsKept, Faithful, GoingBack, KeysOfOthersApart, LimitKept, OfHistory, OthersUntouched, Roomy, Serial, Sweeping};
 
 /// The tree is the opening tree changed by the surviving commands alone; every inverse fits when its turn comes, in
@@ -37,6 +38,19 @@ pub fn other_transactions_stay()
 /// The tree of the first n commits stays as it is, whatever comes after.
 pub fn commits_stay()
     ensures { CommitsKept }
+{}
+
+/// There is one script for each commit; in their order they are what was committed, the first n what was through the n-th
+/// commit, and an earlier commit's begin a later one's.
+pub fn commits_are_scripts()
+    ensures { CommittedScripts }
+{}
+
+/// The tree after n commits is what the first n scripts give, and at any later time the one that the committed work alone
+/// gave when n had committed.
+pub fn commit_trees_are_those_of_scripts()
+    ensures later { CommitTrees }
+    ensures scripts { TreesOfScripts }
 {}
 
 /// `busy` is answered exactly where another open transaction holds a clashing mark and no earlier refusal applies, and names

@@ -72,6 +72,20 @@ abbrev pub committed : {y : System} → History y → Items y
 committed [] = []
 committed (r ∷ h) = committed_after r.answer (live r.transaction h) (committed h)
 
+abbrev pub scripts_after : {y : System} → Answer → Items y → List (Items y) → List (Items y)
+scripts_after (Committed k) l ss = l ∷ ss
+scripts_after _ l ss = ss
+
+-- the script of each committed transaction, also an empty one: its stack as it committed; the newest first
+abbrev pub scripts : {y : System} → History y → List (Items y)
+scripts [] = []
+scripts (r ∷ h) = scripts_after r.answer (live r.transaction h) (scripts h)
+
+-- scripts one after another
+abbrev pub one_by_one : {y : System} → List (Items y) → Items y
+one_by_one [] = []
+one_by_one (l ∷ ls) = l ++ one_by_one ls
+
 -- the stacks of these transactions one after another, the first of them newest, above those below
 abbrev pub stacked : {y : System} → List ℕ → History y → Items y → Items y
 stacked [] h under = under
