@@ -138,6 +138,10 @@ module _ {K X : Type 0} {R : K → K → Ordering} (o : IsTotalOrder R) where
 
 -- ---- what is found is an entry
 
+first_key : {K X : Type 0} (P : K × X → Type 0) (es : List (K × X)) → is_nonempty (map (λ e. e.0) es) ≡ true → AllByRecursion P es → (k : K) × (v : X) × P (k, v)
+first_key P [] e h = absurd (true≢false (sym e))
+first_key P (x ∷ es) e h = (x.0, x.1, h.0)
+
 module _ {K X : Type 0} (R : K → K → Ordering) where
   nothing_found : (q : K) (es : List (K × X)) → is_nonempty es ≡ false → find R q es ≡ None
   nothing_found q [] e = refl
@@ -155,6 +159,11 @@ module _ {K X : Type 0} {R : K → K → Ordering} where
   pub none_in_keys : (m : FiniteMap R X) (q : K) → is_nonempty (keys m) ≡ false → get m q ≡ None
   unfolding keys get
   none_in_keys m q e = nothing_mapped R q m.list e
+
+  -- where there are keys, one of them holds something
+  pub some_key : IsTotalOrder R → (m : FiniteMap R X) → is_nonempty (keys m) ≡ true → (k : K) × (v : X) × (get m k ≡ Some v)
+  unfolding entries keys
+  some_key o m e = first_key (λ x. get m x.0 ≡ Some x.1) m.list e (each_entry o m)
 
   module _ (same : IsAntisymmetric R) where
     passed : (t : K × X → Bool) (q : K) (v : X) (es : List (K × X)) → t (q, v) ≡ true → find R q es ≡ Some v → list_any t es ≡ true

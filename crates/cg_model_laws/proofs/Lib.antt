@@ -12,6 +12,7 @@ mod Commuting
 mod IfAccepted
 pub mod Plans
 pub mod Parents
+mod Values
 mod SinglePuts
 mod SubtreeChanges
 mod CommandChanges
