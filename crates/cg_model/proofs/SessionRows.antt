@@ -1,6 +1,6 @@
 -- The worked runs of several sessions compute.
 use Rattle.std.proofs.Common.{refl}
-use Rattle.cg_model.specs.Rows.{play, play_within, w0, w0_with, cpus_below, cpus_of}
+use Rattle.cg_model.specs.Rows.{play, play_to_end, play_within, w0, w0_with, cpus_below, cpus_of}
 use Rattle.cg_model.specs.SessionRows as rows
 
 pub abort_beside_commit : rows.AbortBesideCommit
@@ -42,3 +42,7 @@ processes_are_locked = refl
 pub online_locks_all : rows.OnlineLocksAll
 unfolding play play_within w0 w0_with cpus_below cpus_of
 online_locks_all = refl
+
+pub aborts_at_the_end : rows.AbortsAtTheEnd
+unfolding play_to_end w0 w0_with
+aborts_at_the_end = refl

@@ -18,6 +18,7 @@ pub mod Live
 pub mod Run
 pub mod Reply
 pub mod Machine
+pub mod Output
 pub mod Room
 pub mod Rows
 pub mod CommandRows

@@ -20,6 +20,7 @@ use Rattle.cg_model.specs.History.{Request, Answer}
 use Rattle.cg_model.specs.Opens.{numbers, opens}
 use Rattle.cg_model.specs.Live.{live}
 use Rattle.cg_model.specs.Machine.{Machine, opened, step}
+use Rattle.cg_model.specs.Output.{answers, output}
 use Rattle.cg_model.specs.Room.{has_entry}
 
 -- requests of sessions by number
@@ -29,8 +30,7 @@ Asked = List (ℕ × Request cgroups)
 -- the answers to requests, and the tree at the end
 unfoldable pub played : Machine cgroups → Asked → List Answer × Tree
 unfolding get insert empty checked retain entries keys len set_at domain members in_common with_member such_that_below children descendants processes processes_below same_name same_path digits effect footprint
-played m [] = ([], m.tree)
-played m (q ∷ qs) = let after = step cgroups m q.0 q.1 in let rest = played after.0 qs in (after.1 ∷ rest.0, rest.1)
+played m asked = let r = answers cgroups m asked in (r.0, r.1.tree)
 
 -- with the greatest limit on the history
 unfoldable pub play : Tree → Asked → List Answer × Tree
@@ -40,6 +40,11 @@ play T asked = played (opened cgroups T 1048576) asked
 unfoldable pub play_within : ℕ → Tree → Asked → List Answer × Tree
 unfolding played
 play_within limit T asked = played (opened cgroups T limit) asked
+
+-- a whole schedule, with the aborts at its end
+unfoldable pub play_to_end : Tree → Asked → List Answer × Tree
+unfolding get insert empty checked retain entries keys len set_at domain members in_common with_member such_that_below children descendants processes processes_below same_name same_path digits effect footprint
+play_to_end T asked = let r = output cgroups (opened cgroups T 1048576) asked in (r.0, r.1.tree)
 
 -- whether a path has an entry after requests
 unfoldable pub entry_after : Machine cgroups → Asked → Tree → Path → Bool

@@ -1,7 +1,7 @@
 -- Worked runs of several sessions: locks and orders of commits.
 use Rattle.std.specs.Prelude.{◌≡◌, ℕ, List, [], ◌∷◌, ◌++◌, map, codes}
 use Rattle.cg_name.specs.Path.{Path}
-use Rattle.cg_name.specs.declared.refusal.Refusal.TheVariants.{Busy, HasProcesses, TooMany, TooDeep}
+use Rattle.cg_name.specs.declared.refusal.Refusal.TheVariants.{Busy, NothingToUndo, HasProcesses, TooMany, TooDeep}
 use Rattle.cg_text.specs.Settings.{fresh}
 use Rattle.cg_text.specs.declared.file_name.FileName.TheVariants as files
 use Rattle.cg_text.specs.declared.limit.Limit.TheVariants.{Max, UpTo}
@@ -9,7 +9,7 @@ use Rattle.cg_text.specs.declared.settings.Settings.{Settings}
 use Rattle.cg_model.specs.System.{Done, Text}
 use Rattle.cg_model.specs.Command.{Command, Create, Remove, Migrate, Subtree, Show, Online, MaxDescendants, MaxDepth}
 use Rattle.cg_model.specs.History.{Begin, Do, Undo, Commit, Abort, Answer, Begun, Gave, Committed, Aborted, Refused}
-use Rattle.cg_model.specs.Rows.{Asked, play, w0, w0_with, cpus_below, /a, /b, /a/b, /a/c, cpu_alone, enable, passing_on, by}
+use Rattle.cg_model.specs.Rows.{Asked, play, play_to_end, w0, w0_with, cpus_below, /a, /b, /a/b, /a/c, cpu_alone, enable, passing_on, by}
 
 -- the sessions
 abbrev pub A : ℕ
@@ -127,3 +127,9 @@ OnlineLocksAll =
     ((A, Begin) ∷ (B, Begin) ∷ (B, Do (Create /a)) ∷ (A, Do (Online (cpus_below 2))) ∷ (B, Abort) ∷ (A, Do (Online (cpus_below 2))) ∷ (A, Do (Show [] files.EffectiveCpus)) ∷ (A, Undo) ∷ (A, Undo)
     ∷ (A, Do (Show [] files.EffectiveCpus)) ∷ (A, Commit) ∷ [])
     ≡ (Begun 1 ∷ Begun 2 ∷ done ∷ busy 2 ∷ Aborted 2 ∷ done ∷ text (codes "0-1\n") ∷ done ∷ done ∷ text (codes "0-7\n") ∷ Committed 1 ∷ [], w0)
+
+-- at the end of a schedule what is still open is aborted, by number and not by session; what was committed stays
+abbrev pub AbortsAtTheEnd : Type 0
+AbortsAtTheEnd =
+    play_to_end w0 ((B, Begin) ∷ (A, Begin) ∷ (C, Begin) ∷ (B, Do (Create /b)) ∷ (A, Do (Create /a)) ∷ (C, Undo) ∷ (A, Commit) ∷ [])
+    ≡ (Begun 1 ∷ Begun 2 ∷ Begun 3 ∷ done ∷ done ∷ Refused NothingToUndo ∷ Committed 1 ∷ Aborted 1 ∷ Aborted 3 ∷ [], w0_with (([], fresh) ∷ (/a, fresh) ∷ []) at_root)

@@ -4,7 +4,7 @@
 
 ghost use Rattle.cg_model.specs.CommandRows.{EffectiveCpus, Enabling, FreezeAndPopulated, Hotplug, Limits, MigrateAndRemove, OwnRefusals};
 ghost use Rattle.cg_model.specs.GoingBackRows.{CpusetOffAndBack, DeadEntries, FullAtFour, RemadeGroup, Savepoints};
-ghost use Rattle.cg_model.specs.SessionRows.{AbortBesideCommit, CommitOrder, CountsAreLocked, LockedUntilCommit, MigratePinsBothEnds, OnlineLocksAll, ProcessesAreLocked, ReadersAreProtected, ReadersShare, UnseenRemoval};
+ghost use Rattle.cg_model.specs.SessionRows.{AbortBesideCommit, AbortsAtTheEnd, CommitOrder, CountsAreLocked, LockedUntilCommit, MigratePinsBothEnds, OnlineLocksAll, ProcessesAreLocked, ReadersAreProtected, ReadersShare, UnseenRemoval};
 
 /// Worked runs of one transaction: what the commands do and refuse.
 pub fn worked_runs_of_commands()
@@ -29,6 +29,7 @@ pub fn worked_runs_of_sessions()
     ensures readers_are_protected { ReadersAreProtected }
     ensures processes_are_locked { ProcessesAreLocked }
     ensures online_locks_all { OnlineLocksAll }
+    ensures aborts_at_the_end { AbortsAtTheEnd }
 {}
 
 /// Worked runs of going back: undo, savepoints, reserved places, and the entries that stay for it.

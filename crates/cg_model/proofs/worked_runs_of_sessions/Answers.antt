@@ -13,4 +13,5 @@ returns c = record {
   readers_are_protected = rows.readers_are_protected;
   processes_are_locked = rows.processes_are_locked;
   online_locks_all = rows.online_locks_all;
+  aborts_at_the_end = rows.aborts_at_the_end;
 }
