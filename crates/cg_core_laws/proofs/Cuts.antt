@@ -7,7 +7,7 @@ use Rattle.cg_model.specs.Machine.{Entry}
 use Rattle.cg_core_laws.proofs.Trace.{owner, FreeOf, keep, only, skip, cut, Apart, Passes, Agree}
 
 module _ (y : System) where
-  free_tail : (z x : Entry y) (l : List (Entry y)) (c : Bool) → FreeOf y z (joined_if c x l) → FreeOf y z l
+  pub free_tail : (z x : Entry y) (l : List (Entry y)) (c : Bool) → FreeOf y z (joined_if c x l) → FreeOf y z l
   free_tail z x l true h = h.1
   free_tail z x l false h = h
 

@@ -34,7 +34,7 @@ module _ (y : System) where
   grows_noted c s r p false k i e = absurd (cc (k, e))
 
 module _ (y : System) (laws : SystemLaws y) (o : y.State) where
-  as_items_blocks : (c : Log y) (ts : List ℕ) → Tied y o c → as_items (blocks ts c.entries c.done) ≡ stacked ts c.history (committed c.history)
+  pub as_items_blocks : (c : Log y) (ts : List ℕ) → Tied y o c → as_items (blocks ts c.entries c.done) ≡ stacked ts c.history (committed c.history)
   as_items_blocks c [] d = d.done
   as_items_blocks c (t ∷ ts) d = as_items_append y o (only t c.entries) _ ∙ (rw (d.lives t, as_items_blocks c ts d))
 

@@ -29,6 +29,8 @@ mod Scripts
 mod CgroupsLaws
 mod BusyExact
 mod KeysOfOthers
+mod Drop
+mod Front
 mod GroupChanges
 mod Stages
 mod Holding

@@ -6,20 +6,17 @@ use Rattle.cg_name.specs.Name.{Name, same_name}
 use Rattle.cg_model.specs.System.{System}
 use Rattle.cg_model.specs.History.{Request, Do, Save, Back, Undo, Abort, Answer, Gave, Saved, WentBack, Aborted, History}
 use Rattle.cg_model.specs.Live.{Item, Ran, Marked, Items, below, live_after, live, place, stands, item_of, joined_if, selected}
+pub use Rattle.cg_core_laws.specs.Reordered.{transaction_of}
 use Rattle.cg_core_laws.proofs.Trace.{skip}
 use Rattle.cg_core_laws.proofs.Tests.{or_second, false_if}
 
-abbrev pub item_owner : {y : System} → Item y → ℕ
-item_owner (Ran t h c a) = t
-item_owner (Marked t h n) = t
-
 abbrev pub items_only : {y : System} → ℕ → Items y → Items y
 items_only t [] = []
-items_only t (x ∷ l) = joined_if (item_owner x == t) x (items_only t l)
+items_only t (x ∷ l) = joined_if (transaction_of x == t) x (items_only t l)
 
 abbrev pub items_cut : {y : System} → ℕ → Items y → Items y
 items_cut t [] = []
-items_cut t (x ∷ l) = skip (item_owner x == t) x l (items_cut t l)
+items_cut t (x ∷ l) = skip (transaction_of x == t) x l (items_cut t l)
 
 -- the places go down, from below n
 abbrev pub Down : {y : System} → ℕ → Items y → Type 0
@@ -27,7 +24,7 @@ Down n [] = Unit {0}
 Down n (x ∷ l) = (place x < n) × Down (place x) l
 
 module _ (y : System) where
-  pub owner_at : (r : Request y) (a : Answer) (t : ℕ) (h : History y) → item_owner (item_of r a t h) ≡ t
+  pub owner_at : (r : Request y) (a : Answer) (t : ℕ) (h : History y) → transaction_of (item_of r a t h) ≡ t
   owner_at (Do c) (Gave a) t h = refl
   owner_at (Save n) a t h = refl
   owner_at _ _ t h = refl
@@ -93,9 +90,9 @@ module _ (y : System) where
         let d : (place q == p) ≡ false = false_if (place q == p) (λ i. let j = eqb-true (place q) p i in omega arith) in
         ap (λ w. stands p (stacks' w)) v ∙ ap (stands p) now ∙ sym (ap (λ w. stands p (stacks w)) v ∙ ap (stands p) was ∙ (rw d))
 
-    pop_step : (u n : ℕ) (x : Item y) (g : History y) (rs : Items y) (k b : Bool) → (u == t) ≡ k → stands n (stacks u) ≡ b → item_owner x ≡ u → place x ≡ n → length g ≡ n → ((rs' : Items y) → items_only t (selected stacks g) ≡ q ∷ rs' → selected stacks' g ≡ items_cut t (selected stacks g)) → items_only t (joined_if b x (selected stacks g)) ≡ q ∷ rs → joined_if (stands n (stacks' u)) x (selected stacks' g) ≡ items_cut t (joined_if b x (selected stacks g))
+    pop_step : (u n : ℕ) (x : Item y) (g : History y) (rs : Items y) (k b : Bool) → (u == t) ≡ k → stands n (stacks u) ≡ b → transaction_of x ≡ u → place x ≡ n → length g ≡ n → ((rs' : Items y) → items_only t (selected stacks g) ≡ q ∷ rs' → selected stacks' g ≡ items_cut t (selected stacks g)) → items_only t (joined_if b x (selected stacks g)) ≡ q ∷ rs → joined_if (stands n (stacks' u)) x (selected stacks' g) ≡ items_cut t (joined_if b x (selected stacks g))
     pop_step u n x g rs true true k b ox px len i e =
-        let own : (item_owner x == t) ≡ true = ap (λ v. v == t) ox ∙ k in
+        let own : (transaction_of x == t) ≡ true = ap (λ v. v == t) ox ∙ k in
         let e' = rw own at e in
         let xq : x ≡ q = cc e' in
         let pq : place q ≡ n = sym (ap place xq) ∙ px in
@@ -107,7 +104,7 @@ module _ (y : System) where
         let st : stands n (stacks' u) ≡ false = ap (λ v. stands n (stacks' v)) v ∙ ap (stands n) now ∙ or_second (place q == n) (stands n l) at in
         rw st (i rs e)
     pop_step u n x g rs false true k b ox px len i e =
-        let own : (item_owner x == t) ≡ false = ap (λ v. v == t) ox ∙ k in
+        let own : (transaction_of x == t) ≡ false = ap (λ v. v == t) ox ∙ k in
         let st : stands n (stacks' u) ≡ true = ap (stands n) (same u k) ∙ b in
         rw (st, own) (ap (λ r. x ∷ r) (i rs (rw own at e)))
     pop_step u n x g rs false false k b ox px len i e =

@@ -58,7 +58,7 @@ module _ (y : System) (laws : SystemLaws y) (o : y.State) where
   sink x [] b h = same_refl (x ∷ b)
   sink x (z ∷ a) b h = same_trans _ _ _ (same_swap x z (a ++ b) h.0) (same_cons z _ _ (sink x a b h.1))
 
-  gather_step : (x : Entry y) (ts qs ps : List (Entry y)) (b c : Bool) → (b ≡ true → c ≡ false) → (b ≡ false → FreeOf y x ts) → Same y o ps (ts ++ qs) → Same y o (joined_if (b || c) x ps) (joined_if b x ts ++ joined_if c x qs)
+  pub gather_step : (x : Entry y) (ts qs ps : List (Entry y)) (b c : Bool) → (b ≡ true → c ≡ false) → (b ≡ false → FreeOf y x ts) → Same y o ps (ts ++ qs) → Same y o (joined_if (b || c) x ps) (joined_if b x ts ++ joined_if c x qs)
   gather_step x ts qs ps true true n h i = absurd (cc (n refl))
   gather_step x ts qs ps true false n h i = same_cons x _ _ i
   gather_step x ts qs ps false true n h i = same_trans _ _ _ (same_cons x _ _ i) (sink x ts qs (h refl))

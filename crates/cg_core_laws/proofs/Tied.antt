@@ -14,7 +14,7 @@ use Rattle.cg_core_laws.proofs.Tests.{eq_sym, false_if}
 use Rattle.cg_core_laws.proofs.Trace.{owner, Runs, state, only, skip, cut}
 use Rattle.cg_core_laws.proofs.Log.{Log}
 use Rattle.cg_core_laws.proofs.Cuts.{cut_keep, cut_own}
-use Rattle.cg_core_laws.proofs.Past.{item_owner, items_only, items_cut, Down, down_live, down_none, down_behind, selected_same, selected_pop}
+use Rattle.cg_core_laws.proofs.Past.{transaction_of, items_only, items_cut, Down, down_live, down_none, down_behind, selected_same, selected_pop}
 
 -- the stacks of a history, but t's is l
 abbrev pub over : {y : System} → ℕ → Items y → History y → ℕ → Items y
@@ -38,11 +38,11 @@ pub record Midway (y : System) (o : y.State) (t : ℕ) (h : History y) (log : Li
   pub entries_true : EntriesTrue y o log
 
 module _ (y : System) (o : y.State) where
-  owner_as_item : (x : Entry y) → item_owner (as_item x) ≡ owner x
+  pub owner_as_item : (x : Entry y) → transaction_of (as_item x) ≡ owner x
   owner_as_item (Did t h c a d f) = refl
   owner_as_item (Mark t h n) = refl
 
-  as_items_put : (b : Bool) (x : Entry y) (l : List (Entry y)) → as_items (joined_if b x l) ≡ joined_if b (as_item x) (as_items l)
+  pub as_items_put : (b : Bool) (x : Entry y) (l : List (Entry y)) → as_items (joined_if b x l) ≡ joined_if b (as_item x) (as_items l)
   as_items_put true x l = refl
   as_items_put false x l = refl
 

@@ -16,6 +16,7 @@ use Rattle.cg_model.specs.Room.{inverse}
 use Rattle.cg_model_laws.specs.Laws.{KeysDontTouch}
 use Rattle.cg_core_laws.specs.Room.{RoomKept, CommitSweeps}
 use Rattle.cg_core_laws.specs.Stacks.{IsOfHistory}
+use Rattle.cg_core_laws.specs.Reordered.{DropsOut, PulledToTheFront}
 use Rattle.cg_core_laws.specs.Headline.{AreProper, IsSerial, IsFaithful, GoesBack, OthersStay, CommitsStay}
 
 -- what holds after every list of steps of any sessions, interleaved in any way, from any sound tree, whatever the limit
@@ -63,6 +64,14 @@ LiveKeysApart opening m = (t u : ℕ) → among t (numbers (opens m.history)) �
 
 abbrev pub KeysOfOthersApart : Type 0
 KeysOfOthersApart = AfterAnySteps LiveKeysApart
+
+-- a command that nothing later clashes with can be taken out of a run
+abbrev pub Drop : Type 0
+Drop = (opening : Tree) → DropsOut cgroups opening
+
+-- any order of open transactions is reached by pulling them to the front, one after another
+abbrev pub Front : Type 0
+Front = AfterAnySteps (λ opening m. PulledToTheFront cgroups opening m)
 
 -- every live inverse has room when its turn comes, and what nobody needs may be swept
 abbrev pub Roomy : Type 0

@@ -1,6 +1,7 @@
 pub mod Unwind
 pub mod Headline
 pub mod Stacks
+pub mod Reordered
 pub mod Room
 pub mod Scripts
 pub mod Laws

@@ -3,13 +3,25 @@
 #![tactic(auto)]
 
 ghost use Rattle.cg_core_laws.specs.Scripts.{CommittedScripts, CommitTrees, TreesOfScripts};
-ghost use Rattle.cg_core_laws.specs.Laws.{BusyExactly, CommitsKept, Faithful, GoingBack, KeysOfOthersApart, LimitKept, OfHistory, OthersUntouched, Roomy, Serial, Sweeping};
+ghost use Rattle.cg_core_laws.specs.Laws.{BusyExactly, CommitsKept, Drop, Faithful, Front, GoingBack, KeysOfOthersApart, LimitKept, OfHistory, OthersUntouched, Roomy, Serial, Sweeping};
 
 /// The tree is the opening tree changed by the surviving commands alone; every inverse fits when its turn comes, in
 /// whatever interleaving open transactions are unwound; and the committed transactions in commit order, then each open one
 /// in any order, are accepted with their recorded answers and give the tree.
 pub fn transactions_are_serial()
     ensures { Serial }
+{}
+
+/// A command that nothing later clashes with can be taken out of a run: the others are accepted with the same answers, and
+/// lead to the tree with its inverse undone.
+pub fn commands_drop_out_of_runs()
+    ensures { Drop }
+{}
+
+/// Any order of the open transactions is reached by pulling them to the front, one after another: at every stage the whole
+/// is accepted with the recorded answers, and gives the tree.
+pub fn open_transactions_are_pulled_to_the_front()
+    ensures { Front }
 {}
 
 /// The history is legal, every answer is the one that the history gives, Busy names the least transaction in the way, and

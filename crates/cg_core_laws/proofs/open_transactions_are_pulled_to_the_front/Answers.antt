@@ -1,0 +1,10 @@
+use Rattle.cg_model.specs.Cgroups.{cgroups}
+use Rattle.cg_core_laws.specs.Reordered.{PulledToTheFront}
+use Rattle.cg_core_laws.proofs.CgroupsLaws.{laws}
+use Rattle.cg_core_laws.proofs.Theorem.{by_log}
+use Rattle.cg_core_laws.proofs.Front.{pulled_to_the_front}
+use Rattle.cg_core_laws.proofs.open_transactions_are_pulled_to_the_front.Goals as goal
+
+pub returns : goal.returns
+returns c opening limit requests sound proper =
+    by_log cgroups laws opening sound limit requests proper (PulledToTheFront cgroups opening) (λ c i. pulled_to_the_front cgroups laws opening c i.kept i.tied)
