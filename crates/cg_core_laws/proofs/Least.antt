@@ -17,7 +17,7 @@ abbrev pub Falls : ℕ → Opens → Type 0
 Falls n [] = Unit {0}
 Falls n (p ∷ ps) = (p.1 < n) × Falls p.1 ps
 
-falls_more : (n m : ℕ) (ps : Opens) → n ≤ m → Falls n ps → Falls m ps
+pub falls_more : (n m : ℕ) (ps : Opens) → n ≤ m → Falls n ps → Falls m ps
 falls_more n m [] le f = tt
 falls_more n m (p ∷ ps) le f = (omega (arith, f.0), f.1)
 

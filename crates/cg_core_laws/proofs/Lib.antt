@@ -26,6 +26,8 @@ mod Faithful
 mod GoingBack
 mod Theorem
 mod Scripts
+mod Sessions
+mod Ends
 mod CgroupsLaws
 mod BusyExact
 mod KeysOfOthers

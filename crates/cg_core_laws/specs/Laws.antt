@@ -12,10 +12,12 @@ use Rattle.cg_model.specs.Opens.{numbers, among, without, transaction_in, opens}
 use Rattle.cg_model.specs.Live.{live}
 use Rattle.cg_model.specs.Reply.{clashes_with, is_full}
 use Rattle.cg_model.specs.Machine.{Machine, opened, step, steps}
+use Rattle.cg_model.specs.Output.{answers}
 use Rattle.cg_model.specs.Room.{inverse}
 use Rattle.cg_model_laws.specs.Laws.{KeysDontTouch}
 use Rattle.cg_core_laws.specs.Room.{RoomKept, CommitSweeps}
 use Rattle.cg_core_laws.specs.Stacks.{IsOfHistory}
+use Rattle.cg_core_laws.specs.Ends.{EndsAll}
 use Rattle.cg_core_laws.specs.Reordered.{DropsOut, PulledToTheFront}
 use Rattle.cg_core_laws.specs.Headline.{AreProper, IsSerial, IsFaithful, GoesBack, OthersStay, CommitsStay}
 
@@ -72,6 +74,14 @@ Drop = (opening : Tree) → DropsOut cgroups opening
 -- any order of open transactions is reached by pulling them to the front, one after another
 abbrev pub Front : Type 0
 Front = AfterAnySteps (λ opening m. PulledToTheFront cgroups opening m)
+
+-- the machine after requests that are answered is the one after these steps
+abbrev pub AnswersAreSteps : Type 0
+AnswersAreSteps = (m : Machine cgroups) (requests : List (ℕ × Request cgroups)) → (answers cgroups m requests).1 ≡ steps cgroups m requests
+
+-- at the end of a schedule the aborts are accepted, nothing is open after them, and what was committed is left
+abbrev pub SchedulesEnd : Type 0
+SchedulesEnd = AfterAnySteps (λ opening m. EndsAll cgroups opening m)
 
 -- every live inverse has room when its turn comes, and what nobody needs may be swept
 abbrev pub Roomy : Type 0

@@ -4,4 +4,5 @@ pub mod Stacks
 pub mod Reordered
 pub mod Room
 pub mod Scripts
+pub mod Ends
 pub mod Laws

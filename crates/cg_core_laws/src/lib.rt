@@ -3,7 +3,7 @@
 #![tactic(auto)]
 
 ghost use Rattle.cg_core_laws.specs.Scripts.{CommittedScripts, CommitTrees, TreesOfScripts};
-ghost use Rattle.cg_core_laws.specs.Laws.{BusyExactly, CommitsKept, Drop, Faithful, Front, GoingBack, KeysOfOthersApart, LimitKept, OfHistory, OthersUntouched, Roomy, Serial, Sweeping};
+ghost use Rattle.cg_core_laws.specs.Laws.{AnswersAreSteps, BusyExactly, CommitsKept, Drop, Faithful, Front, GoingBack, KeysOfOthersApart, LimitKept, OfHistory, OthersUntouched, Roomy, SchedulesEnd, Serial, Sweeping};
 
 /// The tree is the opening tree changed by the surviving commands alone; every inverse fits when its turn comes, in
 /// whatever interleaving open transactions are unwound; and the committed transactions in commit order, then each open one
@@ -63,6 +63,13 @@ pub fn commits_are_scripts()
 pub fn commit_trees_are_those_of_scripts()
     ensures later { CommitTrees }
     ensures scripts { TreesOfScripts }
+{}
+
+/// At the end of a schedule the aborts of what is still open are accepted, nothing is open after them, and the tree is what
+/// the committed work alone gives.
+pub fn schedules_end_with_nothing_open()
+    ensures steps { AnswersAreSteps }
+    ensures end { SchedulesEnd }
 {}
 
 /// `busy` is answered exactly where another open transaction holds a clashing mark and no earlier refusal applies, and names
