@@ -1,4 +1,4 @@
--- The text of operations that are apart spells them.
+-- The text of operations spells them.
 use Rattle.std.proofs.Common.{◌≡◌, Bool, true, false, cond, not, ◌||◌, List, [], ◌∷◌, map, filter, get_or, refl, sym, ap, subst, ◌∙◌}
 use Rattle.std.specs.List.{All, list_all, join_with_byte}
 use Rattle.std.proofs.lemmas.List.Splits.{slice_split_none, slice_split_at}
@@ -8,10 +8,11 @@ use Rattle.cg_name.specs.Controller.{controller_word}
 use Rattle.cg_name.specs.declared.controller.Controller.{Controller}
 use Rattle.cg_name.specs.declared.controller.Controller.TheVariants.{Cpuset, Cpu, Io, Memory, Hugetlb, Pids, Rdma, Misc}
 use Rattle.cg_text.specs.Controllers.{has, all_controllers, no_controllers}
-use Rattle.cg_text.specs.Laws.{AreApart, OpsAreSpelled}
-use Rattle.cg_text.specs.Reading.{blank_words, sign_byte, SpellsOpsAfter, with_op}
+use Rattle.cg_text.specs.Laws.{OpsAreSpelled}
+use Rattle.cg_text.specs.Reading.{blank_words, no_ops, sign_byte, SpellsOpsAfter, with_op}
 use Rattle.cg_text.specs.Words.{Word, is_filled}
 use Rattle.cg_text.specs.declared.control_ops.ControlOps.{ControlOps}
+use Rattle.cg_text.proofs.Operations.{same_ops}
 use Rattle.cg_text.proofs.Sets.{has_none, has_with, has_without, is, same_set}
 
 -- no byte of a name is a blank
@@ -35,9 +36,6 @@ no_blanks enables c = λ k d l. other (is_blank (get_or (cond enables 43 45 ∷ 
     other : (b : Bool) → not b ≡ true → b ≡ false
     other true e = sym e
     other false e = refl
-
-abbrev none : ControlOps
-none = record { plus = no_controllers; minus = no_controllers }
 
 module _ (ops : ControlOps) where
   abbrev word : Controller → Word
@@ -134,32 +132,32 @@ module _ (ops : ControlOps) where
   one_turn w Rdma b = refl
   one_turn w Misc b = refl
 
-  plus_is : (d : Controller) → has (set_all all_controllers none).plus d ≡ has ops.plus d
-  plus_is d = all_plus d all_controllers none ∙ one_turn (has ops.plus) d (has no_controllers d) ∙ ap (cond (is_named d) (has ops.plus d)) (has_none d) ∙ named_only (has ops.plus d) (has ops.minus d)
+  plus_is : (d : Controller) → has (set_all all_controllers no_ops).plus d ≡ has ops.plus d
+  plus_is d = all_plus d all_controllers no_ops ∙ one_turn (has ops.plus) d (has no_controllers d) ∙ ap (cond (is_named d) (has ops.plus d)) (has_none d) ∙ named_only (has ops.plus d) (has ops.minus d)
     where
       named_only : (p m : Bool) → cond (p || m) p false ≡ p
       named_only true m = refl
       named_only false true = refl
       named_only false false = refl
 
-  minus_is : AreApart ops → (d : Controller) → has (set_all all_controllers none).minus d ≡ has ops.minus d
-  minus_is h d = all_minus d all_controllers none ∙ one_turn (λ c. not (has ops.plus c)) d (has no_controllers d) ∙ ap (cond (is_named d) (not (has ops.plus d))) (has_none d) ∙ named_only (has ops.plus d) (has ops.minus d) (h d)
+  minus_is : (d : Controller) → has (set_all all_controllers no_ops).minus d ≡ has ops.minus d
+  minus_is d = all_minus d all_controllers no_ops ∙ one_turn (λ c. not (has ops.plus c)) d (has no_controllers d) ∙ ap (cond (is_named d) (not (has ops.plus d))) (has_none d) ∙ named_only (has ops.plus d) (has ops.minus d) (ops.apart d)
     where
       named_only : (p m : Bool) → (p ≡ true → m ≡ false) → cond (p || m) (not p) false ≡ m
       named_only true m k = sym (k refl)
       named_only false true k = refl
       named_only false false k = refl
 
-  all_set : AreApart ops → set_all all_controllers none ≡ ops
-  all_set h = λ i. record {
-    plus = same_set (set_all all_controllers none).plus ops.plus plus_is i;
-    minus = same_set (set_all all_controllers none).minus ops.minus (minus_is h) i;
-  }
+  all_set : set_all all_controllers no_ops ≡ ops
+  all_set =
+      same_ops (set_all all_controllers no_ops) ops
+      (same_set (set_all all_controllers no_ops).plus ops.plus plus_is)
+      (same_set (set_all all_controllers no_ops).minus ops.minus minus_is)
 
-  ops_spelled : AreApart ops → SpellsOpsAfter none (blank_words (join_with_byte 32 (map word (filter is_named all_controllers)))) ops
-  ops_spelled h =
-      subst (λ ws. SpellsOpsAfter none ws ops) (sym (cut (filter is_named all_controllers)))
-      (subst (SpellsOpsAfter none (map word (filter is_named all_controllers))) (after_named all_controllers none ∙ all_set h) (spelled (filter is_named all_controllers) none))
+  ops_spelled : SpellsOpsAfter no_ops (blank_words (join_with_byte 32 (map word (filter is_named all_controllers)))) ops
+  ops_spelled =
+      subst (λ ws. SpellsOpsAfter no_ops ws ops) (sym (cut (filter is_named all_controllers)))
+      (subst (SpellsOpsAfter no_ops (map word (filter is_named all_controllers))) (after_named all_controllers no_ops ∙ all_set) (spelled (filter is_named all_controllers) no_ops))
 
 pub ops_are_spelled : OpsAreSpelled
-ops_are_spelled ops h = ops_spelled ops h
+ops_are_spelled ops = ops_spelled ops

@@ -9,6 +9,7 @@ pub mod Lines
 pub mod WrittenLines
 mod Appending
 pub mod Sets
-mod Operations
+pub mod Operations
+pub mod Limits
 mod Spelled
 mod Canonical

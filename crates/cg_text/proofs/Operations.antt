@@ -3,13 +3,24 @@ use Rattle.std.proofs.Common.{◌≡◌, ℕ, ◌+◌, ◌<◌, ◌==◌, ◌↔
 use Rattle.std.specs.Iterator.{Yields}
 use Rattle.std.specs.Str.{IsUtf8}
 use Rattle.std.proofs.lemmas.Iterator.{YieldsList}
+use mathlib.Core.HLevel.{Σ_prop_path}
+use Rattle.std.proofs.Math.Bool.{Bool-set}
 use Rattle.std.proofs.lemmas.Iterator.Consumers.{YieldsList-turn, YieldsList-end}
 use Rattle.cg_name.specs.Controller.{controller_word}
 use Rattle.cg_name.specs.declared.controller.Controller.{Controller}
 use Rattle.cg_name.specs.declared.controller.Controller.TheVariants.{Cpuset, Cpu, Io, Memory, Hugetlb, Pids, Rdma, Misc}
+use Rattle.cg_text.specs.Controllers.{AreApart}
+use Rattle.cg_text.specs.Laws.{OpsAreTheirSets}
 use Rattle.cg_text.specs.Reading.{sign_byte, with_op, SpellsOpsAfter}
 use Rattle.cg_text.specs.Words.{Word, is_filled}
 use Rattle.cg_text.specs.declared.control_ops.ControlOps.{ControlOps}
+use Rattle.cg_text.specs.declared.controllers.Controllers.{Controllers}
+
+-- operations with the same sets are one
+pub same_ops : OpsAreTheirSets
+same_ops o p e f =
+    let pairs : ◌≡◌ {A = (s : Controllers × Controllers) × AreApart s.0 s.1} ((o.plus, o.minus), o.apart) ((p.plus, p.minus), p.apart) = Σ_prop_path (λ s. hlevel Bool-set) (λ i. (e i, f i)) in
+    λ i. record { plus = (pairs i).0.0; minus = (pairs i).0.1; apart = (pairs i).1 }
 
 -- a word that enables or disables a controller
 abbrev pub op_word : Bool → Controller → Word

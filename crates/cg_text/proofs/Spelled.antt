@@ -1,5 +1,5 @@
 -- A text spells at most one value of each kind, and the texts of PIDs and limits spell them.
-use Rattle.std.proofs.Common.{◌≡◌, ℕ, ◌≤◌, ◌-◌, Bool, true, false, cond, List, [], ◌∷◌, ◌++◌, length, reverse, inl, refl, sym, ap, subst, ◌∙◌, true≢false, arith}
+use Rattle.std.proofs.Common.{◌≡◌, ℕ, ◌≤◌, ◌-◌, false, List, [], ◌∷◌, ◌++◌, length, reverse, inl, refl, sym, ap, subst, ◌∙◌, arith}
 use Rattle.std.specs.Fmt.{decimal}
 use Rattle.std.specs.Str.Parse.{AllDigits, IsNumeral, digits_value}
 use Rattle.std.proofs.lemmas.Bool.Decides.{nat_tests}
@@ -9,19 +9,14 @@ use Rattle.std.proofs.lemmas.Str.Parse.{digit_from_value, digit_at}
 use Rattle.cg_cpus.specs.Blanks.{starts_blank}
 use Rattle.cg_cpus.specs.CpuList.{is_blank, without_trailing_blanks, trimmed}
 use Rattle.cg_cpus.proofs.Trimmed.{front_end, last_test}
-use Rattle.cg_name.specs.declared.controller.Controller.{Controller}
-use Rattle.cg_text.specs.Controllers.{has, no_controllers}
-use Rattle.cg_text.specs.Laws.{AreApart, LimitIsSpelled, OneOps, OpsAreApart, PidIsSpelled}
-use Rattle.cg_text.specs.Reading.{blank_words, SpellsOpsAfter, with_op}
-use Rattle.cg_text.specs.Words.{Word}
-use Rattle.cg_text.specs.declared.control_ops.ControlOps.{ControlOps}
+use Rattle.cg_text.specs.Laws.{LimitIsSpelled, OneOps, PidIsSpelled}
+use Rattle.cg_text.specs.Reading.{blank_words, no_ops}
 use Rattle.cg_text.specs.declared.limit.Limit.TheVariants.{Max, UpTo}
 use Rattle.cg_text.proofs.Operations.{one_result}
 use Rattle.cg_text.proofs.TrimmedLines.{trimmed_line}
-use Rattle.cg_text.proofs.Sets.{has_none, has_with, has_without, is}
 
 pub one_ops : OneOps
-one_ops text x y h k = one_result (blank_words text) (record { plus = no_controllers; minus = no_controllers }) x y h k
+one_ops text x y h k = one_result (blank_words text) no_ops x y h k
 
 -- ---- PIDs and limits
 
@@ -51,29 +46,8 @@ pid_is_spelled k low high =
     (subst (IsNumeral 10) (sym is) numeral.0, ap (digits_value 10) is ∙ numeral.1, low, high)
 
 pub limit_is_spelled : LimitIsSpelled
-limit_is_spelled Max h = inl refl
-limit_is_spelled (UpTo n) h =
-    let numeral = decimal_is_IsNumeral n (omega arith) in
-    let is : trimmed (decimal n ++ 10 ∷ []) ≡ decimal n = line_of_digits (decimal n) numeral.0 in
-    (subst (IsNumeral 10) (sym is) numeral.0, ap (digits_value 10) is ∙ numeral.1, h)
-
--- ---- operations that are apart
-
-apart_after : (enables : Bool) (d : Controller) (ops : ControlOps) → AreApart ops → AreApart (with_op enables d ops)
-apart_after true d ops h c e = has_without d c ops.minus ∙ at (is d c) (sym (has_with d c ops.plus) ∙ e)
-  where
-    at : (same : Bool) → cond same true (has ops.plus c) ≡ true → cond same false (has ops.minus c) ≡ false
-    at true k = refl
-    at false k = h c k
-apart_after false d ops h c e = has_with d c ops.minus ∙ at (is d c) (sym (has_without d c ops.plus) ∙ e)
-  where
-    at : (same : Bool) → cond same false (has ops.plus c) ≡ true → cond same true (has ops.minus c) ≡ false
-    at true k = absurd (true≢false (sym k))
-    at false k = h c k
-
-apart_spelled : (ws : List Word) (ops all : ControlOps) → AreApart ops → SpellsOpsAfter ops ws all → AreApart all
-apart_spelled [] ops all h k = subst AreApart (sym k) h
-apart_spelled (w ∷ ws) ops all h k = apart_spelled ws (with_op k.0 k.1 ops) all (apart_after k.0 k.1 ops h) k.3
-
-pub ops_are_apart : OpsAreApart
-ops_are_apart text ops k = apart_spelled (blank_words text) (record { plus = no_controllers; minus = no_controllers }) ops (λ c e. has_none c) k
+limit_is_spelled Max = inl refl
+limit_is_spelled (UpTo most) =
+    let numeral = decimal_is_IsNumeral most.number (omega (arith, most.in_range)) in
+    let is : trimmed (decimal most.number ++ 10 ∷ []) ≡ decimal most.number = line_of_digits (decimal most.number) numeral.0 in
+    (subst (IsNumeral 10) (sym is) numeral.0, ap (digits_value 10) is ∙ numeral.1)

@@ -63,3 +63,7 @@ is_within s t = list_all (λ c. not (has s c) || has t c) all_controllers
 -- every controller of the first set is in the second
 abbrev pub IsWithin : Controllers → Controllers → Type 0
 IsWithin s t = (c : Controller) → has s c ≡ true → has t c ≡ true
+
+-- no controller is in both sets
+abbrev pub AreApart : Controllers → Controllers → Type 0
+AreApart s t = (c : Controller) → has s c ≡ true → has t c ≡ false

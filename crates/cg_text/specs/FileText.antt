@@ -44,7 +44,7 @@ cpus_line s = line_text (cpus_text s)
 
 abbrev pub limit_word : Limit → List ℕ
 limit_word Max = codes "max"
-limit_word (UpTo n) = decimal n
+limit_word (UpTo most) = decimal most.number
 
 abbrev pub limit_text : Limit → List ℕ
 limit_text l = line_text (limit_word l)

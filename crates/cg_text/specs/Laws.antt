@@ -1,19 +1,18 @@
 -- The laws of interface texts, for contracts to cite.
-use Rattle.std.specs.Prelude.{◌≡◌, ℕ, ◌≤◌, Bool, true, false, List, Option}
+use Rattle.std.specs.Prelude.{◌≡◌, ℕ, ◌≤◌, Bool, true, List, Option}
 use Rattle.std.specs.List.{AllByRecursion}
 use Rattle.std.specs.Fmt.{decimal}
 use Rattle.cg_maps.specs.FiniteSet.{FiniteSet}
 use Rattle.cg_maps.specs.FiniteSet as sets
 use Rattle.cg_cpus.specs.CpuList.{SpellsCpus}
-use Rattle.cg_name.specs.declared.controller.Controller.{Controller}
-use Rattle.cg_text.specs.Controllers.{has}
+use Rattle.cg_text.specs.Controllers.{AreApart}
 use Rattle.cg_text.specs.FileText.{line_text, cpus_line, flag_text, limit_text, ops_text}
+use Rattle.cg_text.specs.Limit.{number_of}
 use Rattle.cg_text.specs.Words.{Line, Word, lines_of, Cuts, Says, SayAll, text_of, IsWrittenLine}
 use Rattle.cg_text.specs.Reading.{SpellsFlag, SpellsPid, SpellsLimit, SpellsOps, file_word}
 use Rattle.cg_text.specs.declared.control_ops.ControlOps.{ControlOps}
 use Rattle.cg_text.specs.declared.file_name.FileName.{FileName}
 use Rattle.cg_text.specs.declared.limit.Limit.{Limit}
-use Rattle.cg_text.specs.declared.limit.Limit.TheVariants.{Max, UpTo}
 
 -- a text spells at most one value
 abbrev pub SpellsOne : {A : Type 0} → (List ℕ → A → Type 0) → Type 0
@@ -43,28 +42,27 @@ FlagIsSpelled = (b : Bool) → SpellsFlag (flag_text b) b
 abbrev pub PidIsSpelled : Type 0
 PidIsSpelled = (k : ℕ) → 1 ≤ k → k ≤ 4194303 → SpellsPid (line_text (decimal k)) k
 
--- a limit that the files can hold
-abbrev pub IsLimit : Limit → Type 0
-IsLimit Max = Unit {0}
-IsLimit (UpTo n) = n ≤ 2147483646
-
 abbrev pub LimitIsSpelled : Type 0
-LimitIsSpelled = (l : Limit) → IsLimit l → SpellsLimit (limit_text l) l
+LimitIsSpelled = (l : Limit) → SpellsLimit (limit_text l) l
+
+-- limits with one number are one
+abbrev pub LimitIsItsNumber : Type 0
+LimitIsItsNumber = (l m : Limit) → number_of l ≡ number_of m → l ≡ m
 
 -- the line of a set of numbers up to 1,023
 abbrev pub CpusAreSpelled : Type 0
 CpusAreSpelled = (s : FiniteSet) → ((n : ℕ) → sets.has s n ≡ true → n ≤ 1023) → SpellsCpus (cpus_line s) s
 
 -- no controller is both enabled and disabled
-abbrev pub AreApart : ControlOps → Type 0
-AreApart ops = (c : Controller) → has ops.plus c ≡ true → has ops.minus c ≡ false
-
--- the operations that a text spells are apart, and operations that are apart are spelled by their text
 abbrev pub OpsAreApart : Type 0
-OpsAreApart = (text : List ℕ) (ops : ControlOps) → SpellsOps text ops → AreApart ops
+OpsAreApart = (ops : ControlOps) → AreApart ops.plus ops.minus
+
+-- operations with the same sets are one
+abbrev pub OpsAreTheirSets : Type 0
+OpsAreTheirSets = (ops others : ControlOps) → ops.plus ≡ others.plus → ops.minus ≡ others.minus → ops ≡ others
 
 abbrev pub OpsAreSpelled : Type 0
-OpsAreSpelled = (ops : ControlOps) → AreApart ops → SpellsOps (ops_text ops) ops
+OpsAreSpelled = (ops : ControlOps) → SpellsOps (ops_text ops) ops
 
 -- a line is cut into words in one way at most
 abbrev pub OneCut : Type 0

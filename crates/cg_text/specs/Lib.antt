@@ -1,4 +1,6 @@
 pub mod Controllers
+pub mod Apart
+pub mod Limit
 pub mod Settings
 pub mod FileText
 pub mod Words

@@ -6,6 +6,7 @@ use Rattle.cg_name.specs.Controller.{controller_word}
 use Rattle.cg_name.specs.declared.controller.Controller.{Controller}
 use Rattle.cg_cpus.specs.CpuList.{is_blank, trimmed}
 use Rattle.cg_text.specs.Controllers.{with_controller, without_controller, no_controllers}
+use Rattle.cg_text.specs.Apart.{none_apart, apart_turned, apart_moved}
 use Rattle.cg_text.specs.FileText.{flag_word}
 use Rattle.cg_text.specs.Words.{Word, is_filled}
 use Rattle.cg_text.specs.declared.control_ops.ControlOps.{ControlOps}
@@ -25,16 +26,28 @@ SpellsPid text k = IsNumeral 10 (trimmed text) × (digits_value 10 (trimmed text
 -- `max`, or decimal digits, leading zeros allowed, of a value up to 2,147,483,647, which is `max` as well
 -- (Core Interface Files: cgroup.max.descendants, cgroup.max.depth)
 abbrev pub SpellsLimitTrimmed : List ℕ → Limit → Type 0
-SpellsLimitTrimmed word (UpTo n) = IsNumeral 10 word × (digits_value 10 word ≡ n) × (n ≤ 2147483646)
+SpellsLimitTrimmed word (UpTo most) = IsNumeral 10 word × (digits_value 10 word ≡ most.number)
 SpellsLimitTrimmed word Max = (word ≡ codes "max") ⊎ (IsNumeral 10 word × (digits_value 10 word ≡ 2147483647))
 
 abbrev pub SpellsLimit : List ℕ → Limit → Type 0
 SpellsLimit text l = SpellsLimitTrimmed (trimmed text) l
 
+-- no operation
+abbrev pub no_ops : ControlOps
+no_ops = record { plus = no_controllers; minus = no_controllers; apart = none_apart no_controllers }
+
 -- the operations with one more behind them: of several for one controller the last counts
 abbrev pub with_op : Bool → Controller → ControlOps → ControlOps
-with_op true c ops = record { plus = with_controller c ops.plus; minus = without_controller c ops.minus }
-with_op false c ops = record { plus = without_controller c ops.plus; minus = with_controller c ops.minus }
+with_op true c ops = record {
+  plus = with_controller c ops.plus;
+  minus = without_controller c ops.minus;
+  apart = apart_moved c ops.plus ops.minus ops.apart;
+}
+with_op false c ops = record {
+  plus = without_controller c ops.plus;
+  minus = with_controller c ops.minus;
+  apart = apart_turned _ _ (apart_moved c ops.minus ops.plus (apart_turned _ _ ops.apart));
+}
 
 -- the byte before a controller that is to be enabled, or disabled
 abbrev pub sign_byte : Bool → ℕ
@@ -52,7 +65,7 @@ blank_words text = filter is_filled (slice_split is_blank text)
 
 -- words that are operations, separated by spaces, tabs or newlines, possibly none (Core Interface Files: cgroup.subtree_control)
 abbrev pub SpellsOps : List ℕ → ControlOps → Type 0
-SpellsOps text ops = SpellsOpsAfter (record { plus = no_controllers; minus = no_controllers }) (blank_words text) ops
+SpellsOps text ops = SpellsOpsAfter no_ops (blank_words text) ops
 
 -- the name of an interface file
 abbrev pub file_word : FileName → List ℕ

@@ -1,22 +1,24 @@
 //! What is written to `cgroup.subtree_control`.
-ghost use Rattle.std.specs.Prelude.{◌≡◌};
-ghost use Rattle.cg_text.specs.Controllers.{no_controllers};
-ghost use Rattle.cg_text.specs.Reading.{with_op};
+ghost use Rattle.cg_text.specs.Controllers.{AreApart};
 
 use crate::controllers::Controllers;
 use cg_name::controller::Controller;
 
-/// The controllers to be enabled and those to be disabled.
+/// The controllers to be enabled and those to be disabled, none of them both.
 #[derive(Clone, Copy, Debug, PartialEq, Eq)]
 pub struct ControlOps {
     pub plus: Controllers,
     pub minus: Controllers,
+    pub ghost apart: { AreApart plus minus },
 }
 
 impl ControlOps {
+    ghost use Rattle.std.specs.Prelude.{◌≡◌};
+    ghost use Rattle.cg_text.specs.Reading.{no_ops, with_op};
+
     /// No operation.
     pub fn none() -> ControlOps
-        ensures { result ≡ record { plus = no_controllers; minus = no_controllers } }
+        ensures { result ≡ no_ops }
     {
         ControlOps {
             plus: Controllers::empty(),

@@ -1,5 +1,5 @@
 //! Laws of the texts of interface files, and of lines.
-ghost use Rattle.cg_text.specs.Laws.{CpusAreSpelled, FlagIsSpelled, LimitIsSpelled, OneCut, OneFile, OneFlag, OneLimit, OneOps, OnePid, OneSaying, OneText, OpsAreApart, OpsAreSpelled, PidIsSpelled, WrittenLinesSay};
+ghost use Rattle.cg_text.specs.Laws.{CpusAreSpelled, FlagIsSpelled, LimitIsItsNumber, LimitIsSpelled, OneCut, OneFile, OneFlag, OneLimit, OneOps, OnePid, OneSaying, OneText, OpsAreApart, OpsAreSpelled, OpsAreTheirSets, PidIsSpelled, WrittenLinesSay};
 
 /// A text spells at most one value of each kind.
 pub fn a_text_spells_at_most_one_value()
@@ -20,7 +20,7 @@ pub fn the_text_of_a_pid_spells_it()
     ensures { PidIsSpelled }
 {}
 
-/// The text of a limit of at most 2,147,483,646 or of none spells it.
+/// The text of a limit spells it.
 pub fn the_text_of_a_limit_spells_it()
     ensures { LimitIsSpelled }
 {}
@@ -30,12 +30,22 @@ pub fn the_text_of_cpus_spells_them()
     ensures { CpusAreSpelled }
 {}
 
-/// No controller is both enabled and disabled by the operations that a text spells.
-pub fn spelled_operations_are_apart()
+/// Limits with one number, or both with none, are one.
+pub fn a_limit_is_its_number()
+    ensures { LimitIsItsNumber }
+{}
+
+/// No controller is both enabled and disabled by operations.
+pub fn operations_are_apart()
     ensures { OpsAreApart }
 {}
 
-/// The text of operations that are apart spells them.
+/// Operations that enable and disable the same controllers are one.
+pub fn operations_are_their_sets()
+    ensures { OpsAreTheirSets }
+{}
+
+/// The text of operations spells them.
 pub fn the_text_of_operations_spells_them()
     ensures { OpsAreSpelled }
 {}

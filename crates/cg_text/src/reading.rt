@@ -69,7 +69,7 @@ pub fn read_limit(text: &str) -> Result<Limit, Refusal>
         return Err(Refusal::Syntax);
     }
     match word.parse::<u32>() {
-        Ok(number) if number < NO_LIMIT => Ok(Limit::UpTo(number)),
+        Ok(number) if number <= Limit::LAST => Ok(Limit::up_to(number)),
         Ok(number) if number == NO_LIMIT => Ok(Limit::Max),
         _ => Err(Refusal::Syntax),
     }

@@ -115,7 +115,7 @@ pub fn write_limit(limit: Limit, out: &mut Vec<u8>) -> Result<(), Refusal>
             out.extend_from_slice(b"max\n")?;
             Ok(())
         }
-        Limit::UpTo(number) => append_number(number, out),
+        Limit::UpTo(most) => append_number(most.number, out),
     }
 }
 
