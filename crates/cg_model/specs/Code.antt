@@ -1,31 +1,21 @@
 -- A tree is data: the code by which a proof tells trees apart.
-use Rattle.std.specs.Prelude.{◌≡◌, ℕ, zero, suc, Bool, refl}
-use Rattle.std.specs.Coded.{Coded, code_by, coded×, coded_ℕ, coded_bool, coded_list}
+use Rattle.std.specs.Prelude.{Bool, refl}
+use Rattle.std.specs.Coded.{Coded, code_by, coded×, coded_ℕ, coded_bool, coded_list, coded_option}
+use base.Stored.{coded_via}
 use Rattle.std.specs.Ordering.{nat_cmp}
 use Rattle.cg_maps.specs.Code.{map_code, set_code}
 use Rattle.cg_maps.specs.FiniteMap.{FiniteMap}
 use Rattle.cg_maps.specs.FiniteSet.{FiniteSet}
 use Rattle.cg_name.specs.Path.{Path, path_cmp}
+use Rattle.cg_text.specs.Limit.{number_of}
 use Rattle.cg_text.specs.declared.controllers.Controllers.{Controllers}
 use Rattle.cg_text.specs.declared.limit.Limit.{Limit}
-use Rattle.cg_text.specs.declared.limit.Limit.TheVariants.{Max, UpTo}
 use Rattle.cg_text.specs.declared.settings.Settings.{Settings}
+use Rattle.cg_text.proofs.Limits.{limit_is_its_number}
 use Rattle.cg_model.specs.Tree.{Tree}
 
-abbrev from_limit : Limit → ℕ
-from_limit Max = 0
-from_limit (UpTo n) = suc n
-
-abbrev to_limit : ℕ → Limit
-to_limit zero = Max
-to_limit (suc n) = UpTo n
-
-pub back_limit : (l : Limit) → to_limit (from_limit l) ≡ l
-back_limit Max = refl
-back_limit (UpTo n) = refl
-
 abbrev pub limit_code : Coded Limit
-limit_code = code_by ℕ coded_ℕ from_limit to_limit back_limit
+limit_code = coded_via (coded_option coded_ℕ) number_of limit_is_its_number
 
 abbrev pub controllers_code : Coded Controllers
 controllers_code =

@@ -2,14 +2,15 @@
 use Rattle.std.specs.Prelude.{◌≡◌, ◌⊎◌, ◌==◌, ℕ, Bool, cond, refl}
 use Rattle.std.proofs.Common.{inl, inr}
 use Rattle.std.specs.Coded.{Coded, code_by, coded×, coded⊎, coded_ℕ, coded_bool}
+use base.Stored.{coded_via}
 use Rattle.cg_maps.specs.Code.{set_code}
 use Rattle.cg_maps.specs.FiniteSet.{FiniteSet}
 use Rattle.cg_name.specs.Path.{Path}
 use Rattle.cg_text.specs.declared.control_ops.ControlOps.{ControlOps}
-use Rattle.cg_text.specs.declared.controllers.Controllers.{Controllers}
 use Rattle.cg_text.specs.declared.file_name.FileName.{FileName}
 use Rattle.cg_text.specs.declared.file_name.FileName.TheVariants as files
 use Rattle.cg_text.specs.declared.limit.Limit.{Limit}
+use Rattle.cg_text.proofs.Operations.{same_ops}
 use Rattle.cg_model.specs.Code.{limit_code, controllers_code, path_code}
 use Rattle.cg_model.specs.Command.{Command, Create, Remove, Migrate, Subtree, Freeze, Cpus, Show, Online, MaxDescendants, MaxDepth}
 
@@ -44,11 +45,7 @@ abbrev pub file_code : Coded FileName
 file_code = code_by ℕ coded_ℕ from_file to_file back_file
 
 abbrev pub ops_code : Coded ControlOps
-ops_code =
-    code_by (Controllers × Controllers) (coded× controllers_code controllers_code)
-    (λ ops. (ops.plus, ops.minus))
-    (λ p. record { plus = p.0; minus = p.1 })
-    (λ _. refl)
+ops_code = coded_via (coded× controllers_code controllers_code) (λ ops. (ops.plus, ops.minus)) (λ ops others e. same_ops ops others (λ i. (e i).0) (λ i. (e i).1))
 
 abbrev CommandSum : Type 0
 CommandSum =

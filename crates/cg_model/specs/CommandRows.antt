@@ -3,11 +3,10 @@ use Rattle.std.specs.Prelude.{◌≡◌, true, [], ◌∷◌, ◌++◌, codes}
 use Rattle.cg_name.specs.declared.controller.Controller.TheVariants as controllers
 use Rattle.cg_name.specs.declared.refusal.Refusal.TheVariants.{NoGroup, IsRoot, HasChildren, HasProcesses, NoProcess, Controlled, Unavailable, NoFile, TooMany, TooDeep, Exists, AlreadyOpen, NoTransaction}
 use Rattle.cg_text.specs.declared.file_name.FileName.TheVariants as files
-use Rattle.cg_text.specs.declared.limit.Limit.TheVariants.{UpTo}
 use Rattle.cg_model.specs.System.{Done, Text}
 use Rattle.cg_model.specs.Command.{Create, Remove, Migrate, Subtree, Freeze, Cpus, Show, Online, MaxDescendants, MaxDepth}
 use Rattle.cg_model.specs.History.{Begin, Do, Undo, Commit, Abort, Begun, Gave, Committed, Aborted, Refused}
-use Rattle.cg_model.specs.Rows.{play, w0, w0_with, cpus_below, cpus_of, /a, /b, /z, /a/b, /b/c, cpuset_alone, cpu_alone, io_alone, enable, disable, passing_on, by}
+use Rattle.cg_model.specs.Rows.{play, w0, w0_with, cpus_below, cpus_of, /a, /b, /z, /a/b, /b/c, cpuset_alone, cpu_alone, io_alone, enable, disable, up_to_0, up_to_1, passing_on, by}
 
 -- what isn't enabled may be disabled, what isn't available can't be enabled
 abbrev pub Enabling : Type 0
@@ -49,8 +48,8 @@ MigrateAndRemove =
 -- limits on descendants and on depth
 abbrev pub Limits : Type 0
 Limits =
-    play w0 (by 1 (Begin ∷ Do (MaxDescendants [] (UpTo 0)) ∷ Do (Create /a) ∷ Do (Show [] files.MaxDescendants) ∷ Undo ∷ Undo ∷ Do (Create /a) ∷ Do (MaxDepth [] (UpTo 0)) ∷ Do (Create /b)
-    ∷ Do (MaxDescendants [] (UpTo 1)) ∷ Do (Create /b) ∷ Abort ∷ []))
+    play w0 (by 1 (Begin ∷ Do (MaxDescendants [] up_to_0) ∷ Do (Create /a) ∷ Do (Show [] files.MaxDescendants) ∷ Undo ∷ Undo ∷ Do (Create /a) ∷ Do (MaxDepth [] up_to_0) ∷ Do (Create /b)
+    ∷ Do (MaxDescendants [] up_to_1) ∷ Do (Create /b) ∷ Abort ∷ []))
     ≡ (Begun 1 ∷ Gave Done ∷ Refused TooMany ∷ Gave (Text (codes "0\n")) ∷ Gave Done ∷ Gave Done ∷ Gave Done ∷ Gave Done ∷ Refused TooDeep ∷ Gave Done ∷ Refused TooMany ∷ Aborted 1 ∷ [], w0)
 
 -- the refusals of one session, and of another that has no transaction

@@ -18,12 +18,12 @@ use Rattle.cg_model.specs.Command.{Effect}
 -- n descendants are as many as the limit allows, or more (Core Interface Files: cgroup.max.descendants)
 abbrev pub reaches : Limit → ℕ → Bool
 reaches Max n = false
-reaches (UpTo most) n = nat_le most n
+reaches (UpTo most) n = nat_le most.number n
 
 -- d levels are more than the limit allows (Core Interface Files: cgroup.max.depth)
 abbrev pub exceeds : Limit → ℕ → Bool
 exceeds Max d = false
-exceeds (UpTo most) d = nat_lt most d
+exceeds (UpTo most) d = nat_lt most.number d
 
 abbrev pub is_full : Option Settings → ℕ → Bool
 is_full None n = false

@@ -1,15 +1,19 @@
 -- Worked runs of the machine on a small world, by computation: how they are written.
 use Rattle.std.specs.Prelude.{ℕ, Bool, true, List, [], ◌∷◌, map, codes}
+use Rattle.std.proofs.Common.{lit≤}
 use Rattle.std.specs.Ordering.{nat_cmp}
 use Rattle.std.specs.Fmt.{digits}
 use Rattle.cg_maps.specs.FiniteMap.{FiniteMap, empty, checked, get, insert, retain, entries, keys, len, set_at, domain, from_entries}
 use Rattle.cg_maps.specs.FiniteSet.{FiniteSet, members, in_common, with_member, set_of, such_that_below}
 use Rattle.cg_name.specs.Name.{same_name}
 use Rattle.cg_name.specs.Path.{Path, path_cmp, same_path}
+use Rattle.cg_text.specs.Apart.{none_apart, apart_turned}
 use Rattle.cg_text.specs.Controllers.{no_controllers}
 use Rattle.cg_text.specs.Settings.{fresh}
 use Rattle.cg_text.specs.declared.control_ops.ControlOps.{ControlOps}
 use Rattle.cg_text.specs.declared.controllers.Controllers.{Controllers}
+use Rattle.cg_text.specs.declared.limit.Limit.{Limit}
+use Rattle.cg_text.specs.declared.limit.Limit.TheVariants.{UpTo}
 use Rattle.cg_text.specs.declared.settings.Settings.{Settings}
 use Rattle.cg_model.specs.Tree.{Tree}
 use Rattle.cg_model.specs.Derived.{children, descendants, processes, processes_below}
@@ -118,10 +122,17 @@ io_alone = record no_controllers { io = true }
 
 -- enable a set, disable a set
 abbrev pub enable : Controllers → ControlOps
-enable s = record { plus = s; minus = no_controllers }
+enable s = record { plus = s; minus = no_controllers; apart = apart_turned _ _ (none_apart s) }
 
 abbrev pub disable : Controllers → ControlOps
-disable s = record { plus = no_controllers; minus = s }
+disable s = record { plus = no_controllers; minus = s; apart = none_apart s }
+
+-- limits that allow nothing, and one
+abbrev pub up_to_0 : Limit
+up_to_0 = UpTo (record { number = 0; in_range = lit≤ tt })
+
+abbrev pub up_to_1 : Limit
+up_to_1 = UpTo (record { number = 1; in_range = lit≤ tt })
 
 -- a group with this control, and nothing else but what a new one has
 abbrev pub passing_on : Controllers → Settings

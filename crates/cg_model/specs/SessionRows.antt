@@ -4,12 +4,12 @@ use Rattle.cg_name.specs.Path.{Path}
 use Rattle.cg_name.specs.declared.refusal.Refusal.TheVariants.{Busy, NothingToUndo, HasProcesses, TooMany, TooDeep}
 use Rattle.cg_text.specs.Settings.{fresh}
 use Rattle.cg_text.specs.declared.file_name.FileName.TheVariants as files
-use Rattle.cg_text.specs.declared.limit.Limit.TheVariants.{Max, UpTo}
+use Rattle.cg_text.specs.declared.limit.Limit.TheVariants.{Max}
 use Rattle.cg_text.specs.declared.settings.Settings.{Settings}
 use Rattle.cg_model.specs.System.{Done, Text}
 use Rattle.cg_model.specs.Command.{Command, Create, Remove, Migrate, Subtree, Show, Online, MaxDescendants, MaxDepth}
 use Rattle.cg_model.specs.History.{Begin, Do, Undo, Commit, Abort, Answer, Begun, Gave, Committed, Aborted, Refused}
-use Rattle.cg_model.specs.Rows.{Asked, play, play_to_end, w0, w0_with, cpus_below, /a, /b, /a/b, /a/c, cpu_alone, enable, passing_on, by}
+use Rattle.cg_model.specs.Rows.{Asked, play, play_to_end, w0, w0_with, cpus_below, /a, /b, /a/b, /a/c, cpu_alone, enable, up_to_1, passing_on, by}
 
 -- the sessions
 abbrev pub A : ℕ
@@ -84,14 +84,14 @@ CommitOrder =
 
 -- a group with a limit on descendants, and a group x in it
 abbrev limited : List (Path × Settings)
-limited = ([], fresh) ∷ (/a, record fresh { max_descendants = UpTo 1 }) ∷ (/a/b, fresh) ∷ []
+limited = ([], fresh) ∷ (/a, record fresh { max_descendants = up_to_1 }) ∷ (/a/b, fresh) ∷ []
 
 -- the number of descendants is locked where it is limited, though the groups are apart
 abbrev pub CountsAreLocked : Type 0
 CountsAreLocked =
     (play (w0_with limited at_root)
     ((A, Begin) ∷ (B, Begin) ∷ (A, Do (Remove /a/b)) ∷ (B, Do (Create (codes "a" ∷ codes "z" ∷ []))) ∷ (A, Do (Create /a/c)) ∷ (A, Undo) ∷ (A, Undo)
-    ∷ by B (Do (Create /a/c) ∷ Do (MaxDescendants /a Max) ∷ Do (MaxDepth /a (UpTo 1)) ∷ Do (Create (codes "a" ∷ codes "b" ∷ codes "z" ∷ [])) ∷ Commit ∷ []) ++ (A, Abort) ∷ [])).0
+    ∷ by B (Do (Create /a/c) ∷ Do (MaxDescendants /a Max) ∷ Do (MaxDepth /a up_to_1) ∷ Do (Create (codes "a" ∷ codes "b" ∷ codes "z" ∷ [])) ∷ Commit ∷ []) ++ (A, Abort) ∷ [])).0
     ≡ Begun 1 ∷ Begun 2 ∷ done ∷ busy 1 ∷ done ∷ done ∷ done ∷ Refused TooMany ∷ done ∷ done ∷ Refused TooDeep ∷ Committed 1 ∷ Aborted 1 ∷ []
 
 -- two sessions may read the same group
