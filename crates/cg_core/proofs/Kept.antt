@@ -1,11 +1,10 @@
--- A created group leaves a world a world.
+-- A created group leaves a sound tree sound.
 use Rattle.std.proofs.Common.{◌≡◌, suc, ◌-◌, Bool, true, false, ◌&&◌, [], ◌∷◌, take, length, Option, Some, None, refl, sym, ap, subst, ◌∙◌, ◌⊎◌, inl, inr, true≢false, arith}
 use Rattle.cg_maps.specs.FiniteMap.{get, set_at, empty, keys}
 use Rattle.cg_maps.specs.FiniteSet.{is_empty_set, members}
 use Rattle.cg_maps.proofs.Maps.{cases, get_here, get_apart, is_same}
-use Rattle.cg_maps.proofs.Sets.{has-no_members}
 use Rattle.cg_name.specs.Name.{Name, same_name}
-use Rattle.cg_name.specs.Path.{Path, is_root, is_parent, IsPath}
+use Rattle.cg_name.specs.Path.{Path, is_root, is_parent}
 use Rattle.cg_name.specs.Order.{name_cmp_total, name_cmp_exact, path_cmp_total, path_cmp_exact}
 use Rattle.cg_text.specs.Settings.{fresh}
 use Rattle.cg_text.specs.Controllers.{has as has_controller, no_controllers}
@@ -17,7 +16,6 @@ use Rattle.cg_model.specs.Sound.{Sound, IsChildOf, admits}
 use Rattle.cg_model.specs.Command.{Create, IsAccepted}
 use Rattle.cg_model.specs.Effect.{effect}
 use Rattle.cg_model.specs.Groups.{create_effect, too_many, too_deep}
-use Rattle.cg_world.specs.World.{IsWorld, IsWorldSettings}
 use Rattle.cg_core.proofs.Creating.{created, parent_is}
 
 -- a parent's path is its child's without the last name
@@ -91,7 +89,7 @@ fresh_asks_nothing : is_empty_set fresh.cpus ≡ true
 unfolding members keys empty
 fresh_asks_nothing = refl
 
-module _ (T : Tree) (world : IsWorld T) (p : Path) (valid : IsPath p) (a : IsAccepted (effect (Create p) T)) where
+module _ (T : Tree) (is_sound : Sound T) (p : Path) (a : IsAccepted (effect (Create p) T)) where
   here : Found p (parent_group T p) (group T p)
   here = found p T a
 
@@ -122,25 +120,14 @@ module _ (T : Tree) (world : IsWorld T) (p : Path) (valid : IsPath p) (a : IsAcc
         let above : group T q ≡ Some here.parent.0 = sym (parent_found T q p (subst (λ x. is_parent q x ≡ true) new.0 e)) ∙ here.parent.1 in
         (here.parent.0, stays q here.parent.0 above, subst (IsChildOf here.parent.0) (sym new.1) (new_child here.parent.0))
     | inr old ↦
-        let before : (u : Settings) × (group T q ≡ Some u) × IsChildOf u s = world.sound.child q r s e old in
+        let before : (u : Settings) × (group T q ≡ Some u) × IsChildOf u s = is_sound.child q r s e old in
         (before.0, stays q before.0 before.1, before.2)
   ]
 
-  sound_kept : Sound (created p T)
+  pub sound_kept : Sound (created p T)
   sound_kept = record {
-    root = (world.sound.root.0, stays [] world.sound.root.0 world.sound.root.1, record { control = world.sound.root.2.control; freeze = world.sound.root.2.freeze; cpus = world.sound.root.2.cpus });
+    root = (is_sound.root.0, stays [] is_sound.root.0 is_sound.root.1, record { control = is_sound.root.2.control; freeze = is_sound.root.2.freeze; cpus = is_sound.root.2.cpus });
     child = child_kept;
-    process = λ k q e. let before : (s : Settings) × (group T q ≡ Some s) × (admits q s ≡ true) = world.sound.process k q e in (before.0, stays q before.0 before.1, before.2);
-    online = world.sound.online;
-  }
-
-  pub world_kept : IsWorld (created p T)
-  world_kept = record {
-    sound = sound_kept;
-    online = world.online;
-    groups = λ q s e. elim (was q s e) [
-      | inl new ↦ (subst IsPath (sym new.0) valid, subst IsWorldSettings (sym new.1) (record { cpus = λ n h. absurd (true≢false (sym h ∙ has-no_members n)); max_descendants = tt; max_depth = tt }))
-      | inr old ↦ world.groups q s old
-    ];
-    processes = world.processes;
+    process = λ k q e. let before : (s : Settings) × (group T q ≡ Some s) × (admits q s ≡ true) = is_sound.process k q e in (before.0, stays q before.0 before.1, before.2);
+    online = is_sound.online;
   }

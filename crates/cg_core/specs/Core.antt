@@ -1,10 +1,10 @@
 -- What the fields of a core mean in the model, and what holds of them.
 use Rattle.std.specs.Prelude.{ℕ, ◌≤◌, Option, Some, None, option_map}
+use Rattle.cg_model.specs.Sound.{Sound}
 use Rattle.cg_core.specs.declared.machine.Open.{Open}
 use Rattle.cg_core.specs.declared.machine.Core.TheInside.{Inside}
 use Rattle.cg_core.specs.Machine as model
 use Rattle.cg_core.specs.Machine.{Machine, places}
-use Rattle.cg_world.specs.World.{IsWorld}
 
 abbrev pub open_of : Open → model.Open
 open_of o = record { session = o.session.0; number = o.number.0; before = o.before; commands = o.commands }
@@ -15,11 +15,11 @@ machine_of c = record { opening = c.opening; limit = c.limit; tree = c.tree; ope
 -- how many places of the history have memory: one for the end of the open transaction
 abbrev pub IsKept : Option Open → ℕ → Type 0
 IsKept None n = Unit {0}
-IsKept (Some o) n = (1 ≤ n) × IsWorld o.before
+IsKept (Some o) n = (1 ≤ n) × Sound o.before
 
 pub record IsCore (c : Inside) : Type 0 where
-  -- the tree and what Abort gives back are worlds
-  pub tree : IsWorld c.tree
+  -- the tree and what Abort gives back are sound
+  pub tree : Sound c.tree
   pub kept : IsKept c.current c.history.1
   -- the records and the places kept are within the limit
   pub within : places (machine_of c) ≤ c.limit

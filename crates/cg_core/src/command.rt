@@ -2,10 +2,10 @@
 ghost use Rattle.std.specs.Prelude.{◌≡◌, ◌≢◌, IfOk, IfErr, OnOk, OnErr};
 ghost use Rattle.cg_name.specs.declared.refusal.Refusal.TheVariants.{Memory};
 ghost use Rattle.cg_model.specs.Effect.{effect};
+ghost use Rattle.cg_model.specs.Sound.{Sound};
 ghost use Rattle.cg_model.specs.System.{Refuse};
 ghost use Rattle.cg_model.specs.Command.{IsAccepted, ChangesTo};
 ghost use Rattle.cg_model.specs.Command as model;
-ghost use Rattle.cg_world.specs.World.{IsWorld};
 
 use crate::limits::{too_deep, too_many};
 use crate::tree::Tree;
@@ -53,7 +53,7 @@ impl Command {
     pub fn apply(&self, alloc: Global, tree: &mut Tree) -> Result<(), Refusal>
         requires { IsAccepted (effect (command_of self.now) tree.old) }
         ensures ok { OnOk result (ChangesTo (effect (command_of self.now) tree.old) tree.old tree.new) }
-        ensures world { IsWorld tree.old → IsWorld tree.new }
+        ensures sound { Sound tree.old → Sound tree.new }
         ensures err { OnErr result (tree.new ≡ tree.old) }
         ensures refusals { IfErr result (λ e. e ≡ Memory) }
     {
@@ -91,7 +91,7 @@ fn check_create(alloc: Global, path: &Path, tree: &Tree) -> Result<(), Refusal>
 fn create(alloc: Global, path: &Path, tree: &mut Tree) -> Result<(), Refusal>
     requires { IsAccepted (effect (model.Create path.now) tree.old) }
     ensures ok { OnOk result (ChangesTo (effect (model.Create path.now) tree.old) tree.old tree.new) }
-    ensures world { IsWorld tree.old → IsWorld tree.new }
+    ensures sound { Sound tree.old → Sound tree.new }
     ensures err { OnErr result (tree.new ≡ tree.old) }
     ensures refusals { IfErr result (λ e. e ≡ Memory) }
 {

@@ -50,7 +50,7 @@ fn is_full(path: &Path, tree: &Tree) -> bool
     };
     match settings.max_descendants {
         Limit::Max => false,
-        Limit::UpTo(most) => tree.has_descendants(path, most),
+        Limit::UpTo(most) => tree.has_descendants(path, most.number),
     }
 }
 
@@ -63,6 +63,6 @@ fn is_too_deep(path: &Path, above: &Path, tree: &Tree) -> bool
     };
     match settings.max_depth {
         Limit::Max => false,
-        Limit::UpTo(most) => path.depth().saturating_sub(above.depth()) > most,
+        Limit::UpTo(most) => path.depth().saturating_sub(above.depth()) > most.number,
     }
 }

@@ -2,9 +2,10 @@
 ghost use Rattle.std.specs.Prelude.{◌≡◌, ◌+◌, ◌≤◌, ◌^◌, Bool, true, false, is_some, not, map, OnOk, IfOk, IfErr, IfSome, [], None, Some};
 ghost use Rattle.std.specs.Bool.{OnTrue, OnFalse};
 ghost use Rattle.cg_name.specs.declared.refusal.Refusal.TheVariants.{Memory};
-ghost use Rattle.cg_world.specs.World.{IsWorld};
+ghost use Rattle.cg_world.specs.World.{IsRepresentable};
 ghost use Rattle.std.specs.Option.{option_map};
 ghost use Rattle.cg_model.specs.Effect.{effect};
+ghost use Rattle.cg_model.specs.Sound.{Sound};
 ghost use Rattle.cg_model.specs.System.{Refuse};
 ghost use Rattle.cg_model.specs.Command.{IsAccepted};
 ghost use Rattle.cg_core.specs.Record as model;
@@ -78,8 +79,11 @@ impl Core {
     /// The tree as it stands.
     pub fn tree(&self) -> &Tree
         ensures value { result.now ≡ self.now.tree }
-        ensures valid { IsWorld self.now.tree }
+        ensures sound { Sound self.now.tree }
+        ensures valid { IsRepresentable self.now.tree }
     {
+        // The plain tree below tells that code can hold it.
+        let _ = self.tree.plain();
         &self.tree
     }
 

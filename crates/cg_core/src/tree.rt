@@ -2,9 +2,10 @@
 ghost use Rattle.std.specs.Prelude.{◌≡◌, ◌++◌, nat_le, is_some, Some, IfOk, IfErr, OnOk, OnErr};
 ghost use Rattle.cg_maps.specs.FiniteMap.{set_at};
 ghost use Rattle.cg_name.specs.declared.refusal.Refusal.TheVariants.{Memory};
+ghost use Rattle.cg_model.specs.Sound.{Sound};
 ghost use Rattle.cg_model.specs.Tree.{group};
 ghost use Rattle.cg_model.specs.Derived.{descendants};
-ghost use Rattle.cg_world.specs.World.{IsWorld, world_text};
+ghost use Rattle.cg_world.specs.World.{IsRepresentable, world_text};
 
 use cg_name::path::Path;
 use cg_name::refusal::Refusal;
@@ -35,16 +36,27 @@ impl Tree {
     /// The tree of a world.
     pub fn from_world(world: World) -> Tree
         ensures value { result ≡ world }
-        ensures valid { IsWorld world }
+        ensures sound { Sound world }
+        ensures valid { IsRepresentable world }
     {
         Tree {
             plain: world.into_tree(),
         }
     }
 
-    /// A world that equals the tree; `Memory` where there is none for it.
+    /// The tree in plain maps.
+    pub(crate) fn plain(&self) -> &PlainTree
+        ensures value { result.now ≡ self.now }
+        ensures valid { IsRepresentable self.now }
+    {
+        // With its controllers a plain tree tells that code can hold it.
+        let _ = self.plain.controllers();
+        &self.plain
+    }
+
+    /// A world that equals the tree, which has to be sound; `Memory` where there is none for it.
     pub fn to_world(&self, alloc: Global) -> Result<World, Refusal>
-        requires { IsWorld self.now }
+        requires { Sound self.now }
         ensures value { IfOk result (λ w. w ≡ self.now) }
         ensures refusals { IfErr result (λ e. e ≡ Memory) }
     {

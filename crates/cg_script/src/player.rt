@@ -5,7 +5,6 @@ ghost use Rattle.std.specs.Option.{option_map};
 ghost use Rattle.cg_name.specs.Refusal.{refusal_text};
 ghost use Rattle.cg_core.specs.Meaning.{answer_of, request_of};
 ghost use Rattle.cg_script.specs.Answer.{answer_text};
-ghost use Rattle.cg_world.specs.World.{IsWorld};
 ghost use Rattle.cg_script.specs.Replay.{Answers, Asked, ending_text, opened, newline, session_number, with_name};
 
 use crate::answer::write_answer;

@@ -8,12 +8,12 @@ mod Listed
 pub mod LowCpus
 pub mod PlainWords
 mod Puts
+mod Representable
 mod RoundTrip
 mod SoundTrees
 pub mod Spelled
 pub mod Stages
 mod Trees
-pub mod Worlds
 mod WrittenCpus
 mod WrittenLimits
 pub mod WrittenWords

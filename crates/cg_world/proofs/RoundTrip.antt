@@ -1,4 +1,4 @@
--- What is written for a world is read back as that world.
+-- What is written for a sound tree is read back as that tree.
 use Rattle.std.proofs.Common.{◌≡◌, inl, inr, ℕ, ◌+◌, ◌*◌, ◌≤◌, Bool, true, false, ◌==◌, ◌&&◌, cond, nat_le, List, [], ◌∷◌, ◌++◌, codes, map, filter, length, refl, sym, ap, subst, ◌∙◌, arith, length-append}
 use Rattle.std.specs.Cmp.{nat_cmp_total}
 use Rattle.std.specs.FinMap.{nat_cmp-IsAntisymmetric}
@@ -28,6 +28,7 @@ use Rattle.cg_text.specs.declared.controllers.Controllers as sets
 use Rattle.cg_text.specs.declared.limit.Limit.{Limit}
 use Rattle.cg_text.specs.declared.limit.Limit.TheVariants.{Max, UpTo}
 use Rattle.cg_text.specs.declared.settings.Settings.{Settings}
+use Rattle.cg_model.specs.Sound.{Sound}
 use Rattle.cg_model.specs.Tree.{Tree}
 use Rattle.cg_world.specs.declared.statement.Statement.{Statement}
 use Rattle.cg_world.specs.declared.statement.Statement.TheVariants.{Version, Controllers, Online, End}
@@ -35,7 +36,7 @@ use Rattle.cg_world.specs.declared.version.Version as versions
 use Rattle.cg_world.specs.declared.version.Version.TheVariants.{One, Two}
 use Rattle.cg_world.specs.Version.{version_word, last_cpu}
 use Rattle.cg_world.specs.Statement.{AddsControllers, SpellsControl, AreCpusUpTo, SpellsSomeCpus, SpellsAskedCpus, SpellsLimits, SpellsStatement}
-use Rattle.cg_world.specs.World.{IsWorld, IsWorldSettings, Arranges, SpellsEach, SpellsWorld, group_of, process_of, text_or_minus, control_text, asked_cpus_text, cpus_fit_one, is_max, settings_fit_one, fits_version_one, text_of_version, world_text}
+use Rattle.cg_world.specs.World.{IsRepresentable, Arranges, SpellsEach, SpellsWorld, group_of, process_of, text_or_minus, control_text, asked_cpus_text, cpus_fit_one, is_max, settings_fit_one, fits_version_one, text_of_version, world_text}
 use Rattle.cg_world.proofs.Appending.{control_some, control_none}
 use Rattle.cg_name.proofs.WrittenPaths.{spelled as path_spelled, path_fits}
 use Rattle.cg_text.proofs.WrittenLines.{say_lines}
@@ -97,14 +98,14 @@ flag_short false = omega arith
 
 -- ---- the lines are good
 
--- what a version asks of settings beside what a world does
+-- what a version asks of settings beside what code can hold
 abbrev Suits : versions.Version → Settings → Type 0
 Suits One s = AreCpusUpTo 127 s.cpus × (s.max_descendants ≡ Max) × (s.max_depth ≡ Max)
 Suits Two s = Unit {0}
 
 record IsGoodGroup (v : versions.Version) (e : Path × Settings) : Type 0 where
   path : IsPath e.0
-  settings : IsWorldSettings e.1
+  cpus : AreCpusUpTo 1023 e.1.cpus
   suits : Suits v e.1
 
 record IsGoodProcess (e : ℕ × Path) : Type 0 where
@@ -121,9 +122,9 @@ group_good v e h =
     let keyword : FitsLine (codes "group") = plain_fit _ (record { some = omega arith; plain = refl }) in
     let path = path_fits e.0 h.path in
     record {
-      words = (keyword, (path.0, (plain_fit c (control_plain e.1.control), (plain_fit f (flag_plain e.1.freeze), (plain_fit u (asked_plain e.1.cpus h.settings.cpus), all_fit (limit_words v e.1) (limits_plain v e.1 h.settings.max_descendants h.settings.max_depth))))));
+      words = (keyword, (path.0, (plain_fit c (control_plain e.1.control), (plain_fit f (flag_plain e.1.freeze), (plain_fit u (asked_plain e.1.cpus h.cpus), all_fit (limit_words v e.1) (limits_plain v e.1))))));
       says = refl;
-      short = row v p c f u path.1 (control_short e.1.control) (flag_short e.1.freeze) (asked_short e.1.cpus h.settings.cpus);
+      short = row v p c f u path.1 (control_short e.1.control) (flag_short e.1.freeze) (asked_short e.1.cpus h.cpus);
     }
   where
     row : (v : versions.Version) (p c f u : List ℕ) → length p ≤ 32770 → length c ≤ 65 → length f ≤ 1 → length u ≤ 10240 → length (line_of (codes "group" ∷ p ∷ c ∷ f ∷ u ∷ limit_words v e.1)) ≤ 65536
@@ -132,7 +133,7 @@ group_good v e h =
         let a : List ℕ = limit_word e.1.max_descendants in
         let b : List ℕ = limit_word e.1.max_depth in
         let t : List ℕ = u ++ 32 ∷ (a ++ 32 ∷ b) in
-        omega (arith, lp, lc, lf, lu, limit_short e.1.max_descendants h.settings.max_descendants, limit_short e.1.max_depth h.settings.max_depth, length-append p (32 ∷ (c ++ 32 ∷ (f ++ 32 ∷ t))), length-append c (32 ∷ (f ++ 32 ∷ t)), length-append f (32 ∷ t), length-append u (32 ∷ (a ++ 32 ∷ b)), length-append a (32 ∷ b))
+        omega (arith, lp, lc, lf, lu, limit_short e.1.max_descendants, limit_short e.1.max_depth, length-append p (32 ∷ (c ++ 32 ∷ (f ++ 32 ∷ t))), length-append c (32 ∷ (f ++ 32 ∷ t)), length-append f (32 ∷ t), length-append u (32 ∷ (a ++ 32 ∷ b)), length-append a (32 ∷ b))
 
 process_good : (e : ℕ × Path) → IsGoodProcess e → IsWrittenLine (process_words e)
 process_good e h =
@@ -223,13 +224,13 @@ spells_asked most s low fit = elim (is_empty_set s) as (λ b. is_empty_set s ≡
   | false ↦ λ e. inr (spells_some most s low fit e)
 ] refl
 
-suiting_cpus : (v : versions.Version) (s : Settings) → IsWorldSettings s → Suits v s → AreCpusUpTo (last_cpu v) s.cpus
-suiting_cpus One s h f = f.0
-suiting_cpus Two s h f = h.cpus
+suiting_cpus : (v : versions.Version) (s : Settings) → AreCpusUpTo 1023 s.cpus → Suits v s → AreCpusUpTo (last_cpu v) s.cpus
+suiting_cpus One s low f = f.0
+suiting_cpus Two s low f = low
 
-spells_limits : (v : versions.Version) (s : Settings) → IsWorldSettings s → Suits v s → SpellsLimits v (limit_words v s) s.max_descendants s.max_depth
-spells_limits One s h f = (refl, f.1, f.2)
-spells_limits Two s h f = (limit_word s.max_descendants, limit_word s.max_depth, refl, spells_limit s.max_descendants h.max_descendants, spells_limit s.max_depth h.max_depth)
+spells_limits : (v : versions.Version) (s : Settings) → Suits v s → SpellsLimits v (limit_words v s) s.max_descendants s.max_depth
+spells_limits One s f = (refl, f.1, f.2)
+spells_limits Two s f = (limit_word s.max_descendants, limit_word s.max_depth, refl, spells_limit s.max_descendants, spells_limit s.max_depth)
 
 each_spelled : (v : versions.Version) (ws vs : List (List Word)) (ss ts : List Statement) → SpellsEach v ws ss → SpellsEach v vs ts → SpellsEach v (ws ++ vs) (ss ++ ts)
 each_spelled v [] vs [] ts h k = k
@@ -252,24 +253,23 @@ spells_group v e h = (
   path_spelled e.0 h.path,
   spells_control e.1.control,
   spells_flag e.1.freeze,
-  spells_asked (last_cpu v) e.1.cpus h.settings.cpus (suiting_cpus v e.1 h.settings h.suits),
-  spells_limits v e.1 h.settings h.suits,
+  spells_asked (last_cpu v) e.1.cpus h.cpus (suiting_cpus v e.1 h.cpus h.suits),
+  spells_limits v e.1 h.suits,
 )
 
 spells_process : (v : versions.Version) (e : ℕ × Path) → IsGoodProcess e → SpellsStatement v (process_words e) (process_of e)
 spells_process v e h =
     (decimal e.0, path_word e.1, refl, spells_pid e.0 h.low h.high, path_spelled e.1 h.path)
 
-module _ (v : versions.Version) (T : Tree) (world : IsWorld T) (online : AreCpusUpTo (last_cpu v) T.online) (suits : AllByRecursion (λ e. Suits v e.1) (entries T.groups)) where
+module _ (v : versions.Version) (T : Tree) (is_sound : Sound T) (held : IsRepresentable T) (online : AreCpusUpTo (last_cpu v) T.online) (suits : AllByRecursion (λ e. Suits v e.1) (entries T.groups)) where
   groups_are : AllByRecursion (IsGoodGroup v) (entries T.groups)
-  groups_are = all_both (λ e. IsPath e.0 × IsWorldSettings e.1) (λ e. Suits v e.1) (IsGoodGroup v) (λ e h k. record { path = h.0; settings = h.1; suits = k }) (entries T.groups)
-      (all_map (λ e at. world.groups e.0 e.1 at) (entries T.groups) (each_entry path_cmp_total T.groups)) suits
+  groups_are = all_both (λ e. IsPath e.0 × AreCpusUpTo 1023 e.1.cpus) (λ e. Suits v e.1) (IsGoodGroup v) (λ e h k. record { path = h.0; cpus = h.1; suits = k }) (entries T.groups)
+      (all_map (λ e at. held.groups e.0 e.1 at) (entries T.groups) (each_entry path_cmp_total T.groups)) suits
 
   processes_are : AllByRecursion IsGoodProcess (entries T.places)
   processes_are = all_map (λ e at.
-      let h = world.processes e.0 e.1 at in
-      let there = world.sound.process e.0 e.1 at in
-      record { low = h.0; high = h.1; path = (world.groups e.1 there.0 there.1).0 }) (entries T.places) (each_entry nat_cmp_total T.places)
+      let h = held.processes e.0 e.1 at in
+      record { low = h.0.0; high = h.0.1; path = h.1 }) (entries T.places) (each_entry nat_cmp_total T.places)
 
   lines_good : AllByRecursion IsWrittenLine (world_words v T)
   lines_good =
@@ -279,7 +279,7 @@ module _ (v : versions.Version) (T : Tree) (world : IsWorld T) (online : AreCpus
         (
           controllers_good T.controllers,
           (
-            online_good T.online world.online world.sound.online,
+            online_good T.online held.online is_sound.online,
             both IsWrittenLine (G ++ P) ((codes "end" ∷ []) ∷ [])
                 (both IsWrittenLine G P
                 (each_mapped (group_words v) IsWrittenLine (entries T.groups) (all_map (group_good v) (entries T.groups) groups_are))
@@ -301,7 +301,7 @@ module _ (v : versions.Version) (T : Tree) (world : IsWorld T) (online : AreCpus
         (
           (map controller_word (members T.controllers), refl, adds_members T.controllers),
           (
-            (cpus_text T.online, refl, spells_some (last_cpu v) T.online world.online online world.sound.online),
+            (cpus_text T.online, refl, spells_some (last_cpu v) T.online held.online online is_sound.online),
             each_spelled v (G ++ P) ((codes "end" ∷ []) ∷ []) (map group_of (entries T.groups) ++ map process_of (entries T.places)) (End ∷ [])
                 (each_spelled v G P (map group_of (entries T.groups)) (map process_of (entries T.places))
                 (spelled_by v (group_words v) group_of (entries T.groups) (all_map (spells_group v) (entries T.groups) groups_are))
@@ -330,7 +330,7 @@ module _ (v : versions.Version) (T : Tree) (world : IsWorld T) (online : AreCpus
     statements = statements;
     spelled = spelled;
     arranged = arranged;
-    sound = world.sound;
+    sound = is_sound;
   })
 
 -- ---- the version that is written serves
@@ -353,9 +353,9 @@ any_suits : (es : List (Path × Settings)) → AllByRecursion (λ e. Suits Two e
 any_suits [] = tt
 any_suits (e ∷ es) = (tt, any_suits es)
 
-pub written_spelled : (T : Tree) → IsWorld T → length (world_text T) ≤ 16777216 → SpellsWorld (world_text T) T
+pub written_spelled : (T : Tree) → Sound T → IsRepresentable T → length (world_text T) ≤ 16777216 → SpellsWorld (world_text T) T
 unfolding world_text
-written_spelled T world = elim (fits_version_one T) as (λ b. fits_version_one T ≡ b → length (text_of_version (cond b One Two) T) ≤ 16777216 → SpellsWorld (text_of_version (cond b One Two) T) T) [
-  | true ↦ λ e. let k = and_parts (cpus_fit_one T.online) _ e in spelled_in One T world (fits_up_to T.online k.0) (all_suit (entries T.groups) k.1)
-  | false ↦ λ e. spelled_in Two T world world.online (any_suits (entries T.groups))
+written_spelled T is_sound held = elim (fits_version_one T) as (λ b. fits_version_one T ≡ b → length (text_of_version (cond b One Two) T) ≤ 16777216 → SpellsWorld (text_of_version (cond b One Two) T) T) [
+  | true ↦ λ e. let k = and_parts (cpus_fit_one T.online) _ e in spelled_in One T is_sound held (fits_up_to T.online k.0) (all_suit (entries T.groups) k.1)
+  | false ↦ λ e. spelled_in Two T is_sound held held.online (any_suits (entries T.groups))
 ] refl

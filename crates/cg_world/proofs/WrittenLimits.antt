@@ -3,7 +3,6 @@ use Rattle.std.proofs.Common.{◌≤◌, inl, length, refl, sym, subst, arith}
 use Rattle.std.specs.List.{AllByRecursion}
 use Rattle.std.proofs.lemmas.Fmt.{decimal_is_IsNumeral, length-decimal-le}
 use Rattle.cg_text.specs.FileText.{limit_word}
-use Rattle.cg_text.specs.Laws.{IsLimit}
 use Rattle.cg_text.specs.Reading.{SpellsLimitTrimmed, SpellsLimit}
 use Rattle.cg_text.specs.declared.limit.Limit.{Limit}
 use Rattle.cg_text.specs.declared.limit.Limit.TheVariants.{Max, UpTo}
@@ -13,22 +12,22 @@ use Rattle.cg_world.specs.declared.version.Version.TheVariants.{One, Two}
 use Rattle.cg_world.proofs.PlainWords.{IsPlainWord, decimal_plain, nothing_trimmed}
 use Rattle.cg_world.proofs.WrittenWords.{limit_words}
 
-pub limit_plain : (l : Limit) → IsLimit l → IsPlainWord (limit_word l)
-limit_plain Max h = record { some = omega arith; plain = refl }
-limit_plain (UpTo n) h = decimal_plain n (omega (arith, h))
+pub limit_plain : (l : Limit) → IsPlainWord (limit_word l)
+limit_plain Max = record { some = omega arith; plain = refl }
+limit_plain (UpTo most) = decimal_plain most.number (omega (arith, most.in_range))
 
-pub limit_short : (l : Limit) → IsLimit l → length (limit_word l) ≤ 10
-limit_short Max h = omega arith
-limit_short (UpTo n) h = length-decimal-le 10 n (omega arith) (omega (arith, h)) (omega (arith, h))
+pub limit_short : (l : Limit) → length (limit_word l) ≤ 10
+limit_short Max = omega arith
+limit_short (UpTo most) = length-decimal-le 10 most.number (omega arith) (omega (arith, most.in_range)) (omega (arith, most.in_range))
 
-pub limits_plain : (v : Version) (s : Settings) → IsLimit s.max_descendants → IsLimit s.max_depth → AllByRecursion IsPlainWord (limit_words v s)
-limits_plain One s h k = tt
-limits_plain Two s h k = (limit_plain s.max_descendants h, (limit_plain s.max_depth k, tt))
+pub limits_plain : (v : Version) (s : Settings) → AllByRecursion IsPlainWord (limit_words v s)
+limits_plain One s = tt
+limits_plain Two s = (limit_plain s.max_descendants, (limit_plain s.max_depth, tt))
 
 -- what is written for a limit spells it
-spells_trimmed : (l : Limit) → IsLimit l → SpellsLimitTrimmed (limit_word l) l
-spells_trimmed Max h = inl refl
-spells_trimmed (UpTo n) h = let d = decimal_is_IsNumeral n (omega (arith, h)) in (d.0, d.1, h)
+spells_trimmed : (l : Limit) → SpellsLimitTrimmed (limit_word l) l
+spells_trimmed Max = inl refl
+spells_trimmed (UpTo most) = decimal_is_IsNumeral most.number (omega (arith, most.in_range))
 
-pub spells_limit : (l : Limit) → IsLimit l → SpellsLimit (limit_word l) l
-spells_limit l h = subst (λ t. SpellsLimitTrimmed t l) (sym (nothing_trimmed (limit_word l) (limit_plain l h))) (spells_trimmed l h)
+pub spells_limit : (l : Limit) → SpellsLimit (limit_word l) l
+spells_limit l = subst (λ t. SpellsLimitTrimmed t l) (sym (nothing_trimmed (limit_word l) (limit_plain l))) (spells_trimmed l)

@@ -1,5 +1,6 @@
 pub mod Laws
 pub mod Parts
+pub mod Plain
 pub mod Soundness
 pub mod Stage
 pub mod Statement

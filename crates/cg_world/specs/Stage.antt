@@ -13,7 +13,7 @@ use Rattle.cg_world.specs.declared.statement.Statement.{Statement}
 use Rattle.cg_world.specs.declared.statement.Statement.TheVariants.{Version, Controllers, Online, Group, Process, End}
 use Rattle.cg_world.specs.declared.version.Version as versions
 use Rattle.cg_world.specs.declared.version.Version.TheVariants.{One}
-use Rattle.cg_world.specs.World.{Lists, group_of, process_of, Arranges, SpellsEach}
+use Rattle.cg_world.specs.World.{IsPid, Lists, group_of, process_of, Arranges, SpellsEach}
 
 -- a tree of no groups and no processes
 abbrev pub bare_tree : controllers.Controllers → FiniteSet → Tree
@@ -38,6 +38,11 @@ taken (Groups v T) End = Some (Ended v T)
 taken (Processes v T) (Process k p) = cond (is_some (place_of T k)) None (Some (Processes v (with_process T k p)))
 taken (Processes v T) End = Some (Ended v T)
 taken _ _ = None
+
+-- a line of a process has a PID
+abbrev pub HasPid : Statement → Type 0
+HasPid (Process k p) = IsPid k
+HasPid _ = Unit {0}
 
 -- the version by which the next line is read: either will do for a line that names it
 abbrev pub version_at : Stage → versions.Version

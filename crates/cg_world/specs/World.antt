@@ -13,7 +13,6 @@ use Rattle.cg_text.specs.Words.{Word, lines_of, SayAll}
 use Rattle.cg_text.specs.Controllers.{members}
 use Rattle.cg_text.specs.FileText.{flag_word, limit_word}
 use Rattle.cg_text.specs.declared.controllers.Controllers as controllers
-use Rattle.cg_text.specs.Laws.{IsLimit}
 use Rattle.cg_text.specs.declared.limit.Limit.{Limit}
 use Rattle.cg_text.specs.declared.limit.Limit.TheVariants.{Max, UpTo}
 use Rattle.cg_text.specs.declared.settings.Settings.{Settings}
@@ -63,17 +62,15 @@ pub record SpellsWorld (text : List ℕ) (T : Tree) : Type 0 where
   pub arranged : Arranges version statements T
   pub sound : Sound T
 
--- what a world can hold: paths and PIDs within their limits, CPU numbers up to 1,023, and limits that a text can name
-pub record IsWorldSettings (s : Settings) : Type 0 where
-  pub cpus : AreCpusUpTo 1023 s.cpus
-  pub max_descendants : IsLimit s.max_descendants
-  pub max_depth : IsLimit s.max_depth
+-- a PID, from 1 to 4,194,303
+abbrev pub IsPid : ℕ → Type 0
+IsPid k = (1 ≤ k) × (k ≤ 4194303)
 
-pub record IsWorld (T : Tree) : Type 0 where
-  pub sound : Sound T
+-- what code can hold, sound or not: CPU numbers up to 1,023, paths of groups, and PIDs
+pub record IsRepresentable (T : Tree) : Type 0 where
   pub online : AreCpusUpTo 1023 T.online
-  pub groups : (p : Path) (s : Settings) → group T p ≡ Some s → IsPath p × IsWorldSettings s
-  pub processes : (k : ℕ) (p : Path) → place_of T k ≡ Some p → (1 ≤ k) × (k ≤ 4194303)
+  pub groups : (p : Path) (s : Settings) → group T p ≡ Some s → IsPath p × AreCpusUpTo 1023 s.cpus
+  pub processes : (k : ℕ) (p : Path) → place_of T k ≡ Some p → IsPid k × IsPath p
 
 -- ---- the version that is written: 1 where no CPU number is above 127 and no group has a limit
 

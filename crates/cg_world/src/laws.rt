@@ -6,7 +6,7 @@ pub fn text_spells_one_world()
     ensures { OneWorld }
 {}
 
-/// The text that is written for a world spells that world, where it has at most 16 MiB.
+/// The text that is written for a sound tree that code can hold spells that tree, where it has at most 16 MiB.
 pub fn written_is_spelled()
     ensures { WrittenIsSpelled }
 {}

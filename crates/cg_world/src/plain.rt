@@ -6,6 +6,7 @@ ghost use Rattle.cg_maps.specs.FiniteMap.{set_at, empty, from_entries};
 ghost use Rattle.cg_name.specs.Path.{path_cmp};
 ghost use Rattle.cg_name.specs.declared.refusal.Refusal.TheVariants.{Memory};
 ghost use Rattle.cg_model.specs.Tree.{Tree, group, place_of};
+ghost use Rattle.cg_world.specs.World.{IsPid, IsRepresentable};
 
 use cg_cpus::cpu_set::CpuSet;
 use cg_name::path::Path;
@@ -26,9 +27,6 @@ pub struct PlainTree {
 }
 
 impl Model for PlainTree {
-    ghost use Rattle.std.specs.Ordering.{nat_cmp};
-    ghost use Rattle.cg_maps.specs.FiniteMap.{from_entries};
-    ghost use Rattle.cg_name.specs.Path.{path_cmp};
     ghost use Rattle.cg_model.specs.Tree.{Tree};
     ghost use Rattle.cg_model.specs.Code.{tree_code};
 
@@ -36,7 +34,12 @@ impl Model for PlainTree {
 
     ghost coded = { tree_code };
 
-    ghost view = { λ t. record { controllers = t.controllers; online = t.online; groups = from_entries path_cmp t.groups.entries; places = from_entries nat_cmp t.places.entries } };
+    ghost use Rattle.cg_world.specs.Plain.{tree_of};
+    ghost use Rattle.cg_world.specs.World.{IsRepresentable};
+
+    ghost view = { tree_of };
+
+    ghost invariant = { λ t. IsRepresentable (tree_of t) };
 }
 
 impl PlainTree {
@@ -44,6 +47,8 @@ impl PlainTree {
     pub fn new(alloc: Global, controllers: Controllers, online: CpuSet) -> PlainTree
         ensures { result ≡ record { controllers = controllers; online = online; groups = empty; places = empty } }
     {
+        // A set of CPUs tells of its numbers when it is asked for one.
+        let _ = online.contains(0);
         PlainTree {
             controllers,
             online,
@@ -54,7 +59,8 @@ impl PlainTree {
 
     /// The machine's controllers.
     pub fn controllers(&self) -> Controllers
-        ensures { result ≡ self.now.controllers }
+        ensures value { result ≡ self.now.controllers }
+        ensures valid { IsRepresentable self.now }
     {
         self.controllers
     }
@@ -87,16 +93,23 @@ impl PlainTree {
         ensures err { OnErr result (self.new ≡ self.old) }
         ensures refusals { IfErr result (λ e. e ≡ Memory) }
     {
+        // The path and the CPUs tell what holds of them.
+        let _ = path.names();
+        let _ = settings.cpus.contains(0);
         self.groups.insert(path, settings)?;
         Ok(())
     }
 
-    /// Puts a process into the group at this path. `Memory` leaves the tree as it was.
+    /// Puts the process with this PID, from 1 to 4,194,303, into the group at this path. `Memory` leaves the tree as
+    /// it was.
     pub fn set_place(&mut self, pid: u32, path: Path) -> Result<(), Refusal>
+        requires { IsPid pid }
         ensures ok { OnOk result (self.new ≡ record self.old { places = set_at self.old.places pid (Some path) }) }
         ensures err { OnErr result (self.new ≡ self.old) }
         ensures refusals { IfErr result (λ e. e ≡ Memory) }
     {
+        // The path tells what holds of it.
+        let _ = path.names();
         self.places.insert(pid, path)?;
         Ok(())
     }

@@ -4,7 +4,8 @@ ghost use Rattle.std.specs.Result.{IsErrOf};
 ghost use Rattle.cg_name.specs.Refusal.{IsSyntaxOrMemory};
 ghost use Rattle.cg_world.specs.declared.stage.Stage.TheVariants.{Groups, Processes};
 ghost use Rattle.cg_world.specs.declared.statement.Statement.TheVariants.{Group, Process};
-ghost use Rattle.cg_world.specs.Stage.{taken, version_at};
+ghost use Rattle.cg_world.specs.Stage.{HasPid, taken, version_at};
+ghost use Rattle.cg_world.specs.World.{IsPid};
 
 use crate::plain::PlainTree;
 use crate::statement::Statement;
@@ -49,6 +50,7 @@ impl Stage {
 
     /// The stage behind one line more; `Syntax` where the line can't stand there.
     pub(crate) fn take(self, alloc: Global, statement: Statement) -> Result<Stage, Refusal>
+        requires { HasPid statement }
         ensures value { IfOk result (λ next. taken self statement ≡ Some next) }
         ensures syntax { IsErrOf result Refusal.Syntax → taken self statement ≡ None }
         ensures refusals { IfErr result IsSyntaxOrMemory }
@@ -110,6 +112,7 @@ fn add_process(
     pid: u32,
     path: Path,
 ) -> Result<Stage, Refusal>
+    requires { IsPid pid }
     ensures value { IfOk result (λ next. taken (Processes version tree) (Process pid path) ≡ Some next) }
     ensures syntax { IsErrOf result Refusal.Syntax → taken (Processes version tree) (Process pid path) ≡ None }
     ensures refusals { IfErr result IsSyntaxOrMemory }

@@ -1,10 +1,11 @@
-//! Sound trees within the limits of world texts.
+//! Sound trees.
 ghost use Rattle.std.specs.Prelude.{◌≡◌, IfOk, IfErr, slice_get};
 ghost use Rattle.std.specs.Option.{option_copied, option_map};
 ghost use Rattle.cg_maps.specs.FiniteMap.{entries};
 ghost use Rattle.cg_name.specs.declared.refusal.Refusal.TheVariants.{Memory};
+ghost use Rattle.cg_model.specs.Sound.{Sound};
 ghost use Rattle.cg_model.specs.Tree.{group, place_of};
-ghost use Rattle.cg_world.specs.World.{IsWorld};
+ghost use Rattle.cg_world.specs.World.{IsRepresentable};
 
 use crate::plain::PlainTree;
 use cg_cpus::cpu_set::CpuSet;
@@ -15,7 +16,7 @@ use cg_text::settings::Settings;
 use std::alloc::Global;
 use std::marker::Model;
 
-/// A sound tree that a world text can spell.
+/// A sound tree.
 #[derive(Drop)]
 pub struct World {
     tree: PlainTree,
@@ -24,7 +25,7 @@ pub struct World {
 impl Model for World {
     ghost use Rattle.cg_model.specs.Tree.{Tree};
     ghost use Rattle.cg_model.specs.Code.{tree_code};
-    ghost use Rattle.cg_world.specs.World.{IsWorld};
+    ghost use Rattle.cg_model.specs.Sound.{Sound};
 
     ghost Value = { Tree };
 
@@ -32,13 +33,13 @@ impl Model for World {
 
     ghost view = { λ w. w.tree };
 
-    ghost invariant = { λ w. IsWorld w.tree };
+    ghost invariant = { λ w. Sound w.tree };
 }
 
 impl World {
-    /// The world of a tree that is one.
+    /// The world of a sound tree.
     pub fn from_tree(tree: PlainTree) -> World
-        requires { IsWorld tree }
+        requires { Sound tree }
         ensures { result ≡ tree }
     {
         World { tree }
@@ -47,16 +48,22 @@ impl World {
     /// The world as a plain tree.
     pub fn tree(&self) -> &PlainTree
         ensures value { result.now ≡ self.now }
-        ensures valid { IsWorld self.now }
+        ensures sound { Sound self.now }
+        ensures valid { IsRepresentable self.now }
     {
+        // With its controllers a plain tree tells that code can hold it.
+        let _ = self.tree.controllers();
         &self.tree
     }
 
     /// The world, given up for its plain tree.
     pub fn into_tree(self) -> PlainTree
         ensures value { result ≡ self }
-        ensures valid { IsWorld self }
+        ensures sound { Sound self }
+        ensures valid { IsRepresentable self }
     {
+        // As in `tree`.
+        let _ = self.tree.controllers();
         self.tree
     }
 

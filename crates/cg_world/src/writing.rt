@@ -182,7 +182,7 @@ fn append_limit(limit: Limit, out: &mut Vec<u8>) -> Result<(), Refusal>
         Limit::Max => out.extend_from_slice(b"max")?,
         Limit::UpTo(most) => {
             let mut buffer = Buffer::new();
-            out.extend_from_slice(buffer.format(most).as_bytes())?;
+            out.extend_from_slice(buffer.format(most.number).as_bytes())?;
         }
     }
     Ok(())

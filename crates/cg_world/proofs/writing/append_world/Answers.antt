@@ -11,7 +11,7 @@ unfolding text_of_version
 returns-clause-ok c =
     let v = c.args.version in
     let T = c.args.tree.now in
-    let machine = first c.args.out.now.items (machine_lines v T.controllers T.online) (c.in_ok-append_machine.ensures.ok ∙ (λ i. c.args.out.now.items ++ machine_lines v (c.controllers.ensures i) (c.online.ensures i))) in
+    let machine = first c.args.out.now.items (machine_lines v T.controllers T.online) (c.in_ok-append_machine.ensures.ok ∙ (λ i. c.args.out.now.items ++ machine_lines v (c.controllers.ensures.value i) (c.online.ensures i))) in
     let groups = more (flat_map (group_line v) (entries T.groups)) machine (c.in_ok-append_groups.ensures.ok ∙ ap (λ m. c.append_machine.new.out.items ++ flat_map (group_line v) (entries m)) c.groups.ensures) in
     let processes = more (flat_map process_line (entries T.places)) groups (c.in_ok-append_processes.ensures.ok ∙ ap (λ m. c.append_groups.new.out.items ++ flat_map process_line (entries m)) c.places.ensures) in
     let end = more (codes "end\n") processes c.in_ok-extend_from_slice.ensures.items in

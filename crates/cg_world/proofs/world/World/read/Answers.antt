@@ -6,7 +6,6 @@ use Rattle.cg_text.specs.Words.{is_newline}
 use Rattle.cg_model.specs.Sound.{Sound}
 use Rattle.cg_world.specs.declared.stage.Stage.TheVariants.{Begun}
 use Rattle.cg_world.specs.World.{SpellsWorld}
-use Rattle.cg_world.proofs.Worlds.{is_world}
 use Rattle.cg_world.proofs.Lines.{leads, spells, one_tree}
 use Rattle.cg_world.proofs.world.World.read.Goals as goal
 
@@ -21,9 +20,6 @@ returns-in_err-check_sound-clause-syntax c =
     λ e T h.
     let same = one_tree Begun (slice_split is_newline c.args.text.now) T c.in_ok-tree.tree (leads c.args.text.now T h) c.in_ok-tree.ensures.value in
     c.in_err-check_sound.ensures.syntax (cc (gone.1, gone.2)) (subst Sound same h.sound)
-
-pub from_tree-requires : goal.from_tree-requires
-from_tree-requires c = is_world c.args.text.now c.in_ok-tree.tree (spells c.args.text.now c.in_ok-tree.tree (omega arith) c.in_ok-tree.ensures.value c.in_ok-check_sound.ensures.sound)
 
 pub returns-clause-value : goal.returns-clause-value
 returns-clause-value c =
