@@ -32,6 +32,7 @@ mod CgroupsLaws
 mod BusyExact
 mod KeysOfOthers
 mod Drop
+mod Newest
 mod Front
 mod GroupChanges
 mod Stages

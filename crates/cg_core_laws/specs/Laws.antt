@@ -18,7 +18,7 @@ use Rattle.cg_model_laws.specs.Laws.{KeysDontTouch}
 use Rattle.cg_core_laws.specs.Room.{RoomKept, CommitSweeps}
 use Rattle.cg_core_laws.specs.Stacks.{IsOfHistory}
 use Rattle.cg_core_laws.specs.Ends.{EndsAll}
-use Rattle.cg_core_laws.specs.Reordered.{DropsOut, PulledToTheFront}
+use Rattle.cg_core_laws.specs.Reordered.{DropsOut, NewestClashesWithNone, PulledToTheFront}
 use Rattle.cg_core_laws.specs.Headline.{AreProper, IsSerial, IsFaithful, GoesBack, OthersStay, CommitsStay}
 
 -- what holds after every list of steps of any sessions, interleaved in any way, from any sound tree, whatever the limit
@@ -70,6 +70,10 @@ KeysOfOthersApart = AfterAnySteps LiveKeysApart
 -- a command that nothing later clashes with can be taken out of a run
 abbrev pub Drop : Type 0
 Drop = (opening : Tree) → DropsOut cgroups opening
+
+-- and so can the newest command of each open transaction
+abbrev pub NewestDrop : Type 0
+NewestDrop = AfterAnySteps (λ opening m. NewestClashesWithNone cgroups opening m)
 
 -- any order of open transactions is reached by pulling them to the front, one after another
 abbrev pub Front : Type 0

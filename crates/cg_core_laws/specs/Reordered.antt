@@ -1,5 +1,5 @@
 -- Runs in another order: a command is taken out, and open transactions are pulled to the front.
-use Rattle.std.specs.Prelude.{◌≡◌, ℕ, ◌&&◌, not, Bool, false, List, [], ◌∷◌, ◌++◌}
+use Rattle.std.specs.Prelude.{◌≡◌, ℕ, ◌==◌, ◌&&◌, not, Bool, true, false, List, [], ◌∷◌, ◌++◌}
 use Rattle.cg_model.specs.System.{System, Outcome, Accept}
 use Rattle.cg_model.specs.History.{History}
 use Rattle.cg_model.specs.Opens.{numbers, among, opens}
@@ -7,6 +7,15 @@ use Rattle.cg_model.specs.Live.{Item, Ran, Marked, Items, joined_if, survivors, 
 use Rattle.cg_model.specs.Run.{run_items, Accepted}
 use Rattle.cg_model.specs.Machine.{Machine}
 use Rattle.cg_core_laws.specs.Headline.{OnceEach, AreOpen}
+
+abbrev pub transaction_of : {y : System} → Item y → ℕ
+transaction_of (Ran t h c a) = t
+transaction_of (Marked t h n) = t
+
+-- the items of the transactions that pass
+abbrev pub of_those : {y : System} → (ℕ → Bool) → Items y → Items y
+of_those p [] = []
+of_those p (x ∷ l) = joined_if (p (transaction_of x)) x (of_those p l)
 
 -- ---- a command is taken out
 
@@ -31,16 +40,13 @@ DropsOut y o = (newer older : Items y) (t : ℕ) (h : History y) (c : y.Command)
     → ClashesWithNone y o (y.footprint c (run_items y o older)) newer (Ran t h c a ∷ older)
     → IsTakenOut y o newer (Ran t h c a) older d
 
+-- the newest item of an open transaction, where it is a command, is one: nothing later that survives clashes with it
+abbrev pub NewestClashesWithNone : (y : System) → y.State → Machine y → Type 0
+NewestClashesWithNone y o m = (newer older : Items y) (t : ℕ) (h : History y) (c : y.Command) (a : Outcome) → among t (numbers (opens m.history)) ≡ true
+    → survivors m.history ≡ newer ++ Ran t h c a ∷ older → of_those (λ u. u == t) newer ≡ []
+    → ClashesWithNone y o (y.footprint c (run_items y o older)) newer (Ran t h c a ∷ older)
+
 -- ---- open transactions are pulled to the front
-
-abbrev pub transaction_of : {y : System} → Item y → ℕ
-transaction_of (Ran t h c a) = t
-transaction_of (Marked t h n) = t
-
--- the items of the transactions that pass
-abbrev pub of_those : {y : System} → (ℕ → Bool) → Items y → Items y
-of_those p [] = []
-of_those p (x ∷ l) = joined_if (p (transaction_of x)) x (of_those p l)
 
 -- what stands of the open transactions but these, in the order of the records
 abbrev pub not_pulled : {y : System} → List ℕ → History y → Items y

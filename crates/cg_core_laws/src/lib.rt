@@ -3,7 +3,7 @@
 #![tactic(auto)]
 
 ghost use Rattle.cg_core_laws.specs.Scripts.{CommittedScripts, CommitTrees, TreesOfScripts};
-ghost use Rattle.cg_core_laws.specs.Laws.{AnswersAreSteps, BusyExactly, CommitsKept, Drop, Faithful, Front, GoingBack, KeysOfOthersApart, LimitKept, OfHistory, OthersUntouched, Roomy, SchedulesEnd, Serial, Sweeping};
+ghost use Rattle.cg_core_laws.specs.Laws.{AnswersAreSteps, BusyExactly, CommitsKept, Drop, Faithful, Front, GoingBack, KeysOfOthersApart, LimitKept, NewestDrop, OfHistory, OthersUntouched, Roomy, SchedulesEnd, Serial, Sweeping};
 
 /// The tree is the opening tree changed by the surviving commands alone; every inverse fits when its turn comes, in
 /// whatever interleaving open transactions are unwound; and the committed transactions in commit order, then each open one
@@ -13,9 +13,10 @@ pub fn transactions_are_serial()
 {}
 
 /// A command that nothing later clashes with can be taken out of a run: the others are accepted with the same answers, and
-/// lead to the tree with its inverse undone.
+/// lead to the tree with its inverse undone. The newest command of an open transaction is such a one.
 pub fn commands_drop_out_of_runs()
-    ensures { Drop }
+    ensures runs { Drop }
+    ensures newest { NewestDrop }
 {}
 
 /// Any order of the open transactions is reached by pulling them to the front, one after another: at every stage the whole
