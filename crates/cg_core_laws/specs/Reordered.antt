@@ -8,6 +8,7 @@ use Rattle.cg_model.specs.Run.{run_items, Accepted}
 use Rattle.cg_model.specs.Machine.{Machine}
 use Rattle.cg_core_laws.specs.Headline.{OnceEach, AreOpen}
 
+-- the transaction whose item it is
 abbrev pub transaction_of : {y : System} → Item y → ℕ
 transaction_of (Ran t h c a) = t
 transaction_of (Marked t h n) = t

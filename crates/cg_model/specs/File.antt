@@ -24,7 +24,7 @@ file_of root s a pids populated frozen e files.EffectiveCpus = cond (with_cpuset
 file_of root s a pids populated frozen e files.MaxDescendants = Some (limit_text s.max_descendants)
 file_of root s a pids populated frozen e files.MaxDepth = Some (limit_text s.max_depth)
 
--- the text of a file that is there
+-- a text, or that there is no such file
 abbrev pub or_no_file : Option (List ℕ) → Result (List ℕ) Refusal
 or_no_file None = Err NoFile
 or_no_file (Some text) = Ok text

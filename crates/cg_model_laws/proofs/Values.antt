@@ -14,7 +14,7 @@ use Rattle.cg_text.specs.declared.settings.Settings.{Settings}
 use Rattle.cg_model.specs.Tree.{Tree, group, place_of, parent_group}
 use Rattle.cg_model.specs.Derived.{is_below, processes_below, available, with_cpuset, has_freeze, down_to, is_frozen, is_populated, narrowed, narrowed_along, effective_cpus, below_root}
 use Rattle.cg_model.specs.Sound.{Sound}
-use Rattle.cg_model_laws.specs.Values.{ParentGroups, PopulatedBelow, FrozenAbove, NoValues, EffectiveOfRoot, EffectiveOfChild, EffectiveNeedsCpuset}
+use Rattle.cg_model_laws.specs.Values.{ParentGroups, ValuesBelowRoot, PopulatedBelow, FrozenAbove, NoValues, EffectiveOfRoot, EffectiveOfChild, EffectiveNeedsCpuset}
 use Rattle.cg_model_laws.proofs.Paths.{never, same_name-itself, same_name-is}
 use Rattle.cg_model_laws.proofs.Parents.{last_is_parent, parent_exists, available_below, available_root}
 
@@ -24,6 +24,9 @@ parent_groups T p q e = last_is_parent (group T) p q e
 -- a value of a present group below the root is there
 value_there : {A : Type 0} (p : Path) (o : Option Settings) (s : Settings) (x : A) → o ≡ Some s → is_root p ≡ false → below_root p o x ≡ Some x
 value_there p o s x e r = ap (option_and_then (λ _. cond (is_root p) None (Some x))) e ∙ ap (λ b. cond b None (Some x)) r
+
+pub values_below_root : ValuesBelowRoot
+values_below_root T p s e r = (value_there p (group T p) s (is_populated T p) e r, value_there p (group T p) s (is_frozen T p) e r)
 
 -- so that it says what the test says
 told : (p : Path) (o : Option Settings) (s : Settings) (b : Bool) → o ≡ Some s → is_root p ≡ false → (below_root p o b ≡ Some true) ↔ (b ≡ true)

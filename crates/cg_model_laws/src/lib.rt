@@ -2,13 +2,14 @@
 //! where they say so.
 #![tactic(auto)]
 
-ghost use Rattle.cg_model_laws.specs.Values.{EffectiveNeedsCpuset, EffectiveOfChild, EffectiveOfRoot, FrozenAbove, NoValues, ParentGroups, PopulatedBelow};
+ghost use Rattle.cg_model_laws.specs.Values.{EffectiveNeedsCpuset, EffectiveOfChild, EffectiveOfRoot, FrozenAbove, NoValues, ParentGroups, PopulatedBelow, ValuesBelowRoot};
 ghost use Rattle.cg_model_laws.specs.Laws.{AbsentStays, ChangesAreMarked, ClashesBothWays, Frame, FrameOfCommands, Identity, KeysApart, KeysOfBothApart, Locality, OthersKeep, OwnChecks, PutIsHeld, SoundKept, Swap};
 
 /// Parents, and what is derived from a tree: populated where a process is in the group or below it, frozen where the group or
 /// one above it is, and the effective CPUs by those of the parent.
 pub fn derived_values_say_what_they_mean()
     ensures parents { ParentGroups }
+    ensures below_root { ValuesBelowRoot }
     ensures populated { PopulatedBelow }
     ensures frozen { FrozenAbove }
     ensures effective_root { EffectiveOfRoot }

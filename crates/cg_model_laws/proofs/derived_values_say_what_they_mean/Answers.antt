@@ -4,6 +4,7 @@ use Rattle.cg_model_laws.proofs.derived_values_say_what_they_mean.Goals as goal
 pub returns : goal.returns
 returns c = record {
   parents = values.parent_groups;
+  below_root = values.values_below_root;
   populated = values.populated_below;
   frozen = values.frozen_above;
   effective_root = values.effective_of_root;
