@@ -38,21 +38,21 @@ fn with_a(alloc: Global, out: &mut Vec<u8>) -> Result<Core, Refusal> {
     Ok(core)
 }
 
-// The answers to a transaction that creates `/a`, creates it again and is committed, and the records kept.
-fn answers(alloc: Global) -> Result<(Vec<u8>, usize), Refusal> {
+// Whether these are the answers to a transaction that creates `/a`, creates it again and is committed, and so many
+// records are kept.
+fn are_answers(alloc: Global, want: &str, records: usize) -> Result<bool, Refusal> {
     let mut out = Vec::new(alloc);
     let mut core = with_a(alloc, &mut out)?;
     let again = create(alloc, "/a")?.copy(alloc)?;
     ask(alloc, &mut core, again, &mut out)?;
     ask(alloc, &mut core, Request::Commit, &mut out)?;
-    Ok((out, core.history().len()))
+    Ok(out.as_slice() == want.as_bytes() && core.history().len() == records)
 }
 
 #[test]
 fn requests_are_answered_and_recorded(rt: HostRuntime) {
-    let (out, records) = answers(rt.alloc()).expect(&rt, "answers");
-    assert!(rt; out.as_slice() == b"begun 1\ndone\nrefused 7 exists\ncommitted 1\n".as_slice());
-    assert!(rt; records == 4);
+    let want = "begun 1\ndone\nrefused 7 exists\ncommitted 1\n";
+    assert!(rt; are_answers(rt.alloc(), want, 4) == Ok(true));
 }
 
 #[test]
@@ -64,24 +64,25 @@ fn a_session_has_a_transaction(rt: HostRuntime) {
     assert!(rt; core.open_session() == Some(SESSION));
 }
 
-// The texts of that machine's tree, of the tree as a world, and of the opening.
-fn texts(alloc: Global) -> Result<(Vec<u8>, Vec<u8>, Vec<u8>), Refusal> {
+// Whether that machine's tree, and the tree as a world, have this text, and its opening has the other.
+fn shows(alloc: Global, tree: &str, opening: &str) -> Result<bool, Refusal> {
     let core = with_a(alloc, &mut Vec::new(alloc))?;
-    let mut tree = Vec::new(alloc);
-    core.tree().write(&mut tree)?;
-    let mut world = Vec::new(alloc);
-    core.tree().to_world(alloc)?.write(&mut world)?;
-    let mut opening = Vec::new(alloc);
-    core.opening().write(&mut opening)?;
-    Ok((tree, world, opening))
+    let mut text = Vec::new(alloc);
+    core.tree().write(&mut text)?;
+    let mut of_world = Vec::new(alloc);
+    core.tree().to_world(alloc)?.write(&mut of_world)?;
+    let mut of_opening = Vec::new(alloc);
+    core.opening().write(&mut of_opening)?;
+    Ok(
+        text.as_slice() == tree.as_bytes()
+            && of_world.as_slice() == tree.as_bytes()
+            && of_opening.as_slice() == opening.as_bytes(),
+    )
 }
 
 #[test]
 fn a_machine_shows_its_trees(rt: HostRuntime) {
-    let (tree, world, opening) = texts(rt.alloc()).expect(&rt, "texts");
-    assert!(rt; tree.as_slice() == W0_WITH_A.as_bytes());
-    assert!(rt; world.as_slice() == W0_WITH_A.as_bytes());
-    assert!(rt; opening.as_slice() == W0.as_bytes());
+    assert!(rt; shows(rt.alloc(), W0_WITH_A, W0) == Ok(true));
 }
 
 // Whether this is the line of an answer's copy.

@@ -119,22 +119,30 @@ fn long_lines_are_answered(rt: HostRuntime) {
     assert!(rt; is_answered(rt.alloc(), &schedule, 1_048_576, answers, W0));
 }
 
-// A line of each of so many sessions, and the answers to them.
-fn sessions(alloc: Global, count: u32) -> Result<(Vec<u8>, Vec<u8>), AllocError> {
+// A line of each of so many sessions.
+fn lines_of_sessions(alloc: Global, count: u32) -> Result<Vec<u8>, AllocError> {
     let mut schedule = Vec::new(alloc);
-    let mut answers = Vec::new(alloc);
     for number in 0..count {
         let line = format!(in alloc; "n{number} commit\n")?;
         schedule.extend_from_slice(line.as_bytes())?;
+    }
+    Ok(schedule)
+}
+
+// The answers to so many lines of sessions that have no transaction.
+fn refusals(alloc: Global, count: u32) -> Result<Vec<u8>, AllocError> {
+    let mut answers = Vec::new(alloc);
+    for _ in 0..count {
         answers.extend_from_slice(b"refused 2 notransaction\n")?;
     }
-    Ok((schedule, answers))
+    Ok(answers)
 }
 
 /// The 4,097th name of a session is one too many; an earlier one still asks.
 #[test]
 fn sessions_are_numbered(rt: HostRuntime) {
-    let (mut schedule, mut answers) = sessions(rt.alloc(), 4_096).expect(&rt, "memory");
+    let mut schedule = lines_of_sessions(rt.alloc(), 4_096).expect(&rt, "memory");
+    let mut answers = refusals(rt.alloc(), 4_096).expect(&rt, "memory");
     schedule
         .extend_from_slice(b"n4096 commit\nn4095 begin")
         .expect(&rt, "memory");
