@@ -1,4 +1,4 @@
-//! Worked schedules over a world.
+//! Schedules over a world, where the program doesn't show them: another limit of the history, and a great many sessions.
 use cg_script::device::{FromRead, FromWrite};
 use cg_script::fault::ScriptFault;
 use cg_script::lines::{LineFault, LineReader};
@@ -40,83 +40,11 @@ fn is_answered(alloc: Global, schedule: &[u8], limit: u32, answers: &[u8], tree:
     }
 }
 
-const CASES: [(&str, &[u8], u32, &[u8]); 7] = [
-    (
-        "begin beside an open one",
-        b"A begin\nB begin\nA commit\nB begin\nB commit\n",
-        1_048_576,
-        b"begun 1\nrefused 5 busy 1\ncommitted 1\nbegun 2\ncommitted 2\n",
-    ),
-    (
-        "create and abort",
-        b"A begin\nA create /a\nA abort\n",
-        1_048_576,
-        b"begun 1\ndone\naborted 1\n",
-    ),
-    ("empty schedule", b"", 1_048_576, b""),
-    (
-        "full at limit 4",
-        b"A begin\nA create /a\nA create /b\nA abort\nA begin\n",
-        4,
-        b"begun 1\ndone\nrefused 4 full\naborted 1\nrefused 4 full\n",
-    ),
-    (
-        "lines not utf8",
-        b"A begin\n\xff\nA create /\xff\n# \xff\nA commit\n",
-        1_048_576,
-        b"begun 1\nrefused 1 syntax\nrefused 1 syntax\nrefused 1 syntax\ncommitted 1\n",
-    ),
-    (
-        "refusals",
-        b"B begin\nB create /b/c\nB create /\nB begin\nZ commit\n",
-        1_048_576,
-        b"begun 1\nrefused 6 nogroup\nrefused 7 exists\nrefused 3 alreadyopen\nrefused 2 notransaction\naborted 1\n",
-    ),
-    (
-        "a quoted path on a last line without a newline",
-        b"A begin\nA create \"/a b\nA create \"/a b\"",
-        1_048_576,
-        b"begun 1\nrefused 1 syntax\ndone\naborted 1\n",
-    ),
-];
-
 #[test]
-fn worked_schedules_are_answered(rt: HostRuntime) {
-    for (name, schedule, limit, answers) in &CASES {
-        assert!(rt;
-            is_answered(rt.alloc(), schedule, *limit, answers, W0),
-            "{name}"
-        );
-    }
-}
-
-#[test]
-fn a_quoted_path_is_committed(rt: HostRuntime) {
-    let schedule = b"A begin\nA create \"/a b\nA create \"/a b\"\nA commit";
-    let answers = b"begun 1\nrefused 1 syntax\ndone\ncommitted 1\n";
-    let tree =
-        "world 1\ncontrollers cpuset cpu memory\nonline 0-7\ngroup / - 0 -\ngroup \"/a b\" - 0 -\nproc 10 /\nproc 11 /\nend\n";
-    assert!(rt; is_answered(rt.alloc(), schedule, 1_048_576, answers, tree));
-}
-
-// Comments of 65,537 and of 65,536 bytes in a transaction.
-fn long_comments(alloc: Global) -> Result<Vec<u8>, AllocError> {
-    let mut schedule = Vec::from_slice(alloc, b"A begin\n")?;
-    for length in &[65_537, 65_536] {
-        let comment = vec![in alloc; b'#'; *length]?;
-        schedule.extend_from_slice(&comment)?;
-        schedule.push(b'\n')?;
-    }
-    schedule.extend_from_slice(b"A commit\n")?;
-    Ok(schedule)
-}
-
-/// The first is refused, a comment too, and the next lines go on.
-#[test]
-fn long_lines_are_answered(rt: HostRuntime) {
-    let schedule = long_comments(rt.alloc()).expect(&rt, "memory");
-    let answers = b"begun 1\nrefused 1 syntax\ncommitted 1\n";
-    assert!(rt; is_answered(rt.alloc(), &schedule, 1_048_576, answers, W0));
+fn a_history_is_full_at_its_limit(rt: HostRuntime) {
+    let schedule = b"A begin\nA create /a\nA create /b\nA abort\nA begin\n";
+    let answers = b"begun 1\ndone\nrefused 4 full\naborted 1\nrefused 4 full\n";
+    assert!(rt; is_answered(rt.alloc(), schedule, 4, answers, W0));
 }
 
 // A line of each of so many sessions.

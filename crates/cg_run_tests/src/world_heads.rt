@@ -65,31 +65,6 @@ fn a_reader_stops_behind_the_end(rt: HostRuntime) {
     }
 }
 
-// So many bytes: the world, comments in lines of at most 65,536 bytes, and the end.
-fn filled(alloc: Global, length: usize) -> Result<Vec<u8>, AllocError> {
-    let mut line = vec![in alloc; b'#'; 65_535]?;
-    line.push(b'\n')?;
-    let mut text = Vec::from_slice(alloc, WORLD)?;
-    let left = length.saturating_sub(text.len().saturating_add(4));
-    for _ in 0..left / 65_536 {
-        text.extend_from_slice(&line)?;
-    }
-    text.extend_from_slice(&line[65_536 - left % 65_536..])?;
-    text.extend_from_slice(b"end\n")?;
-    Ok(text)
-}
-
-#[test]
-fn a_world_has_up_to_16_mebibytes(rt: HostRuntime) {
-    let mut longest = filled(rt.alloc(), 16_777_216).expect(&rt, "memory");
-    longest
-        .extend_from_slice(b"A begin\n")
-        .expect(&rt, "memory");
-    assert!(rt; is_behind(rt.alloc(), &longest, Some("A begin")) == Ok(true));
-    let longer = filled(rt.alloc(), 16_777_217).expect(&rt, "memory");
-    assert!(rt; fault_of_bytes(rt.alloc(), &longer) == Ok(Some(ScriptFault::Syntax)));
-}
-
 const NO_ENDS: [&[u8]; 9] = [
     b"",
     b"end of it\n",

@@ -8,8 +8,6 @@ mod interface_files;
 #[cfg(test)]
 mod names;
 #[cfg(test)]
-mod other_worlds;
-#[cfg(test)]
 mod paths;
 #[cfg(test)]
 mod plans;

@@ -1,6 +1,5 @@
 //! Plain trees: built by hand, copied, written, and tested for soundness.
 use crate::plans::named;
-use crate::worlds::HOSTILE;
 use cg_cpus::cpu_set::CpuSet;
 use cg_name::name::Name;
 use cg_name::path::Path;
@@ -10,6 +9,32 @@ use cg_world::plain::PlainTree;
 use cg_world::version::Version;
 use cg_world::world::World;
 use std::alloc::Global;
+
+// The names by their bytes, each in the word that is written for its group's path.
+const HOSTILE: &str = "world 1
+controllers
+online 0
+group / - 0 -
+group \"/\u{1}\" - 0 -
+group /#a - 0 -
+group \"/a\tb\" - 0 -
+group \"/a\rb\" - 0 -
+group \"/a b\" - 0 -
+group \"/a\\\"b\" - 0 -
+group /a\u{27}b - 0 -
+group \"/a\\\\b\" - 0 -
+group /a~b - 0 -
+group \"/b\r\" - 0 -
+group \"/\u{7f}\" - 0 -
+group \"/é\" - 0 -
+group \"/\u{1f600}\" - 0 -
+proc 1 \"/a\tb\"
+proc 2 \"/a\\\"b\"
+proc 3 \"/a\\\\b\"
+proc 4 \"/b\r\"
+proc 5 \"/\u{1f600}\"
+end
+";
 
 // Settings with no limits, of controllers with a space between two and of a list of CPUs.
 fn settings(control: &str, freeze: bool, cpus: &str) -> Result<Settings, Refusal> {

@@ -15,99 +15,20 @@ fn comes_back_as(alloc: Global, text: &[u8], want: &[u8]) -> Result<bool, Refusa
     Ok(out.as_slice() == want && again.as_slice() == want)
 }
 
-// The names by their bytes, each in the word that is written for its group's path.
-pub(crate) const HOSTILE: &str = "world 1
-controllers
-online 0
-group / - 0 -
-group \"/\u{1}\" - 0 -
-group /#a - 0 -
-group \"/a\tb\" - 0 -
-group \"/a\rb\" - 0 -
-group \"/a b\" - 0 -
-group \"/a\\\"b\" - 0 -
-group /a\u{27}b - 0 -
-group \"/a\\\\b\" - 0 -
-group /a~b - 0 -
-group \"/b\r\" - 0 -
-group \"/\u{7f}\" - 0 -
-group \"/é\" - 0 -
-group \"/\u{1f600}\" - 0 -
-proc 1 \"/a\tb\"
-proc 2 \"/a\\\"b\"
-proc 3 \"/a\\\\b\"
-proc 4 \"/b\r\"
-proc 5 \"/\u{1f600}\"
-end
-";
-
-// Texts that are written as they are read.
-const SAME: [&str; 5] = [
-    "world 1\ncontrollers cpuset cpu memory\nonline 0-7\ngroup / - 0 -\nproc 10 /\nproc 11 /\nend\n",
-    HOSTILE,
-    // CPU numbers that version 1 has not
-    "world 2\ncontrollers cpuset\nonline 0-1023\ngroup / cpuset 0 - max max\ngroup /a - 0 200-201 max max\nend\n",
-    "world 2\ncontrollers\nonline 128\ngroup / - 0 - max max\nend\n",
-    "world 1\ncontrollers\nonline 0\ngroup / - 0 -\ngroup \"/a b\" - 0 -\nproc 10 \"/a b\"\nend\n",
-];
-
 #[test]
-fn worlds_are_read_and_written(rt: HostRuntime) {
-    for text in &SAME {
-        let same = comes_back_as(rt.alloc(), text.as_bytes(), text.as_bytes());
-        assert!(rt; same == Ok(true), "{text}");
-    }
+fn a_world_is_read_and_written(rt: HostRuntime) {
+    let text =
+        b"world 1\ncontrollers cpuset cpu memory\nonline 0-7\ngroup / - 0 -\nproc 10 /\nproc 11 /\nend\n";
+    assert!(rt; comes_back_as(rt.alloc(), text, text) == Ok(true));
 }
 
-// A text, and that which is written for its world.
-const FORMS: [(&str, &str); 8] = [
-    // comments, blanks, carriage returns, groups and controllers in any order
-    (
-        "# a job and its two parts\r\n\tworld \t1\r\n\r\n  # its controllers in any order\ncontrollers memory cpuset io\t\nonline 0-3,6\ngroup /job/b - 1 -\ngroup /job/a memory 0 2-3,6\ngroup / io,cpuset,memory 0 -\ngroup /job memory,cpuset 0 0-3\nproc 00000000000000000012 /job/b\nproc 4194303 /\n  end\r\n# nothing more\n\t\r\n ",
-        "world 1\ncontrollers cpuset io memory\nonline 0-3,6\ngroup / cpuset,io,memory 0 -\ngroup /job cpuset,memory 0 0-3\ngroup /job/a memory 0 2-3,6\ngroup /job/b - 1 -\nproc 12 /job/b\nproc 4194303 /\nend\n",
-    ),
-    // lists of any order, with overlaps and leading zeros
-    (
-        "world 1\ncontrollers cpuset\nonline 007,0-3,2-5\ngroup /a - 0 9,0000000000000000000000008,1-3,3\ngroup / cpuset 0 -\nend\n",
-        "world 1\ncontrollers cpuset\nonline 0-5,7\ngroup / cpuset 0 -\ngroup /a - 0 1-3,8-9\nend\n",
-    ),
-    // a text of version 2 that could have been of version 1
-    (
-        "world 2\ncontrollers cpu\nonline 0-127\ngroup / cpu 0 - max 2147483647\nproc 1 /\nend\n",
-        "world 1\ncontrollers cpu\nonline 0-127\ngroup / cpu 0 -\nproc 1 /\nend\n",
-    ),
-    // limits, the greatest of them as a number and as `max`
-    (
-        "world 2\ncontrollers\nonline 0\ngroup / - 0 - 07 2147483646\ngroup /a - 0 - 2147483647 0\nend\n",
-        "world 2\ncontrollers\nonline 0\ngroup / - 0 - 7 2147483646\ngroup /a - 0 - max 0\nend\n",
-    ),
-    (
-        "world 2\ncontrollers memory cpuset\nonline 0-1023\ngroup / cpuset 0 - 00012 max\ngroup /a - 0 01023,5-6,6-7 2147483646 0\ngroup /b - 1 - 2147483647 0000000000002147483647\nend\n",
-        "world 2\ncontrollers cpuset memory\nonline 0-1023\ngroup / cpuset 0 - 12 max\ngroup /a - 0 5-7,1023 2147483646 0\ngroup /b - 1 - max max\nend\n",
-    ),
-    // paths that are quoted, though they could stand bare
-    (
-        "world 1\ncontrollers\nonline 0\ngroup \"/\" - 0 -\ngroup \"/a\" - 0 -\nproc 10 \"/a\"\nend\n",
-        "world 1\ncontrollers\nonline 0\ngroup / - 0 -\ngroup /a - 0 -\nproc 10 /a\nend\n",
-    ),
-    // bare, though they are written quoted
-    (
-        "world 1\ncontrollers\nonline 0\ngroup / - 0 -\ngroup /é - 0 -\ngroup /\u{7f}\r/\u{1} - 0 -\ngroup \t/\u{7f}\r\t- 0 -\nproc 10 /é\r\nend\n",
-        "world 1\ncontrollers\nonline 0\ngroup / - 0 -\ngroup \"/\u{7f}\r\" - 0 -\ngroup \"/\u{7f}\r/\u{1}\" - 0 -\ngroup \"/é\" - 0 -\nproc 10 \"/é\"\nend\n",
-    ),
-    // a number sign and blanks between the marks
-    (
-        "world 1\ncontrollers\nonline 0\ngroup / - 0 -\ngroup \"/ #\t\" - 0 -\nend\n",
-        "world 1\ncontrollers\nonline 0\ngroup / - 0 -\ngroup \"/ #\t\" - 0 -\nend\n",
-    ),
-];
-
 #[test]
-fn worlds_are_written_in_one_form(rt: HostRuntime) {
-    for (text, written) in &FORMS {
-        let one = comes_back_as(rt.alloc(), text.as_bytes(), written.as_bytes());
-        assert!(rt; one == Ok(true), "{text}");
-    }
+fn nothing_but_silence_follows_a_world(rt: HostRuntime) {
+    let text = b"world 1\ncontrollers\nonline 0\ngroup / - 0 -\nend\n";
+    let silent = b"world 1\ncontrollers\nonline 0\ngroup / - 0 -\nend\n# nothing more\n\t\r\n ";
+    let twice = b"world 1\ncontrollers\nonline 0\ngroup / - 0 -\nend\nend\n";
+    assert!(rt; comes_back_as(rt.alloc(), silent, text) == Ok(true));
+    assert!(rt; comes_back_as(rt.alloc(), twice, text) == Err(Refusal::Syntax));
 }
 
 const PARTS: &str = "world 2
@@ -208,4 +129,35 @@ fn is_sound(alloc: Global) -> Result<(), Refusal> {
 #[test]
 fn a_world_is_a_sound_tree(rt: HostRuntime) {
     assert!(rt; is_sound(rt.alloc()) == Ok(()));
+}
+
+// A world of so many groups below one another, each the only child of that above, whose names are so many
+// quotation marks.
+fn deep_groups(alloc: Global, depth: usize, length: usize) -> Result<Vec<u8>, AllocError> {
+    let mut text = Vec::from_slice(alloc, b"world 1\ncontrollers\nonline 0\ngroup / - 0 -\n")?;
+    let mut path = Vec::new(alloc);
+    for _ in 0..depth {
+        path.push(b'/')?;
+        for _ in 0..length {
+            path.extend_from_slice(b"\\\"")?;
+        }
+        text.extend_from_slice(b"group \"")?;
+        text.extend_from_slice(path.as_slice())?;
+        text.extend_from_slice(b"\" - 0 -\n")?;
+    }
+    text.extend_from_slice(b"end\n")?;
+    Ok(text)
+}
+
+// Whether such a world is written as it is read.
+fn deep_groups_come_back(alloc: Global, depth: usize, length: usize) -> Result<bool, Refusal> {
+    let text = deep_groups(alloc, depth, length)?;
+    comes_back_as(alloc, text.as_slice(), text.as_slice())
+}
+
+#[test]
+fn a_path_has_up_to_64_names_of_255_bytes(rt: HostRuntime) {
+    assert!(rt; deep_groups_come_back(rt.alloc(), 64, 255) == Ok(true));
+    assert!(rt; deep_groups_come_back(rt.alloc(), 65, 255) == Err(Refusal::Syntax));
+    assert!(rt; deep_groups_come_back(rt.alloc(), 1, 256) == Err(Refusal::Syntax));
 }
