@@ -3,7 +3,7 @@ use cg_cpus::cpu_set::CpuSet;
 use cg_name::path::Path;
 use cg_name::refusal::Refusal;
 use cg_world::world::World;
-use std::alloc::Global;
+use std::alloc::{AllocError, Global};
 
 // Whether this is written for the world that a text spells, and for a copy of it.
 fn comes_back_as(alloc: Global, text: &[u8], want: &[u8]) -> Result<bool, Refusal> {
