@@ -46,11 +46,16 @@ module _ {K X : Type 0} {R : K → K → Ordering} (o : IsTotalOrder R) (same : 
       found [] = refl
       found (e ∷ es) = λ i. cond (is_at (λ x. sym (alike x) i) e.0) (Some e.1) (found es i)
 
+  -- where entries answer w at k and else as others do, their map is that of the others with w at k
+  pub from-updates : (es fs : List (K × X)) (k : K) (w : Option X) → ((q : K) → lookup (is_at (R q)) fs ≡ cond (eq_by_cmp R k q) w (lookup (is_at (R q)) es)) → from_entries R fs ≡ set_at (from_entries R es) k w
+  from-updates es fs k w h = same_map o same _ _ (λ q.
+      get-from_entries o same fs q ∙ find-lookup R q fs ∙ h q
+      ∙ (λ i. cond ((eq_by_cmp_equiv o).symm k q i) w (sym (get-from_entries o same es q ∙ find-lookup R q es) i))
+      ∙ sym (get-set_at o same (from_entries R es) k w q))
+
   -- where a tree map takes w at k (`None` takes the key out) and keeps the rest, the view does: insert, remove, a write through `get_mut`
   pub view-updates : (m n : BTreeMap K X) (k : K) (w : Option X) → ((q : K) → tree.get R n q ≡ cond (eq_by_cmp R k q) w (tree.get R m q)) → from_entries R n.entries ≡ set_at (from_entries R m.entries) k w
-  view-updates m n k w h = same_map o same _ _ (λ q.
-      get-view n q ∙ h q ∙ (λ i. cond ((eq_by_cmp_equiv o).symm k q i) w (sym (get-view m q) i))
-      ∙ sym (get-set_at o same (from_entries R m.entries) k w q))
+  view-updates m n k w h = from-updates m.entries n.entries k w h
 
   pub view-insert : (m n : BTreeMap K X) (k : K) (v : X) → tree.Updates R m n k (Some v) → from_entries R n.entries ≡ set_at (from_entries R m.entries) k (Some v)
   view-insert m n k v h = view-updates m n k (Some v) h.0
