@@ -1,6 +1,7 @@
-use Rattle.cg_name.proofs.Packing.{packed_text-take}
+use Rattle.std.proofs.Common.{sym, ap, ◌∙◌}
+use Rattle.cg_name.specs.Packed.{packed_text}
+use Rattle.cg_name.proofs.Packing.{packed_text-names_in}
 use Rattle.cg_name.proofs.path.Path.prefix_bytes.Goals as goal
 
 pub returns-clause-value : goal.returns-clause-value
-returns-clause-value c = rw (c.as_slice-bytes.ensures, ← c.self.view_is)
-    (packed_text-take c.self.inside.bytes.items c.start_of.result c.args.depth c.self.invariant.start (rw c.as_slice-bytes.ensures at c.start_of.ensures.names))
+returns-clause-value c = sym (packed_text-names_in c.prefix_text.result.now c.prefix_text.ensures.packed.start) ∙ ap packed_text c.prefix_text.ensures.value
