@@ -126,7 +126,7 @@ pub fn write_quoted(text: &[u8], out: &mut Vec<u8>) -> Result<(), Refusal>
     ensures unchanged { OnErr result (out.new.items ≡ out.old.items) }
     ensures refusals { IfErr result (λ e. e ≡ Memory) }
 {
-    word::write_quoted(text, out)
+    Ok(word::write_quoted(text, out)?)
 }
 
 // What follows appends to `out`, and a refusal leaves what stood there at the front.
