@@ -1,7 +1,6 @@
 -- Groups below a path, counted one by one.
-use Rattle.std.proofs.Common.{◌≡◌, ℕ, suc, ◌-◌, ◌<◌, ◌≤◌, Bool, true, false, nat_le, nat_eq, ◌==◌, ◌&&◌, cond, List, [], ◌∷◌, filter, length, take, refl, sym, ap, ◌∙◌, arith}
+use Rattle.std.proofs.Common.{◌≡◌, ℕ, suc, ◌-◌, ◌<◌, ◌≤◌, Bool, true, false, nat_le, ◌==◌, ◌&&◌, cond, List, [], ◌∷◌, filter, length, refl, sym, ap, ◌∙◌, arith}
 use Rattle.std.specs.Prelude.{nat_lt}
-use Rattle.std.specs.Cmp.Lexicographic.{pointwise, texts_ties}
 use Rattle.std.specs.FinMap.Entries.{where_key}
 use Rattle.std.proofs.lemmas.Bool.Decides.{nat_tests}
 use Rattle.cg_maps.specs.FiniteMap.{FiniteMap, bare, entries, len, retain, domain}
@@ -41,13 +40,7 @@ counted p e es left l h = ap (λ b. nat_le left (length (cond b (e ∷ filter (�
 pub not_counted : (p : Path) (e : Path × Settings) (es : List (Path × Settings)) (left : ℕ) → is_above p e.0 ≡ false → nat_le left (below_in p (e ∷ es)) ≡ nat_le left (below_in p es)
 not_counted p e es left h = ap (λ b. nat_le left (length (cond b (e ∷ filter (λ f. is_above p f.0) es) (filter (λ f. is_above p f.0) es)))) h
 
--- ---- a path is above another where it is shorter and its names are the other's first
-
-pub begins_with : (p q : Path) → pointwise (pointwise nat_eq) p (take (length p) q) ≡ is_prefix p q
-unfolding same_name
-begins_with [] q = refl
-begins_with (n ∷ p) [] = refl
-begins_with (n ∷ p) (m ∷ q) = λ i. texts_ties n m i && begins_with p q i
+-- ---- a path is above another where it is shorter and the other begins with it
 
 and_false : (b : Bool) → (b && false) ≡ false
 and_false true = refl

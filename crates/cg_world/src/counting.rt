@@ -38,5 +38,5 @@ fn has_below(groups: &BTreeMap<Path, Settings>, path: &Path, count: u32) -> bool
 fn is_above(path: &Path, other: &Path) -> bool
     ensures { result ≡ is_above path.now other.now }
 {
-    path.depth() < other.depth() && other.names().starts_with(path.names())
+    path.depth() < other.depth() && path.is_prefix(other)
 }
