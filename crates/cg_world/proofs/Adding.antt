@@ -1,5 +1,6 @@
 -- Names of controllers, taken one by one.
-use Rattle.std.proofs.Common.{Result, Ok, Err, ◌≡◌, ℕ, ◌+◌, ◌<◌, ◌==◌, ◌↔◌, suc, cond, List, [], ◌∷◌, length, get_or, drop, map, Bor, refl, sym, ap, subst, ◌∙◌, add-one, drop-cons}
+use Rattle.std.proofs.Common.{Result, Ok, Err, ◌≡◌, ℕ, ◌+◌, ◌<◌, ◌==◌, ◌↔◌, suc, cond, List, [], ◌∷◌, ◌++◌, length, get_or, take, drop, map, Bor, refl, sym, ap, subst, ◌∙◌, add-one, drop-cons}
+use Rattle.std.proofs.Math.Seq.{take-suc}
 use Rattle.cg_name.specs.Controller.{controller_word}
 use Rattle.cg_name.specs.declared.controller.Controller.{Controller}
 use Rattle.cg_name.specs.declared.controller.Controller.TheVariants.{Cpuset, Cpu, Io, Memory, Hugetlb, Pids, Rdma, Misc}
@@ -50,6 +51,10 @@ one_sum (w ∷ ws) s all other h k =
 -- what is left at a turn is its item and what is left then
 pub next_left : {X : Type 0} (all : List X) (k : ℕ) (x : X) → k < length all → x ≡ get_or all k x → drop k all ≡ x ∷ drop (k + 1) all
 next_left all k x l e = drop-cons all k x l ∙ ap (λ y. y ∷ drop (suc k) all) (sym e) ∙ ap (λ n. x ∷ drop n all) (sym (add-one k))
+
+-- and what was taken before it is one longer
+pub next_taken : {X : Type 0} (all : List X) (k : ℕ) (x : X) → k < length all → x ≡ get_or all k x → take (k + 1) all ≡ take k all ++ x ∷ []
+next_taken all k x l e = ap (λ n. take n all) (add-one k) ∙ take-suc all k x l ∙ ap (λ y. take k all ++ y ∷ []) (sym e)
 
 -- a name more is taken
 pub next_round : (A : Type 0) (s t : Controllers) (w : Word) (left rest : List Word) (all : Controllers) → left ≡ w ∷ rest → AddsControllers s (w ∷ []) t → A ↔ AddsControllers s left all → A ↔ AddsControllers t rest all

@@ -2,6 +2,7 @@ pub mod Adding
 mod Appending
 pub mod Below
 pub mod Cpus
+pub mod Endings
 pub mod Limits
 pub mod Lines
 mod Listed
@@ -9,10 +10,11 @@ pub mod LowCpus
 pub mod PlainWords
 mod Puts
 mod Representable
-mod RoundTrip
+pub mod RoundTrip
 mod SoundTrees
 pub mod Spelled
 pub mod Stages
+pub mod Taken
 mod Trees
 mod WrittenCpus
 mod WrittenLimits

@@ -10,6 +10,7 @@ use Rattle.cg_world.specs.declared.statement.Statement.{Statement}
 use Rattle.cg_world.specs.declared.version.Version as versions
 use Rattle.cg_world.specs.Statement.{SpellsStatement}
 use Rattle.cg_world.specs.World.{SpellsEach, SpellsWorld}
+use Rattle.cg_world.specs.Reader.{SpellTree}
 use Rattle.cg_world.specs.Stage.{taken, version_at, Finishes, Leads}
 use Rattle.cg_text.proofs.Cuts.{one_saying, one_text}
 use Rattle.cg_text.proofs.Lines.{say_parts}
@@ -17,17 +18,17 @@ use Rattle.cg_world.proofs.Spelled.{one_statement}
 use Rattle.cg_world.proofs.Stages.{goes, stops, ended, read_by}
 
 -- an empty line behind the last newline says nothing
-pub leads : (text : List ℕ) (T : Tree) → SpellsWorld text T → Leads Begun (slice_split is_newline text) T
+pub leads : (text : List ℕ) (T : Tree) → SpellsWorld text T → SpellTree (slice_split is_newline text) T
 leads text T h = record {
   said = h.said;
   lines_say = (say_parts (slice_split is_newline text) h.said).0 h.lines;
   version = h.version;
   statements = h.statements;
   spelled = h.spelled;
-  finished = h.arranged;
+  arranged = h.arranged;
 }
 
-pub spells : (text : List ℕ) (T : Tree) → length text ≤ 16777216 → Leads Begun (slice_split is_newline text) T → Sound T → SpellsWorld text T
+pub spells : (text : List ℕ) (T : Tree) → length text ≤ 16777216 → SpellTree (slice_split is_newline text) T → Sound T → SpellsWorld text T
 spells text T short h sound = record {
   short = short;
   said = h.said;
@@ -35,7 +36,7 @@ spells text T short h sound = record {
   version = h.version;
   statements = h.statements;
   spelled = h.spelled;
-  arranged = h.finished;
+  arranged = h.arranged;
   sound = sound;
 }
 
@@ -61,9 +62,19 @@ one_made (ws ∷ wss) st v w (s ∷ ss) (t ∷ ts) T U h k f g =
       | Some next ↦ λ e. one_made wss next v w ss ts T U h.1 k.1 ((goes st s next e v ss T).0 f) ((goes st s next e w ts U).0 (subst (λ r. Finishes st w (r ∷ ts) U) (sym same) g))
     ] refl
 
-pub one_tree : (st : Stage) (lines : List Line) (T U : Tree) → Leads st lines T → Leads st lines U → T ≡ U
+one_tree : (st : Stage) (lines : List Line) (T U : Tree) → Leads st lines T → Leads st lines U → T ≡ U
 one_tree st lines T U h k =
     one_made h.said st h.version k.version h.statements k.statements T U h.spelled (subst (λ ws. SpellsEach k.version ws k.statements) (one_text lines k.said h.said k.lines_say h.lines_say) k.spelled) h.finished k.finished
+
+-- lines that spell a tree lead to it from the start
+pub from_begun : (lines : List Line) (T : Tree) → SpellTree lines T ↔ Leads Begun lines T
+from_begun lines T = (
+  (λ h. record { said = h.said; lines_say = h.lines_say; version = h.version; statements = h.statements; spelled = h.spelled; finished = h.arranged }),
+  (λ h. record { said = h.said; lines_say = h.lines_say; version = h.version; statements = h.statements; spelled = h.spelled; arranged = h.finished }),
+)
+
+pub one_spelled : (lines : List Line) (T U : Tree) → SpellTree lines T → SpellTree lines U → T ≡ U
+one_spelled lines T U h k = one_tree Begun lines T U ((from_begun lines T).0 h) ((from_begun lines U).0 k)
 
 -- ---- one line more
 

@@ -147,14 +147,14 @@ process_good e h =
       short = omega (arith, path.1, length-decimal-le 7 e.0 (omega arith) (omega (arith, h.high)) (omega (arith, h.high)), length-append d (32 ∷ p));
     }
 
-version_good : (v : versions.Version) → IsWrittenLine (codes "world" ∷ version_word v ∷ [])
+pub version_good : (v : versions.Version) → IsWrittenLine (codes "world" ∷ version_word v ∷ [])
 version_good One = record { words = all_fit (codes "world" ∷ codes "1" ∷ []) (record { some = omega arith; plain = refl }, (record { some = omega arith; plain = refl }, tt)); says = refl; short = omega arith }
 version_good Two = record { words = all_fit (codes "world" ∷ codes "2" ∷ []) (record { some = omega arith; plain = refl }, (record { some = omega arith; plain = refl }, tt)); says = refl; short = omega arith }
 
-end_good : IsWrittenLine (codes "end" ∷ [])
+pub end_good : IsWrittenLine (codes "end" ∷ [])
 end_good = record { words = all_fit (codes "end" ∷ []) (record { some = omega arith; plain = refl }, tt); says = refl; short = omega arith }
 
-controllers_good : (s : sets.Controllers) → IsWrittenLine (controllers_words s)
+pub controllers_good : (s : sets.Controllers) → IsWrittenLine (controllers_words s)
 controllers_good s = record {
   words = all_fit (controllers_words s) (record { some = omega arith; plain = refl }, words_plain (members s));
   says = names_say (members s);
@@ -169,7 +169,7 @@ controllers_good s = record {
     names_line [] l = omega arith
     names_line (c ∷ cs) l = omega (arith, names_short 32 (c ∷ cs))
 
-online_good : (s : FiniteSet) → AreCpusUpTo 1023 s → is_empty_set s ≡ false → IsWrittenLine (codes "online" ∷ cpus_text s ∷ [])
+pub online_good : (s : FiniteSet) → AreCpusUpTo 1023 s → is_empty_set s ≡ false → IsWrittenLine (codes "online" ∷ cpus_text s ∷ [])
 online_good s low some = record { words = all_fit (codes "online" ∷ cpus_text s ∷ []) (record { some = omega arith; plain = refl }, (cpus_plain s low some, tt)); says = refl; short = omega (arith, cpus_short s low) }
 
 -- ---- each line's words spell its statement
@@ -215,7 +215,7 @@ spells_pid k low high =
     let n = decimal_is_IsNumeral k (omega arith) in
     subst (λ t. IsNumeral 10 t × (digits_value 10 t ≡ k) × (1 ≤ k) × (k ≤ 4194303)) (sym (nothing_trimmed (decimal k) (decimal_plain k (omega arith)))) (n.0, n.1, low, high)
 
-spells_some : (most : ℕ) (s : FiniteSet) → AreCpusUpTo 1023 s → AreCpusUpTo most s → is_empty_set s ≡ false → SpellsSomeCpus most (cpus_text s) s
+pub spells_some : (most : ℕ) (s : FiniteSet) → AreCpusUpTo 1023 s → AreCpusUpTo most s → is_empty_set s ≡ false → SpellsSomeCpus most (cpus_text s) s
 spells_some most s low fit some = (canonical_spells s (λ n k. omega (arith, low n k)), some, fit)
 
 spells_asked : (most : ℕ) (s : FiniteSet) → AreCpusUpTo 1023 s → AreCpusUpTo most s → SpellsAskedCpus most (asked_cpus_text s) s

@@ -12,7 +12,7 @@ use Rattle.cg_world.specs.declared.version.Version as versions
 use Rattle.cg_world.specs.World.{Lists, group_of, process_of, Arranges}
 use Rattle.cg_world.specs.Stage.{bare_tree, with_group, with_process, taken, version_at, Finishes}
 
-free : {X : Type 0} (o : Option X) (n m : Stage) → cond (is_some o) None (Some n) ≡ Some m → (o ≡ None) × (n ≡ m)
+pub free : {X : Type 0} (o : Option X) (n m : Stage) → cond (is_some o) None (Some n) ≡ Some m → (o ≡ None) × (n ≡ m)
 free None n m e = (refl, cc)
 free (Some x) n m e = absurd (cc e)
 

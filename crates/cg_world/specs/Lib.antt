@@ -1,6 +1,7 @@
 pub mod Laws
 pub mod Parts
 pub mod Plain
+pub mod Reader
 pub mod Soundness
 pub mod Stage
 pub mod Statement

@@ -6,6 +6,7 @@ mod fitting;
 pub mod laws;
 mod parts;
 pub mod plain;
+pub mod reader;
 mod reading;
 mod soundness;
 mod stage;
