@@ -1,19 +1,21 @@
--- Lines that are gathered up to the first that ends a world.
-use Rattle.std.proofs.Common.{codes, ◌↔◌, ◌≡◌, ℕ, ◌+◌, ◌<◌, ◌≤◌, List, [], ◌∷◌, ◌++◌, length, sym, ap, ◌∙◌, refl, subst, inl, inr, arith, append-nil, append_assoc, length-append, true≢false}
-use Rattle.std.specs.Prelude.{◌⊎◌, Option, Some, None, IfSome, Result, Ok, Err, OnOk}
+-- Lines that are taken up to the first that ends a world.
+use Rattle.std.proofs.Common.{◌≡◌, ℕ, ◌+◌, ◌<◌, ◌≤◌, List, [], ◌∷◌, ◌++◌, length, sym, ap, ◌∙◌, refl, subst, inl, inr, arith, append-nil, append_assoc, length-append, true≢false}
+use Rattle.std.specs.Prelude.{◌⊎◌, Option, Some, None, IfSome, Result, Ok, Err, IfOk, OnOk}
 use Rattle.std.specs.List.{AllByRecursion}
 use Rattle.std.specs.Io.KnownBytes.{Consumes}
 use Rattle.std.proofs.lemmas.List.{append_cancel_left}
 use Rattle.std.proofs.lemmas.Grind.{flat_map-append}
 use Rattle.cg_model.specs.Tree.{Tree}
-use Rattle.cg_text.specs.Words.{Word, IsLine, Says, SayAll, lines_of}
+use Rattle.cg_model.specs.Sound.{Sound}
+use Rattle.cg_text.specs.Words.{Line, Word, IsLine, Says, SayAll, lines_of}
+use Rattle.cg_world.specs.declared.stage.Stage.{Stage}
+use Rattle.cg_world.specs.Reader.{EndsWorld, HasTaken, SomeEnds, SpellTree}
 use Rattle.cg_world.specs.World.{SpellsWorld}
 use Rattle.cg_script.specs.Lines.{HasNoNewline, BeginsWithLine, TakesKnownLine}
 use Rattle.cg_script.specs.declared.lines.LineKind.TheVariants.{End, TooLong, Text, Last}
-use Rattle.cg_script.specs.WorldPart.{EndsWorld, joined, BeginsWithWorld, ReadsWorld, HasNoWorld}
-use Rattle.cg_script.specs.WorldLines.{EndsAt, AddsLine, AddsLast, GathersWorld, SpoilsWorld, SpoilsEnd, StopsWorld}
-use Rattle.cg_text.proofs.Cuts.{one_saying}
-use Rattle.cg_script.proofs.LinesLaw.{lines_of-begins, lines_of-nil}
+use Rattle.cg_script.specs.WorldPart.{joined, BeginsWithWorld, ReadsWorld, HasNoWorld}
+use Rattle.cg_script.specs.WorldLines.{EndsAt, IsPart, IsPartBehind, SpoilEnd, SpoilWorld}
+use Rattle.cg_script.proofs.LinesLaw.{lines_of-begins}
 use Rattle.cg_script.proofs.LinesLemmas.{Consumes-append}
 
 -- ---- lists of lines
@@ -55,13 +57,6 @@ lines_of-joined (line ∷ lines) behind h =
 
 -- ---- what lines say
 
-pub some_same : {X : Type 0} {x y : X} → Some x ≡ Some y → x ≡ y
-some_same e = cc
-
--- what a line says tells whether it ends a world
-pub ends_by : (line : List ℕ) (said : Option (List Word)) → Says line said → (said ≡ Some (codes "end" ∷ [])) ↔ EndsWorld line
-ends_by line said says = ((λ e. subst (Says line) e says), (λ ends. one_saying line said (Some (codes "end" ∷ [])) says ends))
-
 is_line : (line : List ℕ) (said : Option (List Word)) → Says line said → IsLine line
 is_line line None h = h.0
 is_line line (Some ws) h = h.0
@@ -70,6 +65,18 @@ is_line line (Some ws) h = h.0
 ends_some : (line : List ℕ) → EndsWorld line → 0 < length line
 ends_some [] h = absurd (true≢false h.1)
 ends_some (b ∷ bytes) h = omega arith
+
+-- of lines with no end before the last, the last is one where one is
+last_ends : (lines : List Line) (last : Line) → AreOpen lines → SomeEnds (lines ++ last ∷ []) → EndsWorld last
+last_ends [] last h (inl e) = e
+last_ends [] last h (inr e) = absurd e
+last_ends (l ∷ lines) last h (inl e) = absurd (h.0 e)
+last_ends (l ∷ lines) last h (inr e) = last_ends lines last h.1 e
+
+-- and one is where the last is
+pub some_ends : (lines : List Line) (last : Line) → EndsWorld last → SomeEnds (lines ++ last ∷ [])
+some_ends [] last e = inl e
+some_ends (l ∷ lines) last e = inr (some_ends lines last e)
 
 -- each of some lines says something that a line may
 each_says : (gathered more : List (List ℕ)) (line : List ℕ) (said : List (List Word)) → SayAll (gathered ++ line ∷ more) said → (s : Option (List Word)) × Says line s
@@ -162,18 +169,30 @@ ends_behind (g ∷ gathered) (l ∷ lines) last behind rest open_lines ended e =
     let more = ends_behind gathered lines last behind rest open_lines.1 ended tails in
     record { between = more.between; front = ap (λ ls. l ∷ ls) more.front ∙ ap (λ x. x ∷ (gathered ++ more.between)) same }
 
+-- the lines of a world's text spell its tree
+spells_tree : (part : List ℕ) (lines : List Line) (T : Tree) → lines_of part ≡ lines → SpellsWorld part T → SpellTree lines T
+spells_tree part lines T e h =
+    subst (λ ls. SpellTree ls T) e (record { said = h.said; lines_say = h.lines; version = h.version; statements = h.statements; spelled = h.spelled; arranged = h.arranged })
+
+-- behind these lines the first line of the text spoils the world
+pub record StopsWorld (gathered : List Line) (text : List ℕ) : Type 0 where
+  pub line : (line rest : List ℕ) → HasNoNewline line → text ≡ line ++ 10 ∷ rest → SpoilWorld (gathered ++ line ∷ []) (length (joined gathered) + (length line + 1))
+  pub last : (line : List ℕ) → HasNoNewline line → text ≡ line → SpoilEnd gathered line (length (joined gathered) + length line)
+
 -- behind open lines the next line is the last, and spoils the world,
-spoiled_last : (text part rest r : List ℕ) (gathered : List (List ℕ)) (last : List ℕ) (T : Tree) → text ≡ joined gathered ++ r → text ≡ part ++ rest → Through part gathered last rest → HasNoNewline last → EndsWorld last → StopsWorld (length (joined gathered)) r → SpellsWorld part T → ⊥
+spoiled_last : (text part rest r : List ℕ) (gathered : List (List ℕ)) (last : List ℕ) (T : Tree) → text ≡ joined gathered ++ r → text ≡ part ++ rest → Through part gathered last rest → ArePlain (gathered ++ last ∷ []) → EndsWorld last → StopsWorld gathered r → SpellsWorld part T → ⊥
 spoiled_last text part rest r gathered last T past whole (inl e) plain ended stops spelled =
     let split = sym past ∙ whole ∙ ap (λ p. p ++ rest) e ∙ append_assoc (joined gathered) (last ++ 10 ∷ []) rest ∙ ap (λ b. joined gathered ++ b) (append_assoc last (10 ∷ []) rest) in
-    let long = stops.line last rest plain (append_cancel_left (joined gathered) r (last ++ 10 ∷ rest) split) (Some (codes "end" ∷ [])) ended in
+    let lines = part_lines part rest gathered last (inl e) plain ended ∙ sym (append-nil (gathered ++ last ∷ [])) in
+    let long = stops.line last rest (all_back HasNoNewline gathered (last ∷ []) plain).0 (append_cancel_left (joined gathered) r (last ++ 10 ∷ rest) split) [] T (spells_tree part _ T lines spelled) in
     let whole_length = ap length e ∙ length-append (joined gathered) (last ++ 10 ∷ []) in
     let last_length = length-append last (10 ∷ []) in
     let short = spelled.short in
     omega arith
 spoiled_last text part rest r gathered last T past whole (inr e) plain ended stops spelled =
     let split = sym past ∙ whole ∙ ap (λ x. part ++ x) e.1 ∙ append-nil part ∙ e.0 in
-    let long = stops.last last plain (append_cancel_left (joined gathered) r last split) ended in
+    let lines = part_lines part rest gathered last (inr e) plain ended in
+    let long = stops.last last (all_back HasNoNewline gathered (last ∷ []) plain).0 (append_cancel_left (joined gathered) r last split) ended T (spells_tree part _ T lines spelled) in
     let whole_length = ap length e.0 ∙ length-append (joined gathered) last in
     let short = spelled.short in
     omega arith
@@ -184,7 +203,7 @@ ending part rest lines last (inl e) = (last ++ 10 ∷ [], e)
 ending part rest lines last (inr e) = (last, e.0)
 
 -- or it is another, and does
-spoiled_line : (text part rest r : List ℕ) (gathered : List (List ℕ)) (x : List ℕ) (xs : List (List ℕ)) (last : List ℕ) (T : Tree) → text ≡ joined gathered ++ r → text ≡ part ++ rest → Through part (gathered ++ x ∷ xs) last rest → ArePlain ((gathered ++ x ∷ xs) ++ last ∷ []) → EndsWorld last → StopsWorld (length (joined gathered)) r → SpellsWorld part T → ⊥
+spoiled_line : (text part rest r : List ℕ) (gathered : List (List ℕ)) (x : List ℕ) (xs : List (List ℕ)) (last : List ℕ) (T : Tree) → text ≡ joined gathered ++ r → text ≡ part ++ rest → Through part (gathered ++ x ∷ xs) last rest → ArePlain ((gathered ++ x ∷ xs) ++ last ∷ []) → EndsWorld last → StopsWorld gathered r → SpellsWorld part T → ⊥
 spoiled_line text part rest r gathered x xs last T past whole through plain ended stops spelled =
     let q = ending part rest (gathered ++ x ∷ xs) last through in
     let front : joined (gathered ++ x ∷ xs) ≡ joined gathered ++ ((x ++ 10 ∷ []) ++ joined xs) = joined-append gathered (x ∷ xs) in
@@ -196,8 +215,8 @@ spoiled_line text part rest r gathered x xs last T past whole through plain ende
     let plain_lines = all_back HasNoNewline gathered (x ∷ xs) (all_front HasNoNewline (gathered ++ x ∷ xs) (last ∷ []) plain) in
     let lines : lines_of part ≡ gathered ++ x ∷ (xs ++ last ∷ []) =
     part_lines part rest (gathered ++ x ∷ xs) last through plain ended ∙ append_assoc gathered (x ∷ xs) (last ∷ []) in
-    let says = each_says gathered (xs ++ last ∷ []) x spelled.said (subst (λ ls. SayAll ls spelled.said) lines spelled.lines) in
-    let long = stops.line x ((joined xs ++ q.0) ++ rest) plain_lines.0 (append_cancel_left (joined gathered) r ((((x ++ 10 ∷ []) ++ joined xs) ++ q.0) ++ rest) split ∙ line) says.0 says.1 in
+    let tree = spells_tree part _ T (lines ∙ sym (append_assoc gathered (x ∷ []) (xs ++ last ∷ []))) spelled in
+    let long = stops.line x ((joined xs ++ q.0) ++ rest) plain_lines.0 (append_cancel_left (joined gathered) r ((((x ++ 10 ∷ []) ++ joined xs) ++ q.0) ++ rest) split ∙ line) (xs ++ last ∷ []) T tree in
     let whole_length = ap length part_is ∙ length-append (joined gathered) (((x ++ 10 ∷ []) ++ joined xs) ++ q.0) in
     let more_length = length-append ((x ++ 10 ∷ []) ++ joined xs) q.0 in
     let line_length = length-append (x ++ 10 ∷ []) (joined xs) in
@@ -205,15 +224,15 @@ spoiled_line text part rest r gathered x xs last T past whole through plain ende
     let short = spelled.short in
     omega arith
 
-spoiled : (text part rest r : List ℕ) (gathered between : List (List ℕ)) (last : List ℕ) (T : Tree) → text ≡ joined gathered ++ r → text ≡ part ++ rest → Through part (gathered ++ between) last rest → ArePlain ((gathered ++ between) ++ last ∷ []) → EndsWorld last → StopsWorld (length (joined gathered)) r → SpellsWorld part T → ⊥
+spoiled : (text part rest r : List ℕ) (gathered between : List (List ℕ)) (last : List ℕ) (T : Tree) → text ≡ joined gathered ++ r → text ≡ part ++ rest → Through part (gathered ++ between) last rest → ArePlain ((gathered ++ between) ++ last ∷ []) → EndsWorld last → StopsWorld gathered r → SpellsWorld part T → ⊥
 spoiled text part rest r gathered [] last T past whole through plain ended stops spelled =
     let moved : Through part gathered last rest = subst (λ ls. Through part ls last rest) (append-nil gathered) through in
-    spoiled_last text part rest r gathered last T past whole moved (all_back HasNoNewline (gathered ++ []) (last ∷ []) plain).0 ended stops spelled
+    spoiled_last text part rest r gathered last T past whole moved (subst (λ ls. ArePlain (ls ++ last ∷ [])) (append-nil gathered) plain) ended stops spelled
 spoiled text part rest r gathered (x ∷ xs) last T past whole through plain ended stops spelled =
     spoiled_line text part rest r gathered x xs last T past whole through plain ended stops spelled
 
 -- a text that goes on, behind open lines, with what stops the world has none
-stopped : (text r : List ℕ) (gathered : List (List ℕ)) → ArePlain gathered → AreOpen gathered → text ≡ joined gathered ++ r → StopsWorld (length (joined gathered)) r → HasNoWorld text
+stopped : (text r : List ℕ) (gathered : List (List ℕ)) → ArePlain gathered → AreOpen gathered → text ≡ joined gathered ++ r → StopsWorld gathered r → HasNoWorld text
 stopped text r gathered plain open_lines past stops part rest T b spelled =
     let lines = sym (ap lines_of past ∙ lines_of-joined gathered r plain) ∙ text_lines text part rest b.lines b.last b.whole b.through b.plain b.ended in
     let e = ends_behind gathered b.lines b.last (lines_of r) (lines_of rest) open_lines b.ended lines in
@@ -247,30 +266,31 @@ consumes_last None new line h = tt
 consumes_last (Some text) None line h = h
 consumes_last (Some text) (Some rest) line h = (h.2.0, h.2.2)
 
-pub stops_at_text : (old new : Option (List ℕ)) (line : List ℕ) (n : ℕ) → TakesKnownLine old Text line new → SpoilsWorld n line → IfSome old (StopsWorld n)
-stops_at_text None new line n h s = tt
-stops_at_text (Some text) None line n h s = absurd h
-stops_at_text (Some text) (Some rest) line n h s = record {
-  line = λ l rest' plain e. subst (SpoilsWorld n) (first_line text line rest l rest' (h.1, inl h.2) (plain, inl e)) s;
+pub stops_at_text : (old new : Option (List ℕ)) (gathered : List Line) (line : List ℕ) → TakesKnownLine old Text line new → SpoilWorld (gathered ++ line ∷ []) (length (joined gathered) + (length line + 1)) → IfSome old (StopsWorld gathered)
+stops_at_text None new gathered line h s = tt
+stops_at_text (Some text) None gathered line h s = absurd h
+stops_at_text (Some text) (Some rest) gathered line h s = record {
+  line = λ l rest' plain e. subst (λ x. SpoilWorld (gathered ++ x ∷ []) (length (joined gathered) + (length x + 1))) (first_line text line rest l rest' (h.1, inl h.2) (plain, inl e)) s;
   last = λ l plain e ends. absurd (not_both text line rest l h.1 plain h.2 e (ends_some l ends));
 }
 
-pub stops_at_last : (old new : Option (List ℕ)) (line : List ℕ) (n : ℕ) → TakesKnownLine old Last line new → SpoilsEnd n line → IfSome old (StopsWorld n)
-stops_at_last None new line n h s = tt
-stops_at_last (Some text) None line n h s = absurd h
-stops_at_last (Some text) (Some rest) line n h s = record {
+pub stops_at_last : (old new : Option (List ℕ)) (gathered : List Line) (line : List ℕ) → TakesKnownLine old Last line new → SpoilEnd gathered line (length (joined gathered) + length line) → IfSome old (StopsWorld gathered)
+stops_at_last None new gathered line h s = tt
+stops_at_last (Some text) None gathered line h s = absurd h
+stops_at_last (Some text) (Some rest) gathered line h s = record {
   line = λ l rest' plain e. absurd (not_both text l rest' line plain h.1 e h.2.0 h.2.1);
-  last = λ l plain e. subst (SpoilsEnd n) (sym h.2.0 ∙ e) s;
+  last = λ l plain e. subst (λ x. SpoilEnd gathered x (length (joined gathered) + length x)) (sym h.2.0 ∙ e) s;
 }
 
-pub stops_at_long : (old new : Option (List ℕ)) (line : List ℕ) (n : ℕ) → TakesKnownLine old TooLong line new → IfSome old (StopsWorld n)
-stops_at_long None new line n h = tt
-stops_at_long (Some text) None line n h = absurd h
-stops_at_long (Some text) (Some rest) line n h = record {
-  line = λ l rest' plain e said says.
+pub stops_at_long : (old new : Option (List ℕ)) (gathered : List Line) (line : List ℕ) → TakesKnownLine old TooLong line new → IfSome old (StopsWorld gathered)
+stops_at_long None new gathered line h = tt
+stops_at_long (Some text) None gathered line h = absurd h
+stops_at_long (Some text) (Some rest) gathered line h = record {
+  line = λ l rest' plain e others T tree.
       let same = ap length (first_line text h.1 rest l rest' h.3 (plain, inl e)) in
+      let says = each_says gathered others l tree.said (subst (λ ls. SayAll ls tree.said) (append_assoc gathered (l ∷ []) others) tree.lines_say) in
       let long = h.2 in
-      let short = (is_line l said says).short in
+      let short = (is_line l says.0 says.1).short in
       absurd (omega arith);
   last = λ l plain e ends.
       let same = ap length (first_line text h.1 rest l [] h.3 (plain, inr (e, ends_some l ends, refl))) in
@@ -279,11 +299,11 @@ stops_at_long (Some text) (Some rest) line n h = record {
       absurd (omega arith);
 }
 
-pub stops_at_end : (old new : Option (List ℕ)) (line : List ℕ) (n : ℕ) → TakesKnownLine old End line new → IfSome old (StopsWorld n)
-stops_at_end None new line n h = tt
-stops_at_end (Some text) None line n h = absurd h
-stops_at_end (Some text) (Some rest) line n h = record {
-  line = λ l rest' plain e said says.
+pub stops_at_end : (old new : Option (List ℕ)) (gathered : List Line) (line : List ℕ) → TakesKnownLine old End line new → IfSome old (StopsWorld gathered)
+stops_at_end None new gathered line h = tt
+stops_at_end (Some text) None gathered line h = absurd h
+stops_at_end (Some text) (Some rest) gathered line h = record {
+  line = λ l rest' plain e others T tree.
       let none = ap length (sym h.0 ∙ e) ∙ length-append l (10 ∷ rest') in
       absurd (omega arith);
   last = λ l plain e ends.
@@ -297,6 +317,16 @@ pub on_ok : {A E P : Type 0} (r : Result A E) → P → OnOk r P
 on_ok (Ok x) p = p
 on_ok (Err e) p = tt
 
+-- what two facts of an outcome that is no error say together
+pub both_ok : {A E : Type 0} (r : Result A E) (P Q R : A → Type 0) → ((x : A) → P x → Q x → R x) → IfOk r P → IfOk r Q → IfOk r R
+both_ok (Ok x) P Q R f p q = f x p q
+both_ok (Err e) P Q R f p q = tt
+
+-- and three
+pub three_ok : {A E S : Type 0} (r : Result A E) (P Q R : A → Type 0) → ((x : A) → P x → Q x → S → R x) → IfOk r P → IfOk r Q → OnOk r S → IfOk r R
+three_ok (Ok x) P Q R f p q s = f x p q s
+three_ok (Err e) P Q R f p q s = tt
+
 err_same : {T E : Type 0} {x y : E} → ◌≡◌ {A = Result T E} (Err x) (Err y) → x ≡ y
 err_same e = cc
 
@@ -304,81 +334,133 @@ err_same e = cc
 pub err_handed_on : {T U E : Type 0} (r : Result T E) (x y z : E) → r ≡ Err x → x ≡ y → r ≡ Err z → ◌≡◌ {A = Result U E} (Err y) (Err z)
 err_handed_on r x y z e f h = ap (λ e. Err e) (sym f ∙ err_same (sym e ∙ h))
 
--- ---- the lines gathered so far
+-- ---- the lines taken so far
 
--- the bytes are lines of a known text, none of which ends a world, and the reader goes on behind them
-pub record Gathered (start : Option (List ℕ)) (bytes : List ℕ) (now : Option (List ℕ)) : Type 0 where
-  pub lines : List (List ℕ)
-  pub plain : AllByRecursion HasNoNewline lines
-  pub open_lines : AllByRecursion (λ line. EndsWorld line → ⊥) lines
-  pub spelled : bytes ≡ joined lines
-  pub past : Consumes start now bytes
+-- what stops a world behind the lines taken
+pub part_stops : (start now : Option (List ℕ)) (world : Stage) (bytes : ℕ) (p : IsPart start world bytes now) → IfSome now (StopsWorld p.lines) → IfSome start HasNoWorld
+part_stops None now world bytes p stops = tt
+part_stops (Some t) None world bytes p stops = absurd p.past
+part_stops (Some t) (Some u) world bytes p stops = stopped t u p.lines p.plain p.open_lines p.past stops
 
-consumes_none : (known : Option (List ℕ)) → Consumes known known []
-consumes_none None = tt
-consumes_none (Some text) = refl
-
-pub gathered_none : (known : Option (List ℕ)) → Gathered known [] known
-gathered_none known = record { lines = []; plain = tt; open_lines = tt; spelled = refl; past = consumes_none known }
-
-pub gathered_more : (start now next : Option (List ℕ)) (bytes after line : List ℕ) → Gathered start bytes now → AddsLine now next bytes after line → (EndsWorld line → ⊥) → Gathered start after next
-gathered_more start now next bytes after line g adds no_end = record {
-  lines = g.lines ++ line ∷ [];
-  plain = all_append HasNoNewline g.lines (line ∷ []) g.plain (adds.0, tt);
-  open_lines = all_append (λ line. EndsWorld line → ⊥) g.lines (line ∷ []) g.open_lines (no_end, tt);
-  spelled = adds.1 ∙ ap (λ b. b ++ (line ++ 10 ∷ [])) g.spelled ∙ sym (joined-more g.lines line);
-  past = subst (Consumes start next) (sym adds.1) (Consumes-append start now next bytes (line ++ 10 ∷ []) g.past adds.2);
-}
-
-gathered_end : (start now next : Option (List ℕ)) (bytes after line : List ℕ) → Gathered start bytes now → EndsWorld line → AddsLine now next bytes after line → IfSome start (λ text. GathersWorld text after next)
-gathered_end None now next bytes after line g ends adds = tt
-gathered_end (Some t) None next bytes after line g ends adds = absurd g.past
-gathered_end (Some t) (Some u) None bytes after line g ends adds = adds.2
-gathered_end (Some t) (Some u) (Some v) bytes after line g ends adds = record {
-  lines = g.lines;
+-- a line was taken off known bytes with its newline
+pub part_line : (start old new : Option (List ℕ)) (world next : Stage) (bytes after : ℕ) (line : List ℕ) → HasNoNewline line → TakesKnownLine old Text line new → after ≡ bytes + (length line + 1) → ((lines : List Line) → HasTaken world lines → HasTaken next (lines ++ line ∷ [])) → IsPart start world bytes old → IsPartBehind start next after new
+part_line start old new world next bytes after line plain takes counted taken p = record {
+  lines = p.lines;
   last = line;
-  whole = subst (λ b. t ≡ b ++ v) (sym adds.1) (Consumes-append (Some t) (Some u) (Some v) bytes (line ++ 10 ∷ []) g.past adds.2);
-  through = inl (adds.1 ∙ ap (λ b. b ++ (line ++ 10 ∷ [])) g.spelled);
-  plain = all_append HasNoNewline g.lines (line ∷ []) g.plain (adds.0, tt);
-  open_lines = g.open_lines;
-  ended = ends;
+  plain = all_append HasNoNewline p.lines (line ∷ []) p.plain (plain, tt);
+  open_lines = p.open_lines;
+  through = inl (Consumes-append start old new (joined p.lines) (line ++ 10 ∷ []) p.past (consumes_line old new line takes), counted ∙ ap (λ n. n + (length line + 1)) p.counted);
+  taken = taken p.lines p.taken;
 }
 
-gathered_last : (start now next : Option (List ℕ)) (bytes after line : List ℕ) → Gathered start bytes now → EndsWorld line → AddsLast now next bytes after line → IfSome start (λ text. GathersWorld text after next)
-gathered_last None now next bytes after line g ends adds = tt
-gathered_last (Some t) None next bytes after line g ends adds = absurd g.past
-gathered_last (Some t) (Some u) None bytes after line g ends adds = adds.2
-gathered_last (Some t) (Some u) (Some v) bytes after line g ends adds = record {
-  lines = g.lines;
+ends_at : (start old new : Option (List ℕ)) (front line : List ℕ) → Consumes start old front → EndsAt old new line → EndsAt start new (front ++ line)
+ends_at None old new front line past ends = tt
+ends_at (Some t) None new front line past ends = absurd past
+ends_at (Some t) (Some u) None front line past ends = absurd ends
+ends_at (Some t) (Some u) (Some v) front line past ends = (past ∙ ap (λ b. front ++ b) ends.0, ends.1)
+
+-- or without one, and it ends a world
+pub part_last : (start old new : Option (List ℕ)) (world next : Stage) (bytes after : ℕ) (line : List ℕ) → HasNoNewline line → TakesKnownLine old Last line new → after ≡ bytes + length line → ((lines : List Line) → HasTaken world lines → HasTaken next (lines ++ line ∷ [])) → ((lines : List Line) → HasTaken world lines → SomeEnds (lines ++ line ∷ [])) → IsPart start world bytes old → IsPartBehind start next after new
+part_last start old new world next bytes after line plain takes counted taken ended p = record {
+  lines = p.lines;
   last = line;
-  whole = g.past ∙ ap (λ u. bytes ++ u) adds.2.0 ∙ sym adds.1 ∙ sym (append-nil after) ∙ ap (λ v. after ++ v) (sym adds.2.1);
-  through = inr (adds.1 ∙ ap (λ b. b ++ line) g.spelled, adds.2.1);
-  plain = all_append HasNoNewline g.lines (line ∷ []) g.plain (adds.0, tt);
-  open_lines = g.open_lines;
-  ended = ends;
+  plain = all_append HasNoNewline p.lines (line ∷ []) p.plain (plain, tt);
+  open_lines = p.open_lines;
+  through =
+      inr (
+        last_ends p.lines line p.open_lines (ended p.lines p.taken),
+        ends_at start old new (joined p.lines) line p.past (consumes_last old new line takes),
+        counted ∙ ap (λ n. n + length line) p.counted,
+      );
+  taken = taken p.lines p.taken;
 }
 
-pub gathered_world : (start now next : Option (List ℕ)) (bytes after line : List ℕ) → Gathered start bytes now → EndsWorld line → AddsLine now next bytes after line ⊎ AddsLast now next bytes after line → IfSome start (λ text. GathersWorld text after next)
-gathered_world start now next bytes after line g ends (inl adds) = gathered_end start now next bytes after line g ends adds
-gathered_world start now next bytes after line g ends (inr adds) = gathered_last start now next bytes after line g ends adds
+-- no line ends a world yet
+pub part_goes_on : (start now : Option (List ℕ)) (world : Stage) (bytes : ℕ) (p : IsPartBehind start world bytes now) → (SomeEnds (p.lines ++ p.last ∷ []) → ⊥) → IsPart start world bytes now
+part_goes_on start now world bytes p none = at p.through
+  where
+    more : joined (p.lines ++ p.last ∷ []) ≡ joined p.lines ++ (p.last ++ 10 ∷ [])
+    more = joined-more p.lines p.last
 
-stops_known : (start now : Option (List ℕ)) (bytes : List ℕ) → Gathered start bytes now → IfSome now (StopsWorld (length bytes)) → IfSome start HasNoWorld
-stops_known None now bytes g s = tt
-stops_known (Some t) None bytes g s = absurd g.past
-stops_known (Some t) (Some u) bytes g s =
-    stopped t u g.lines g.plain g.open_lines (subst (λ b. t ≡ b ++ u) g.spelled g.past) (subst (λ (b : List ℕ). StopsWorld (length b) u) g.spelled s)
-
-pub gathered_stops : (start now : Option (List ℕ)) (bytes : List ℕ) → Gathered start bytes now → IfSome now (StopsWorld (length bytes)) → IfSome start HasNoWorld
-gathered_stops start now bytes g stops = stops_known start now bytes g stops
+    at :
+        (Consumes start now (joined p.lines ++ (p.last ++ 10 ∷ [])) × (bytes ≡ length (joined p.lines) + (length p.last + 1)))
+        ⊎ (EndsWorld p.last × EndsAt start now (joined p.lines ++ p.last) × (bytes ≡ length (joined p.lines) + length p.last))
+        → IsPart start world bytes now
+    at (inl h) = record {
+      lines = p.lines ++ p.last ∷ [];
+      plain = p.plain;
+      open_lines = all_append (λ line. EndsWorld line → ⊥) p.lines (p.last ∷ []) p.open_lines ((λ e. none (some_ends p.lines p.last e)), tt);
+      past = subst (Consumes start now) (sym more) h.0;
+      counted = h.1 ∙ sym (ap length more ∙ length-append (joined p.lines) (p.last ++ 10 ∷ []) ∙ ap (λ n. length (joined p.lines) + n) (length-append p.last (10 ∷ [])));
+      taken = p.taken;
+    }
+    at (inr h) = absurd (none (some_ends p.lines p.last h.0))
 
 -- ---- the world that the part spells
 
-pub reads_world : (start now : Option (List ℕ)) (bytes : List ℕ) (T : Tree) → IfSome start (λ text. GathersWorld text bytes now) → SpellsWorld bytes T → IfSome start (λ text. ReadsWorld text T now)
-reads_world None now bytes T h s = tt
-reads_world (Some t) None bytes T h s = h
-reads_world (Some t) (Some u) bytes T h s = (bytes, h, s)
+-- the whole part of a text: so many bytes, of these lines
+record IsWhole (text rest : List ℕ) (lines : List Line) (bytes : ℕ) : Type 0 where
+  part : List ℕ
+  begins : BeginsWithWorld text part rest
+  counted : bytes ≡ length part
+  cut : lines_of part ≡ lines
 
-pub refutes_world : (start now : Option (List ℕ)) (bytes : List ℕ) → IfSome start (λ text. GathersWorld text bytes now) → ((T : Tree) → SpellsWorld bytes T → ⊥) → IfSome start HasNoWorld
-refutes_world None now bytes h none = tt
-refutes_world (Some t) None bytes h none = absurd h
-refutes_world (Some t) (Some u) bytes h none = λ part rest T b spelled. none T (subst (λ p. SpellsWorld p T) (one_part t part bytes rest u b h) spelled)
+whole : (t v : List ℕ) (world : Stage) (bytes : ℕ) (p : IsPartBehind (Some t) world bytes (Some v)) → EndsWorld p.last → IsWhole t v (p.lines ++ p.last ∷ []) bytes
+whole t v world bytes p ends = at p.through
+  where
+    at :
+        (Consumes (Some t) (Some v) (joined p.lines ++ (p.last ++ 10 ∷ [])) × (bytes ≡ length (joined p.lines) + (length p.last + 1)))
+        ⊎ (EndsWorld p.last × EndsAt (Some t) (Some v) (joined p.lines ++ p.last) × (bytes ≡ length (joined p.lines) + length p.last))
+        → IsWhole t v (p.lines ++ p.last ∷ []) bytes
+    at (inl h) =
+        let part : List ℕ = joined p.lines ++ (p.last ++ 10 ∷ []) in
+        record {
+          part = part;
+          begins = record { lines = p.lines; last = p.last; whole = h.0; through = inl refl; plain = p.plain; open_lines = p.open_lines; ended = ends };
+          counted = h.1 ∙ sym (length-append (joined p.lines) (p.last ++ 10 ∷ []) ∙ ap (λ n. length (joined p.lines) + n) (length-append p.last (10 ∷ [])));
+          cut = part_lines part v p.lines p.last (inl refl) p.plain ends;
+        }
+    at (inr h) =
+        let part : List ℕ = joined p.lines ++ p.last in
+        record {
+          part = part;
+          begins = record {
+            lines = p.lines;
+            last = p.last;
+            whole = h.1.0 ∙ sym (append-nil part) ∙ ap (λ r. part ++ r) (sym h.1.1);
+            through = inr (refl, h.1.1);
+            plain = p.plain;
+            open_lines = p.open_lines;
+            ended = ends;
+          };
+          counted = h.2 ∙ sym (length-append (joined p.lines) p.last);
+          cut = part_lines part v p.lines p.last (inr (refl, h.1.1)) p.plain ends;
+        }
+
+pub part_reads : (start now : Option (List ℕ)) (world : Stage) (bytes : ℕ) (T : Tree) (p : IsPartBehind start world bytes now) → bytes ≤ 16777216 → SomeEnds (p.lines ++ p.last ∷ []) → SpellTree (p.lines ++ p.last ∷ []) T → Sound T → IfSome start (λ text. ReadsWorld text T now)
+part_reads None now world bytes T p short ends tree sound = tt
+part_reads (Some t) None world bytes T p short ends tree sound = elim p.through [ inl h ↦ absurd h.0 | inr h ↦ absurd h.1 ]
+part_reads (Some t) (Some v) world bytes T p short ends tree sound =
+    let w = whole t v world bytes p (last_ends p.lines p.last p.open_lines ends) in
+    let h = subst (λ ls. SpellTree ls T) (sym w.cut) tree in
+    let e = w.counted in (
+      w.part,
+      w.begins,
+      record {
+        short = omega arith;
+        said = h.said;
+        lines = h.lines_say;
+        version = h.version;
+        statements = h.statements;
+        spelled = h.spelled;
+        arranged = h.arranged;
+        sound = sound;
+      },
+    )
+
+pub part_refutes : (start now : Option (List ℕ)) (world : Stage) (bytes : ℕ) (p : IsPartBehind start world bytes now) → SomeEnds (p.lines ++ p.last ∷ []) → ((T : Tree) → SpellTree (p.lines ++ p.last ∷ []) T → Sound T → ⊥) → IfSome start HasNoWorld
+part_refutes None now world bytes p ends none = tt
+part_refutes (Some t) None world bytes p ends none = elim p.through [ inl h ↦ absurd h.0 | inr h ↦ absurd h.1 ]
+part_refutes (Some t) (Some v) world bytes p ends none = λ part rest T b spelled.
+    let w = whole t v world bytes p (last_ends p.lines p.last p.open_lines ends) in
+    none T (spells_tree part _ T (ap lines_of (one_part t part w.part rest v b w.begins) ∙ w.cut) spelled) spelled.sound

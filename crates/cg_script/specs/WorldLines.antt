@@ -1,39 +1,45 @@
--- How the lines of the world at the head of a text are gathered.
-use Rattle.std.specs.Prelude.{◌≡◌, ℕ, ◌+◌, ◌<◌, List, ◌∷◌, [], ◌++◌, length, Option, Some, None, ⊤}
+-- How the lines of the world at the head of a text are taken.
+use Rattle.std.specs.Prelude.{◌≡◌, ◌⊎◌, ℕ, ◌+◌, ◌<◌, List, ◌∷◌, [], ◌++◌, length, Option, Some, None, ⊤}
+use Rattle.std.specs.List.{AllByRecursion}
 use Rattle.std.specs.Io.KnownBytes.{Consumes}
-use Rattle.cg_text.specs.Words.{Word, Says}
+use Rattle.cg_text.specs.Words.{Line}
+use Rattle.cg_model.specs.Tree.{Tree}
+use Rattle.cg_world.specs.declared.stage.Stage.{Stage}
+use Rattle.cg_world.specs.Reader.{EndsWorld, HasTaken, SpellTree}
 use Rattle.cg_script.specs.Lines.{HasNoNewline}
-use Rattle.cg_script.specs.WorldPart.{BeginsWithWorld, EndsWorld}
+use Rattle.cg_script.specs.WorldPart.{joined}
 
--- the bytes are the part of the text through the first line that ends a world, and the rest follows
-abbrev pub GathersWorld : List ℕ → List ℕ → Option (List ℕ) → Type 0
-GathersWorld text part None = ⊥
-GathersWorld text part (Some rest) = BeginsWithWorld text part rest
+-- lines that have this front and so many bytes spell a tree only where that is too much
+abbrev pub SpoilWorld : List Line → ℕ → Type 0
+SpoilWorld lines bytes = (others : List Line) (T : Tree) → SpellTree (lines ++ others) T → 16777216 < bytes
 
--- a line was taken off known bytes with its newline, and added to a text
-abbrev pub AddsLine : Option (List ℕ) → Option (List ℕ) → List ℕ → List ℕ → List ℕ → Type 0
-AddsLine old new before after line =
-    HasNoNewline line × (after ≡ before ++ (line ++ 10 ∷ [])) × Consumes old new (line ++ 10 ∷ [])
+-- and a line behind them that has no newline, with which they have so many bytes, ends a world only where that is too much
+abbrev pub SpoilEnd : List Line → Line → ℕ → Type 0
+SpoilEnd lines line bytes = EndsWorld line → (T : Tree) → SpellTree (lines ++ line ∷ []) T → 16777216 < bytes
 
--- known bytes are all taken
+-- known bytes are these, and none is left
 abbrev pub EndsAt : Option (List ℕ) → Option (List ℕ) → List ℕ → Type 0
-EndsAt None new line = ⊤
-EndsAt (Some text) None line = ⊥
-EndsAt (Some text) (Some rest) line = (text ≡ line) × (rest ≡ [])
+EndsAt None now bytes = ⊤
+EndsAt (Some text) None bytes = ⊥
+EndsAt (Some text) (Some rest) bytes = (text ≡ bytes) × (rest ≡ [])
 
--- a line without a newline was taken and added, and nothing is left
-abbrev pub AddsLast : Option (List ℕ) → Option (List ℕ) → List ℕ → List ℕ → List ℕ → Type 0
-AddsLast old new before after line = HasNoNewline line × (after ≡ before ++ line) × EndsAt old new line
+-- A world's reader has taken the lines at the head of a known text, none of which ends a world; they have so many bytes with their
+-- newlines, and the reader of lines goes on behind them.
+pub record IsPart (start : Option (List ℕ)) (world : Stage) (bytes : ℕ) (now : Option (List ℕ)) : Type 0 where
+  pub lines : List Line
+  pub plain : AllByRecursion HasNoNewline lines
+  pub open_lines : AllByRecursion (λ line. EndsWorld line → ⊥) lines
+  pub past : Consumes start now (joined lines)
+  pub counted : bytes ≡ length (joined lines)
+  pub taken : HasTaken world lines
 
--- behind so many bytes a line with its newline says nothing that a line may, or is too much
-abbrev pub SpoilsWorld : ℕ → List ℕ → Type 0
-SpoilsWorld gathered line = (said : Option (List Word)) → Says line said → 16777216 < gathered + (length line + 1)
-
--- and a line without a newline ends no world, or is too much
-abbrev pub SpoilsEnd : ℕ → List ℕ → Type 0
-SpoilsEnd gathered line = EndsWorld line → 16777216 < gathered + length line
-
--- behind so many bytes the first line of the text spoils the world
-pub record StopsWorld (gathered : ℕ) (text : List ℕ) : Type 0 where
-  pub line : (line rest : List ℕ) → HasNoNewline line → text ≡ line ++ 10 ∷ rest → SpoilsWorld gathered line
-  pub last : (line : List ℕ) → HasNoNewline line → text ≡ line → SpoilsEnd gathered line
+-- The same with one line more, which may end a world. It does where it has no newline, and then the text ends there.
+pub record IsPartBehind (start : Option (List ℕ)) (world : Stage) (bytes : ℕ) (now : Option (List ℕ)) : Type 0 where
+  pub lines : List Line
+  pub last : Line
+  pub plain : AllByRecursion HasNoNewline (lines ++ last ∷ [])
+  pub open_lines : AllByRecursion (λ line. EndsWorld line → ⊥) lines
+  pub through :
+      (Consumes start now (joined lines ++ (last ++ 10 ∷ [])) × (bytes ≡ length (joined lines) + (length last + 1)))
+      ⊎ (EndsWorld last × EndsAt start now (joined lines ++ last) × (bytes ≡ length (joined lines) + length last))
+  pub taken : HasTaken world (lines ++ last ∷ [])

@@ -1,14 +1,10 @@
 -- The world at the head of a text: the part of the text through the first line that ends a world.
-use Rattle.std.specs.Prelude.{◌≡◌, ◌⊎◌, ℕ, List, [], ◌∷◌, ◌++◌, Option, Some, None, codes}
+use Rattle.std.specs.Prelude.{◌≡◌, ◌⊎◌, ℕ, List, [], ◌∷◌, ◌++◌, Option, Some, None}
 use Rattle.std.specs.List.{AllByRecursion, flat_map}
-use Rattle.cg_text.specs.Words.{Says}
 use Rattle.cg_model.specs.Tree.{Tree}
+use Rattle.cg_world.specs.Reader.{EndsWorld}
 use Rattle.cg_world.specs.World.{SpellsWorld}
 use Rattle.cg_script.specs.Lines.{HasNoNewline}
-
--- the line says `end`
-abbrev pub EndsWorld : List ℕ → Type 0
-EndsWorld line = Says line (Some (codes "end" ∷ []))
 
 -- lines as a text, each with its newline
 abbrev pub joined : List (List ℕ) → List ℕ

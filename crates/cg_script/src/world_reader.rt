@@ -1,18 +1,20 @@
 //! Reads the world at the head of a text, line by line.
-ghost use Rattle.std.specs.Prelude.{Option, Some, ◌≡◌, ◌⊎◌, ◌<◌, ◌≤◌, ◌+◌, ◌↔◌, true, false, List, ℕ, [], ◌∷◌, ◌++◌, length, codes, map, IfOk, IfErr, IfSome, OnOk, IsTrue};
+ghost use Rattle.std.specs.Prelude.{◌≡◌, ◌<◌, ◌≤◌, ◌+◌, ◌∷◌, ◌++◌, [], List, ℕ, Option, length, IfOk, IfSome, OnOk};
 ghost use Rattle.std.specs.Result.{IsErrOf};
-ghost use Rattle.cg_name.specs.Refusal.{IsSyntaxOrMemory};
-ghost use Rattle.cg_text.specs.Words.{Word, Says};
+ghost use Rattle.cg_text.specs.Words.{Line};
+ghost use Rattle.cg_model.specs.Sound.{Sound};
+ghost use Rattle.cg_model.specs.Tree.{Tree};
+ghost use Rattle.cg_world.specs.Reader.{HasTaken, SomeEnds, SpellTree};
 ghost use Rattle.cg_script.specs.Lines.{pending, room_of, CanBreak};
-ghost use Rattle.cg_script.specs.WorldPart.{EndsWorld, HasNoWorld, ReadsWorld};
-ghost use Rattle.cg_script.specs.WorldLines.{AddsLast, AddsLine, GathersWorld, SpoilsEnd, SpoilsWorld, StopsWorld};
+ghost use Rattle.cg_script.specs.WorldPart.{HasNoWorld, ReadsWorld};
+ghost use Rattle.cg_script.specs.WorldLines.{IsPart, IsPartBehind, SpoilEnd, SpoilWorld};
 ghost use Rattle.cg_script.specs.declared.fault.ScriptFault.TheVariants as faults;
 
 use crate::device::Source;
 use crate::fault::ScriptFault;
 use crate::lines::{LineKind, LineReader};
 use cg_name::refusal::Refusal;
-use cg_text::words::read_words;
+use cg_world::reader::WorldReader;
 use cg_world::world::World;
 use std::alloc::Global;
 
@@ -31,132 +33,109 @@ pub fn read_world<S: Source>(
     ensures reads { IsErrOf result faults.ReadFault → CanBreak reader.new.opening reader.new.failures reader.new.reads }
     ensures writes { ¬ (IsErrOf result faults.WriteFault) }
 {
-    let text = gather_world(alloc, reader)?;
-    match World::read(alloc, &text) {
-        Ok(world) => Ok(world),
-        Err(Refusal::Syntax) => Err(ScriptFault::Syntax),
-        Err(_) => Err(ScriptFault::Memory),
-    }
-}
-
-// The text through the first line that ends a world.
-fn gather_world<S: Source>(
-    alloc: Global,
-    reader: &mut LineReader<S>,
-) -> Result<Vec<u8>, ScriptFault>
-    ensures value { IfOk result (λ bytes. IfSome (pending reader.old) (λ text. GathersWorld text bytes.items (pending reader.new))) }
-    ensures syntax { IsErrOf result faults.Syntax → IfSome (pending reader.old) HasNoWorld }
-    ensures reads { IsErrOf result faults.ReadFault → CanBreak reader.new.opening reader.new.failures reader.new.reads }
-    ensures writes { ¬ (IsErrOf result faults.WriteFault) }
-{
-    let mut text = Vec::new(alloc);
+    let mut part = Part::new();
     'lines: loop {
-        if take_line(alloc, reader, &mut text)? {
-            return Ok(text);
+        part = take_line(alloc, reader, part)?;
+        if part.world.has_ended() {
+            return part.finish(alloc);
         }
     }
 }
 
-// Adds the reader's next line to the text. True where it ends a world.
+// Takes the reader's next line into the part.
 fn take_line<S: Source>(
     alloc: Global,
     reader: &mut LineReader<S>,
-    text: &mut Vec<u8>,
-) -> Result<bool, ScriptFault>
-    ensures goes_on { IfOk result (λ ended. ended ≡ false → AddsLine (pending reader.old) (pending reader.new) text.old.items text.new.items reader.new.line × (EndsWorld reader.new.line → ⊥)) }
-    ensures ended { IfOk result (λ ended. ended ≡ true → EndsWorld reader.new.line
-        × (AddsLine (pending reader.old) (pending reader.new) text.old.items text.new.items reader.new.line ⊎ AddsLast (pending reader.old) (pending reader.new) text.old.items text.new.items reader.new.line)) }
+    part: Part,
+) -> Result<Part, ScriptFault>
+    ensures taken { IfOk result (λ next. (start : Option (List ℕ)) → IsPart start part.world part.bytes (pending reader.old) → IsPartBehind start next.world next.bytes (pending reader.new)) }
     ensures progress { OnOk result (room_of reader.new < room_of reader.old) }
-    ensures syntax { IsErrOf result faults.Syntax → IfSome (pending reader.old) (StopsWorld (length text.old.items)) }
+    ensures syntax { IsErrOf result faults.Syntax → (start : Option (List ℕ)) → IsPart start part.world part.bytes (pending reader.old) → IfSome start HasNoWorld }
     ensures reads { IsErrOf result faults.ReadFault → CanBreak reader.new.opening reader.new.failures reader.new.reads }
     ensures writes { ¬ (IsErrOf result faults.WriteFault) }
 {
     match reader.next_line() {
-        Ok(LineKind::Text) => add_line(alloc, reader.line(), text),
-        Ok(LineKind::Last) => add_last(alloc, reader.line(), text),
+        Ok(LineKind::Text) => {
+            let line = reader.line();
+            part.take(alloc, line, line.len() + 1)
+        }
+        Ok(LineKind::Last) => part.take_last(alloc, reader.line()),
         Ok(LineKind::TooLong) => Err(ScriptFault::Syntax),
         Ok(LineKind::End) => Err(ScriptFault::Syntax),
         Err(_) => Err(ScriptFault::ReadFault),
     }
 }
 
-// Adds a line and its newline to the text. True where it ends a world; `Syntax` where it is bad or too much.
-fn add_line(alloc: Global, line: &[u8], text: &mut Vec<u8>) -> Result<bool, ScriptFault>
-    ensures added { OnOk result (text.new.items ≡ text.old.items ++ (line.now ++ 10 ∷ [])) }
-    ensures ended { IfOk result (λ ended. IsTrue ended ↔ EndsWorld line.now) }
-    ensures syntax { IsErrOf result faults.Syntax → SpoilsWorld (length text.old.items) line.now }
-    ensures reads { ¬ (IsErrOf result faults.ReadFault) }
-    ensures writes { ¬ (IsErrOf result faults.WriteFault) }
-{
-    if text.len() + line.len() >= LONGEST_WORLD {
-        return Err(ScriptFault::Syntax);
-    }
-    match append_line(alloc, line, text) {
-        Ok(ended) => Ok(ended),
-        Err(Refusal::Syntax) => Err(ScriptFault::Syntax),
-        Err(_) => Err(ScriptFault::Memory),
-    }
+// The part of a text that is a world, as far as it was read.
+#[derive(Drop)]
+struct Part {
+    world: WorldReader,
+    // How many bytes its lines have, with their newlines.
+    bytes: usize,
+    ghost short: { bytes ≤ 16777216 },
 }
 
-// The same where there is room in the text.
-fn append_line(alloc: Global, line: &[u8], text: &mut Vec<u8>) -> Result<bool, Refusal>
-    ensures added { OnOk result (text.new.items ≡ text.old.items ++ (line.now ++ 10 ∷ [])) }
-    ensures ended { IfOk result (λ ended. IsTrue ended ↔ EndsWorld line.now) }
-    ensures syntax { IsErrOf result Refusal.Syntax → (said : Option (List Word)) → Says line.now said → ⊥ }
-    ensures refusals { IfErr result IsSyntaxOrMemory }
-{
-    let ended = ends_world(alloc, line)?;
-    text.extend_from_slice(line)?;
-    text.push(b'\n')?;
-    Ok(ended)
-}
-
-// Adds a line that has no newline to the text: the one that ends a world. `Syntax` where it ends none, or is too much.
-fn add_last(alloc: Global, line: &[u8], text: &mut Vec<u8>) -> Result<bool, ScriptFault>
-    ensures added { OnOk result (text.new.items ≡ text.old.items ++ line.now) }
-    ensures ended { IfOk result (λ ended. (ended ≡ true) × EndsWorld line.now) }
-    ensures syntax { IsErrOf result faults.Syntax → SpoilsEnd (length text.old.items) line.now }
-    ensures reads { ¬ (IsErrOf result faults.ReadFault) }
-    ensures writes { ¬ (IsErrOf result faults.WriteFault) }
-{
-    if text.len() + line.len() > LONGEST_WORLD {
-        return Err(ScriptFault::Syntax);
+impl Part {
+    // A part of no lines.
+    fn new() -> Part
+        ensures taken { HasTaken result.world [] }
+        ensures counted { result.bytes ≡ 0 }
+    {
+        Part {
+            world: WorldReader::new(),
+            bytes: 0,
+        }
     }
-    match append_last(alloc, line, text) {
-        Ok(ended) if ended => Ok(true),
-        Ok(_) => Err(ScriptFault::Syntax),
-        Err(Refusal::Syntax) => Err(ScriptFault::Syntax),
-        Err(_) => Err(ScriptFault::Memory),
+
+    // The part with a line more, of so many bytes with its newline. `Syntax` where it is bad or too much.
+    fn take(self, alloc: Global, line: &[u8], bytes: usize) -> Result<Part, ScriptFault>
+        ensures taken { IfOk result (λ next. (lines : List Line) → HasTaken self.world lines → HasTaken next.world (lines ++ line.now ∷ [])) }
+        ensures counted { IfOk result (λ next. next.bytes ≡ self.bytes + bytes) }
+        ensures syntax { IsErrOf result faults.Syntax → (lines : List Line) → HasTaken self.world lines → SpoilWorld (lines ++ line.now ∷ []) (self.bytes + bytes) }
+        ensures reads { ¬ (IsErrOf result faults.ReadFault) }
+        ensures writes { ¬ (IsErrOf result faults.WriteFault) }
+    {
+        if bytes > LONGEST_WORLD - self.bytes {
+            return Err(ScriptFault::Syntax);
+        }
+        match self.world.take_line(alloc, line) {
+            Ok(world) => Ok(Part {
+                world,
+                bytes: self.bytes + bytes,
+            }),
+            Err(Refusal::Syntax) => Err(ScriptFault::Syntax),
+            Err(_) => Err(ScriptFault::Memory),
+        }
     }
-}
 
-// The same where there is room in the text. False where the line ends no world.
-fn append_last(alloc: Global, line: &[u8], text: &mut Vec<u8>) -> Result<bool, Refusal>
-    ensures added { OnOk result (text.new.items ≡ text.old.items ++ line.now) }
-    ensures ended { IfOk result (λ ended. IsTrue ended ↔ EndsWorld line.now) }
-    ensures syntax { IsErrOf result Refusal.Syntax → (said : Option (List Word)) → Says line.now said → ⊥ }
-    ensures refusals { IfErr result IsSyntaxOrMemory }
-{
-    let ended = ends_world(alloc, line)?;
-    text.extend_from_slice(line)?;
-    Ok(ended)
-}
-
-// Whether the line ends a world.
-fn ends_world(alloc: Global, line: &[u8]) -> Result<bool, Refusal>
-    ensures ended { IfOk result (λ ended. IsTrue ended ↔ EndsWorld line.now) }
-    ensures syntax { IsErrOf result Refusal.Syntax → (said : Option (List Word)) → Says line.now said → ⊥ }
-    ensures refusals { IfErr result IsSyntaxOrMemory }
-{
-    match read_words(alloc, line)? {
-        Some(words) => Ok(is_end(words.as_slice())),
-        None => Ok(false),
+    // The part with the text's last line, which has no newline. `Syntax` where it ends no world, too.
+    fn take_last(self, alloc: Global, line: &[u8]) -> Result<Part, ScriptFault>
+        ensures taken { IfOk result (λ next. (lines : List Line) → HasTaken self.world lines → HasTaken next.world (lines ++ line.now ∷ [])) }
+        ensures counted { IfOk result (λ next. next.bytes ≡ self.bytes + length line.now) }
+        ensures ended { OnOk result ((lines : List Line) → HasTaken self.world lines → SomeEnds (lines ++ line.now ∷ [])) }
+        ensures syntax { IsErrOf result faults.Syntax → (lines : List Line) → HasTaken self.world lines → SpoilEnd lines line.now (self.bytes + length line.now) }
+        ensures reads { ¬ (IsErrOf result faults.ReadFault) }
+        ensures writes { ¬ (IsErrOf result faults.WriteFault) }
+    {
+        let part = self.take(alloc, line, line.len())?;
+        if part.world.has_ended() {
+            Ok(part)
+        } else {
+            Err(ScriptFault::Syntax)
+        }
     }
-}
 
-// Whether a line of these words ends a world.
-fn is_end(words: &[&str]) -> bool
-    ensures { IsTrue result ↔ (map (λ w. w.now) words.now ≡ codes "end" ∷ []) }
-{
-    matches!(words, ["end"])
+    // The world of the part.
+    fn finish(self, alloc: Global) -> Result<World, ScriptFault>
+        ensures value { IfOk result (λ w. (lines : List Line) → HasTaken self.world lines → SpellTree lines w × Sound w) }
+        ensures syntax { IsErrOf result faults.Syntax → (lines : List Line) (T : Tree) → HasTaken self.world lines → SpellTree lines T → Sound T → ⊥ }
+        ensures reads { ¬ (IsErrOf result faults.ReadFault) }
+        ensures writes { ¬ (IsErrOf result faults.WriteFault) }
+    {
+        match self.world.finish(alloc) {
+            Ok(world) => Ok(world),
+            Err(Refusal::Syntax) => Err(ScriptFault::Syntax),
+            Err(_) => Err(ScriptFault::Memory),
+        }
+    }
 }
