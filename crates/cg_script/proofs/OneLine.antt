@@ -1,5 +1,5 @@
 -- A line spells one call at most, and so has one answer at most.
-use Rattle.std.proofs.Common.{◌≡◌, ℕ, List, [], ◌∷◌, Option, Some, None, codes, refl, sym, ap, subst, ◌∙◌, inl, inr, arith, Result, Ok, Err, OnOk, OnErr, IfOk, false, true≢false}
+use Rattle.std.proofs.Common.{◌≡◌, ℕ, List, [], ◌∷◌, Option, Some, None, codes, refl, sym, ap, subst, ◌∙◌, inl, inr, arith, Result, Ok, Err, OnOk, OnErr, IfOk, false, true≢false, true}
 use Rattle.std.specs.Result.{is_err}
 use Rattle.cg_name.specs.Path.{SpellsPath}
 use Rattle.cg_name.proofs.WrittenPaths.{one_path}
@@ -125,6 +125,10 @@ when_ok (Ok x) e p = p
 when_ok (Err x) e p = absurd (true≢false e)
 
 -- what holds anyway holds of an error
+pub when_err : {A E : Type 0} (r : Result A E) {P : Type 0} → is_err r ≡ true → OnErr r P → P
+when_err (Ok x) e h = absurd (true≢false (sym e))
+when_err (Err x) e h = h
+
 pub on_any_err : {A E : Type 0} (r : Result A E) {P : Type 0} → P → OnErr r P
 on_any_err (Ok x) p = tt
 on_any_err (Err e) p = p

@@ -6,13 +6,13 @@ use Rattle.cg_name.specs.Refusal.{refusal_text}
 use Rattle.cg_name.specs.declared.refusal.Refusal.TheVariants.{Syntax}
 use Rattle.cg_core.specs.Record.{Request}
 use Rattle.cg_core.specs.Machine.{stepped}
-use Rattle.cg_script.specs.Device.{AppendsFront, WritesWhole}
+use Rattle.cg_script.specs.Device.{AppendsFront, AppendsTo, WritesWhole}
 use Rattle.cg_text.specs.Words.{lines_of}
 use Rattle.cg_script.specs.Lines.{TakesKnownLine, LosesOfLine}
 use Rattle.cg_script.specs.declared.lines.LineKind.TheVariants.{TooLong, Text, Last}
 use Rattle.cg_script.specs.Request.{SpellsLine}
 use Rattle.cg_script.specs.Replay.{Replay, newline, session_number, with_name, IsOneTooMany, Answers, AnswersAll, AnswersFirst, AnswersPassed, IsOutputFrom, ending_text, answer_line}
-use Rattle.cg_script.proofs.DeviceLemmas.{Appends-nil, Appends-append, AppendsTo-front}
+use Rattle.cg_script.proofs.DeviceLemmas.{Appends-nil, AppendsFront-nil, AppendsTo-front, AppendsTo-longer, AppendsTo-on, AppendsTo-behind, AppendsTo-whole, Gathered-more}
 use Rattle.cg_script.proofs.LinesLaw.{lines_of-begins, lines_of-nil}
 use Rattle.cg_script.proofs.OneLine.{line_one}
 
@@ -44,11 +44,15 @@ answers_one s t u line a b (inr (inr h)) (inr (inr k)) = (h.1 ∙ sym k.1, h.2 �
 
 -- ---- one line of the source
 
-pub answered_too_long : (old new : Option (List ℕ)) (line out : List ℕ) (s : Replay) → TakesKnownLine old TooLong line new → out ≡ refusal_text Syntax ++ newline → IfSome old (λ text. AnswersFirst s text out s new)
-answered_too_long None new line out s h e = tt
-answered_too_long (Some text) None line out s h e = absurd h
-answered_too_long (Some text) (Some rest) line out s h e =
-    (h.1, lines_of-begins text h.1 rest h.3, inr (inr (refused, e, refl)))
+-- the first line of a text is answered behind what stood there
+abbrev pub AnswersBehind : Option (List ℕ) → Replay → List ℕ → List ℕ → Replay → Option (List ℕ) → Type 0
+AnswersBehind text s old new t rest = IfSome text (λ x. (answer : List ℕ) × (new ≡ old ++ answer) × AnswersFirst s x answer t rest)
+
+pub answered_too_long : (old new : Option (List ℕ)) (line before out : List ℕ) (s : Replay) → TakesKnownLine old TooLong line new → out ≡ before ++ (refusal_text Syntax ++ newline) → AnswersBehind old s before out s new
+answered_too_long None new line before out s h e = tt
+answered_too_long (Some text) None line before out s h e = absurd h
+answered_too_long (Some text) (Some rest) line before out s h e =
+    (refusal_text Syntax ++ newline, e, (h.1, lines_of-begins text h.1 rest h.3, inr (inr (refused, refl, refl))))
   where
     too_long : (call : Option (List ℕ × Request)) → SpellsLine h.1 call → length h.1 ≤ 65536
     too_long None k = k.0.short
@@ -57,15 +61,21 @@ answered_too_long (Some text) (Some rest) line out s h e =
     refused : (call : Option (List ℕ × Request)) → SpellsLine h.1 call → IsOneTooMany s.names call
     refused call k = let long = h.2 in let short = too_long call k in absurd (omega arith)
 
-pub answered_text : (old new : Option (List ℕ)) (line out : List ℕ) (s t : Replay) → TakesKnownLine old Text line new → Answers s line out t → IfSome old (λ text. AnswersFirst s text out t new)
-answered_text None new line out s t h a = tt
-answered_text (Some text) None line out s t h a = absurd h
-answered_text (Some text) (Some rest) line out s t h a = (line, lines_of-begins text line rest (h.1, inl h.2), a)
+pub answered_text : (old new : Option (List ℕ)) (line before out answer : List ℕ) (s t : Replay) → TakesKnownLine old Text line new → out ≡ before ++ answer → Answers s line answer t → AnswersBehind old s before out t new
+answered_text None new line before out answer s t h e a = tt
+answered_text (Some text) None line before out answer s t h e a = absurd h
+answered_text (Some text) (Some rest) line before out answer s t h e a = (answer, e, (line, lines_of-begins text line rest (h.1, inl h.2), a))
 
-pub answered_last : (old new : Option (List ℕ)) (line out : List ℕ) (s t : Replay) → TakesKnownLine old Last line new → Answers s line out t → IfSome old (λ text. AnswersFirst s text out t new)
-answered_last None new line out s t h a = tt
-answered_last (Some text) None line out s t h a = absurd h
-answered_last (Some text) (Some rest) line out s t h a = (line, lines_of-begins text line rest (h.1, inr h.2), a)
+pub answered_last : (old new : Option (List ℕ)) (line before out answer : List ℕ) (s t : Replay) → TakesKnownLine old Last line new → out ≡ before ++ answer → Answers s line answer t → AnswersBehind old s before out t new
+answered_last None new line before out answer s t h e a = tt
+answered_last (Some text) None line before out answer s t h e a = absurd h
+answered_last (Some text) (Some rest) line before out answer s t h e a = (answer, e, (line, lines_of-begins text line rest (h.1, inr h.2), a))
+
+-- some of what waited is written, and the first line is answered behind the rest
+pub gathers_first : (s t : Replay) (text rest a b : Option (List ℕ)) (before waiting after : List ℕ) → AppendsTo a b before waiting → AnswersBehind text s waiting after t rest
+    → IfSome text (λ x. (answer : List ℕ) × AnswersFirst s x answer t rest × AppendsTo a b (before ++ answer) after)
+gathers_first s t None rest a b before waiting after h k = tt
+gathers_first s t (Some text) rest a b before waiting after h k = (k.0, k.2, Gathered-more a b waiting before after k.0 h k.1)
 
 -- ---- all lines so far
 
@@ -103,35 +113,43 @@ plays_more s t u lines rest line done out p a = record {
   answered = answers_line p.passed s t u line done out p.answered a;
 }
 
--- the same of a source and a sink, where they tell their bytes
-abbrev pub PlaysKnown : Replay → Option (List ℕ) → Option (List ℕ) → Option (List ℕ) → Replay → Option (List ℕ) → Type 0
-PlaysKnown s None taken taken' t rest = Unit {0}
-PlaysKnown s (Some text) taken taken' t None = ⊥
-PlaysKnown s (Some text) taken taken' t (Some rest) = (done : List ℕ) × Plays s (lines_of text) done t (lines_of rest) × Appends taken taken' done
+-- the same of a source and a sink, where they tell their bytes: what was answered is written, but for what waits
+abbrev pub PlaysKnown : Replay → Option (List ℕ) → Option (List ℕ) → Option (List ℕ) → List ℕ → Replay → Option (List ℕ) → Type 0
+PlaysKnown s None taken taken' waiting t rest = Unit {0}
+PlaysKnown s (Some text) taken taken' waiting t None = ⊥
+PlaysKnown s (Some text) taken taken' waiting t (Some rest) = (done : List ℕ) × Plays s (lines_of text) done t (lines_of rest) × AppendsTo taken taken' done waiting
 
-pub plays_known_none : (s : Replay) (text taken : Option (List ℕ)) → PlaysKnown s text taken taken s text
+pub plays_known_none : (s : Replay) (text taken : Option (List ℕ)) → PlaysKnown s text taken taken [] s text
 plays_known_none s None taken = tt
-plays_known_none s (Some text) taken = ([], plays_none s (lines_of text), Appends-nil taken taken (kept taken))
+plays_known_none s (Some text) taken = ([], plays_none s (lines_of text), ([], refl, Appends-nil taken taken (kept taken)))
   where
     kept : (o : Option (List ℕ)) → Keeps o o
     kept None = tt
     kept (Some xs) = refl
 
-pub plays_known_more : (s t u : Replay) (text rest rest' a b c : Option (List ℕ)) (out : List ℕ) → PlaysKnown s text a b t rest → IfSome rest (λ x. AnswersFirst t x out u rest') → Appends b c out → PlaysKnown s text a c u rest'
-plays_known_more s t u None rest rest' a b c out p h w = tt
-plays_known_more s t u (Some text) None rest' a b c out p h w = absurd p
-plays_known_more s t u (Some text) (Some rest) None a b c out p h w = absurd h
-plays_known_more s t u (Some text) (Some rest) (Some rest') a b c out p h w = (
-  p.0 ++ out,
-  plays_more s t u (lines_of text) (lines_of rest') h.0 p.0 out (subst (λ ls. Plays s (lines_of text) p.0 t ls) h.1 p.1) h.2,
-  Appends-append a b c p.0 out p.2 w,
+-- one line more is answered, and some of what waits is written
+pub plays_known_more : (s t u : Replay) (text rest rest' a b c : Option (List ℕ)) (waiting waiting' : List ℕ) → PlaysKnown s text a b waiting t rest
+    → IfSome rest (λ x. (answer : List ℕ) × AnswersFirst t x answer u rest' × AppendsTo b c (waiting ++ answer) waiting') → PlaysKnown s text a c waiting' u rest'
+plays_known_more s t u None rest rest' a b c waiting waiting' p h = tt
+plays_known_more s t u (Some text) None rest' a b c waiting waiting' p h = absurd p
+plays_known_more s t u (Some text) (Some rest) None a b c waiting waiting' p h = absurd h.1
+plays_known_more s t u (Some text) (Some rest) (Some rest') a b c waiting waiting' p h = (
+  p.0 ++ h.0,
+  plays_more s t u (lines_of text) (lines_of rest') h.1.0 p.0 h.0 (subst (λ ls. Plays s (lines_of text) p.0 t ls) h.1.1 p.1) h.1.2,
+  AppendsTo-longer a b c p.0 waiting h.0 waiting' p.2 h.2,
 )
 
--- the reader breaks: the lines that it went past are answered
-pub answers_passed : (s t : Replay) (text rest left a b : Option (List ℕ)) → PlaysKnown s text a b t rest → LosesOfLine rest left → IfSome text (λ x. AnswersPassed s x left a b)
-answers_passed s t None rest left a b p l = tt
-answers_passed s t (Some text) None left a b p l = absurd p
-answers_passed s t (Some text) (Some rest) left a b p l = (p.1.passed, rest, p.1.whole, l, p.0, t, p.1.answered, p.2)
+-- some of what waits is written
+pub plays_known_on : (s t : Replay) (text rest a b c : Option (List ℕ)) (waiting waiting' : List ℕ) → PlaysKnown s text a b waiting t rest → AppendsTo b c waiting waiting' → PlaysKnown s text a c waiting' t rest
+plays_known_on s t None rest a b c waiting waiting' p h = tt
+plays_known_on s t (Some text) None a b c waiting waiting' p h = absurd p
+plays_known_on s t (Some text) (Some rest) a b c waiting waiting' p h = (p.0, p.1, AppendsTo-on a b c p.0 waiting waiting' p.2 h)
+
+-- the reader breaks: the lines that it went past are answered, and all of that is written
+pub answers_passed : (s t : Replay) (text rest left a b c : Option (List ℕ)) (waiting : List ℕ) → PlaysKnown s text a b waiting t rest → LosesOfLine rest left → Appends b c waiting → IfSome text (λ x. AnswersPassed s x left a c)
+answers_passed s t None rest left a b c waiting p l w = tt
+answers_passed s t (Some text) None left a b c waiting p l w = absurd p
+answers_passed s t (Some text) (Some rest) left a b c waiting p l w = (p.1.passed, rest, p.1.whole, l, p.0, t, p.1.answered, AppendsTo-whole a b c p.0 waiting p.2 w)
 
 -- ---- what was written, seen from the whole
 
@@ -152,52 +170,47 @@ module _ (s : Replay) (text out done : List ℕ) (t : Replay) (rest : List (List
   behind_done : out ≡ done ++ (others.0 ++ ending_text o.last.machine)
   behind_done = o.whole ∙ ap (λ x. x ++ ending_text o.last.machine) others.1 ∙ append_assoc done others.0 (ending_text o.last.machine)
 
-pub front_none : (s : Replay) (text rest a b : Option (List ℕ)) (t : Replay) → PlaysKnown s text a b t rest → FrontOf s text a b
-front_none s None rest a b t p = tt
-front_none s (Some text) None a b t p = absurd p
-front_none s (Some text) (Some rest) a b t p =
-    λ out o. ((others s text out p.0 t (lines_of rest) p.1 o).0 ++ ending_text o.last.machine, (p.0, behind_done s text out p.0 t (lines_of rest) p.1 o, p.2))
+-- some of what waits at most is written behind the rest
+pub front_waiting : (s t : Replay) (text rest a b c : Option (List ℕ)) (waiting : List ℕ) → PlaysKnown s text a b waiting t rest → AppendsFront b c waiting → FrontOf s text a c
+front_waiting s t None rest a b c waiting p w = tt
+front_waiting s t (Some text) None a b c waiting p w = absurd p
+front_waiting s t (Some text) (Some rest) a b c waiting p w = λ out o.
+    let all = others s text out p.0 t (lines_of rest) p.1 o in
+    subst (λ bytes. AppendsFront a c bytes) (sym (behind_done s text out p.0 t (lines_of rest) p.1 o))
+    (AppendsFront-longer a c p.0 (all.0 ++ ending_text o.last.machine) (AppendsTo-front a b c p.0 waiting p.2 w))
 
-first_is : (t u v : Replay) (line first out : List ℕ) → Answers t line first v → Answers t line out u → first ≡ out
-first_is t u v line first out h k = (answers_one t v u line first out h k).0
+-- behind the last line nothing is answered but the end
+module _ (s t : Replay) (text rest out : List ℕ) (done : List ℕ) (p : Plays s (lines_of text) done t (lines_of rest)) (e : rest ≡ []) (o : IsOutputFrom s text out) where
+  output_at_end : out ≡ done ++ ending_text t.machine
+  output_at_end =
+      let q : Plays s (lines_of text) done t [] = subst (λ ls. Plays s (lines_of text) done t ls) (ap lines_of e ∙ lines_of-nil) p in
+      let all = others s text out done t [] q o in
+      behind_done s text out done t [] q o ∙ (λ i. done ++ (all.2.0 i ++ ending_text (all.2.1 i).machine))
 
-pub front_line : (s : Replay) (text rest rest' a b c : Option (List ℕ)) (t u : Replay) (written : List ℕ) → PlaysKnown s text a b t rest → IfSome rest (λ x. AnswersFirst t x written u rest') → AppendsFront b c written → FrontOf s text a c
-front_line s None rest rest' a b c t u written p h w = tt
-front_line s (Some text) None rest' a b c t u written p h w = absurd p
-front_line s (Some text) (Some rest) None a b c t u written p h w = absurd h
-front_line s (Some text) (Some rest) (Some rest') a b c t u written p h w = λ out o.
-    let q : Plays s (lines_of text) p.0 t (h.0 ∷ lines_of rest') = subst (λ ls. Plays s (lines_of text) p.0 t ls) h.1 p.1 in
-    let all = others s text out p.0 t (h.0 ∷ lines_of rest') q o in
-    let parts = all.2 in
-    let same : parts.0 ≡ written = first_is t u parts.2 h.0 parts.0 written parts.3 h.2 in
-    let cut : all.0 ++ ending_text o.last.machine ≡ written ++ (parts.1 ++ ending_text o.last.machine) =
-    ap (λ x. x ++ ending_text o.last.machine) (parts.5 ∙ ap (λ x. x ++ parts.1) same) ∙ append_assoc written parts.1 (ending_text o.last.machine) in
-    let whole : out ≡ p.0 ++ (written ++ (parts.1 ++ ending_text o.last.machine)) =
-    behind_done s text out p.0 t (h.0 ∷ lines_of rest') q o ∙ ap (λ x. p.0 ++ x) cut in
-    AppendsTo-front a b c out (written ++ (parts.1 ++ ending_text o.last.machine)) (p.0, whole, p.2)
-    (AppendsFront-longer b c written (parts.1 ++ ending_text o.last.machine) w)
+pub front_end : (s t : Replay) (text rest a b c : Option (List ℕ)) (waiting : List ℕ) → PlaysKnown s text a b waiting t rest → IfSome rest (λ x. x ≡ []) → AppendsFront b c (waiting ++ ending_text t.machine) → FrontOf s text a c
+front_end s t None rest a b c waiting p e w = tt
+front_end s t (Some text) None a b c waiting p e w = absurd p
+front_end s t (Some text) (Some rest) a b c waiting p e w = λ out o.
+    subst (λ bytes. AppendsFront a c bytes) (sym (output_at_end s t text rest out p.0 p.1 e o))
+    (AppendsTo-front a b c (p.0 ++ ending_text t.machine) (waiting ++ ending_text t.machine) (AppendsTo-behind a b p.0 waiting (ending_text t.machine) p.2) w)
 
-pub front_end : (s : Replay) (text rest a b c : Option (List ℕ)) (t : Replay) → PlaysKnown s text a b t rest → IfSome rest (λ x. x ≡ []) → AppendsFront b c (ending_text t.machine) → FrontOf s text a c
-front_end s None rest a b c t p e w = tt
-front_end s (Some text) None a b c t p e w = absurd p
-front_end s (Some text) (Some rest) a b c t p e w = λ out o.
-    let q : Plays s (lines_of text) p.0 t [] = subst (λ ls. Plays s (lines_of text) p.0 t ls) (ap lines_of e ∙ lines_of-nil) p.1 in
-    let all = others s text out p.0 t [] q o in
-    let cut : all.0 ++ ending_text o.last.machine ≡ ending_text t.machine = (λ i. all.2.0 i ++ ending_text (all.2.1 i).machine) in
-    AppendsTo-front a b c out (ending_text t.machine) (p.0, behind_done s text out p.0 t [] q o ∙ ap (λ x. p.0 ++ x) cut, p.2) w
-
-pub whole_end : (s : Replay) (text rest a b c : Option (List ℕ)) (t : Replay) → PlaysKnown s text a b t rest → IfSome rest (λ x. x ≡ []) → Appends b c (ending_text t.machine) → IfSome text (λ x. (out : List ℕ) × IsOutputFrom s x out × Appends a c out)
-whole_end s None rest a b c t p e w = tt
-whole_end s (Some text) None a b c t p e w = absurd p
-whole_end s (Some text) (Some rest) a b c t p e w =
+pub whole_end : (s t : Replay) (text rest a b c : Option (List ℕ)) (waiting : List ℕ) → PlaysKnown s text a b waiting t rest → IfSome rest (λ x. x ≡ []) → Appends b c (waiting ++ ending_text t.machine)
+    → IfSome text (λ x. (out : List ℕ) × IsOutputFrom s x out × Appends a c out)
+whole_end s t None rest a b c waiting p e w = tt
+whole_end s t (Some text) None a b c waiting p e w = absurd p
+whole_end s t (Some text) (Some rest) a b c waiting p e w =
     let q : Plays s (lines_of text) p.0 t [] = subst (λ ls. Plays s (lines_of text) p.0 t ls) (ap lines_of e ∙ lines_of-nil) p.1 in (
       p.0 ++ ending_text t.machine,
       record { answers = p.0 ++ []; last = t; answered = q.forth [] t (refl, refl); whole = ap (λ x. x ++ ending_text t.machine) (sym (append-nil p.0)) },
-      Appends-append a b c p.0 (ending_text t.machine) p.2 w,
+      AppendsTo-whole a b c (p.0 ++ ending_text t.machine) (waiting ++ ending_text t.machine) (AppendsTo-behind a b p.0 waiting (ending_text t.machine) p.2) w,
     )
 
 pub front_nothing : (s : Replay) (text a : Option (List ℕ)) → FrontOf s text a a
-front_nothing s text a = front_none s text text a a s (plays_known_none s text a)
+front_nothing s text a = front_waiting s s text text a a a [] (plays_known_none s text a) (AppendsFront-nil a a [] (kept a))
+  where
+    kept : (o : Option (List ℕ)) → Keeps o o
+    kept None = tt
+    kept (Some xs) = refl
 
 -- what was written in a call that failed, and in one that didn't
 pub wrote_front : {A E : Type 0} (r : Result A E) (old new : Option (List ℕ)) (bytes : List ℕ) → is_err r ≡ true → WritesWhole old new r bytes → AppendsFront old new bytes

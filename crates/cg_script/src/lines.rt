@@ -131,6 +131,17 @@ impl<S: Source> LineReader<S> {
         self.reads
     }
 
+    /// Whether the next line can be given without a read of the source: a newline ends it in what was read.
+    pub fn has_line(&self) -> bool
+        ensures line { result ≡ true → (n : ℕ) × IsFirstNewline self.now.buffered n }
+        ensures none { result ≡ false → HasNoNewline self.now.buffered }
+    {
+        match newline_in(&self.chunk[self.start..self.end]) {
+            Some(_) => true,
+            None => false,
+        }
+    }
+
     /// Goes on to the next line. `Read` comes only where the source has failed since the reader was
     /// made, or where another read were one too many, and then at each later call. It may lose
     /// bytes of the line that it stands in, and no others.

@@ -1,5 +1,5 @@
 //! A schedule being played: its sessions' names and the machine.
-ghost use Rattle.std.specs.Prelude.{◌≡◌, ◌≤◌, ◌++◌, List, ℕ, MatchOption, IfOk, IfErr, OnOk, OnErr};
+ghost use Rattle.std.specs.Prelude.{◌≡◌, ◌≤◌, ◌++◌, List, ℕ, MatchOption, IfOk, IfErr, OnOk, OnErr, length, take};
 ghost use Rattle.cg_name.specs.declared.refusal.Refusal.TheVariants.{Memory, Syntax};
 ghost use Rattle.std.specs.Option.{option_map};
 ghost use Rattle.cg_name.specs.Refusal.{refusal_text};
@@ -57,9 +57,11 @@ impl Player {
         })
     }
 
-    /// Answers a line, at the end of `out`: nothing for a line that says nothing. `Memory` is the only refusal.
+    /// Answers a line, at the end of `out`: nothing for a line that says nothing. `Memory` is the only refusal, and
+    /// leaves `out` as it was.
     pub fn answer(&mut self, alloc: Global, line: &[u8], out: &mut Vec<u8>) -> Result<(), Refusal>
         ensures ok { OnOk result ((written : List ℕ) × (out.new.items ≡ out.old.items ++ written) × Answers self.old line.now written self.new) }
+        ensures err { OnErr result (out.new.items ≡ out.old.items) }
         ensures refusals { IfErr result (λ e. e ≡ Memory) }
     {
         match read_line(alloc, line) {
@@ -70,10 +72,25 @@ impl Player {
         }
     }
 
-    /// Answers the end of the schedule: aborts the open transaction, and shows the tree. `Memory` is the only
-    /// refusal.
+    /// Answers the end of the schedule, at the end of `out`: aborts the open transaction, and shows the tree. `Memory`
+    /// is the only refusal, and leaves `out` as it was.
     pub fn end(&mut self, alloc: Global, out: &mut Vec<u8>) -> Result<(), Refusal>
         ensures ok { OnOk result (out.new.items ≡ out.old.items ++ ending_text self.old.machine) }
+        ensures err { OnErr result (out.new.items ≡ out.old.items) }
+        ensures refusals { IfErr result (λ e. e ≡ Memory) }
+    {
+        let start = out.len();
+        let ended = self.append_end(alloc, out);
+        if ended.is_err() {
+            out.truncate(start);
+        }
+        ended
+    }
+
+    // The same, where a refusal leaves what stood there at the front.
+    fn append_end(&mut self, alloc: Global, out: &mut Vec<u8>) -> Result<(), Refusal>
+        ensures ok { OnOk result (out.new.items ≡ out.old.items ++ ending_text self.old.machine) }
+        ensures kept { take (length out.old.items) out.new.items ≡ out.old.items }
         ensures refusals { IfErr result (λ e. e ≡ Memory) }
     {
         if let Some(session) = self.core.open_session() {
@@ -109,6 +126,7 @@ impl Player {
         out: &mut Vec<u8>,
     ) -> Result<(), Refusal>
         ensures ok { OnOk result ((written : List ℕ) × (out.new.items ≡ out.old.items ++ written) × Asked self.old name (request_of request) written self.new) }
+        ensures err { OnErr result (out.new.items ≡ out.old.items) }
         ensures refusals { IfErr result (λ e. e ≡ Memory) }
     {
         let Some(session) = self.session(name)? else {
@@ -122,19 +140,25 @@ impl Player {
     }
 }
 
-// Appends the line of an answer.
+// Appends the line of an answer. A refusal leaves `out` as it was.
 fn end_line(alloc: Global, answer: &Answer, out: &mut Vec<u8>) -> Result<(), Refusal>
     ensures ok { OnOk result (out.new.items ≡ out.old.items ++ (answer_text (answer_of answer.now) ++ newline)) }
+    ensures err { OnErr result (out.new.items ≡ out.old.items) }
     ensures refusals { IfErr result (λ e. e ≡ Memory) }
 {
+    let start = out.len();
     write_answer(alloc, answer, out)?;
-    out.push(b'\n')?;
+    if out.push(b'\n').is_err() {
+        out.truncate(start);
+        return Err(Refusal::Memory);
+    }
     Ok(())
 }
 
-/// Appends the answer to a line outside the grammar. `Memory` is the only refusal.
+/// Appends the answer to a line outside the grammar. `Memory` is the only refusal, and leaves `out` as it was.
 pub fn refuse(alloc: Global, out: &mut Vec<u8>) -> Result<(), Refusal>
     ensures ok { OnOk result (out.new.items ≡ out.old.items ++ (refusal_text Syntax ++ newline)) }
+    ensures err { OnErr result (out.new.items ≡ out.old.items) }
     ensures refusals { IfErr result (λ e. e ≡ Memory) }
 {
     end_line(alloc, &Answer::Refused(Refusal::Syntax), out)
