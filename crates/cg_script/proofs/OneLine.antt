@@ -1,5 +1,5 @@
 -- A line spells one call at most, and so has one answer at most.
-use Rattle.std.proofs.Common.{◌≡◌, ℕ, List, [], ◌∷◌, Option, Some, None, codes, refl, sym, ap, subst, ◌∙◌, inl, inr, arith, Result, Ok, Err, OnOk, OnErr, IfOk, false, true≢false, true}
+use Rattle.std.proofs.Common.{◌≡◌, ℕ, List, [], ◌∷◌, Option, Some, None, codes, refl, sym, ap, subst, ◌∙◌, inl, inr, arith, Result, Ok, Err, OnOk, OnErr, false, true≢false, true}
 use Rattle.std.specs.Result.{is_err}
 use Rattle.cg_name.specs.Path.{SpellsPath}
 use Rattle.cg_name.proofs.WrittenPaths.{one_path}
@@ -134,6 +134,3 @@ on_any_err (Ok x) p = tt
 on_any_err (Err e) p = p
 
 -- what follows from what holds of an outcome's value
-pub if_ok_weaker : {A E : Type 0} {P Q : A → Type 0} (r : Result A E) → ((x : A) → P x → Q x) → IfOk r P → IfOk r Q
-if_ok_weaker (Ok x) f p = f x p
-if_ok_weaker (Err e) f p = tt

@@ -1,5 +1,5 @@
 -- A schedule that is played line by line gives its output, and nothing else.
-use Rattle.std.proofs.Common.{◌≡◌, ℕ, ◌≤◌, List, [], ◌∷◌, ◌++◌, length, Some, None, Option, IfSome, refl, sym, ap, subst, ◌∙◌, inl, inr, arith, append_assoc, append-nil, Result, Ok, Err, true, false, true≢false}
+use Rattle.std.proofs.Common.{◌≡◌, ℕ, ◌≤◌, List, [], ◌∷◌, ◌++◌, length, Some, None, Option, IfSome, refl, sym, ap, subst, ◌∙◌, inl, inr, arith, append_assoc, append-nil, Result, Ok, Err, IfOk, Bool, true, false, true≢false}
 use Rattle.std.specs.Result.{is_err}
 use Rattle.std.specs.Io.KnownBytes.{Appends, Keeps}
 use Rattle.cg_name.specs.Refusal.{refusal_text}
@@ -61,15 +61,32 @@ answered_too_long (Some text) (Some rest) line before out s h e =
     refused : (call : Option (List ℕ × Request)) → SpellsLine h.1 call → IsOneTooMany s.names call
     refused call k = let long = h.2 in let short = too_long call k in absurd (omega arith)
 
-pub answered_text : (old new : Option (List ℕ)) (line before out answer : List ℕ) (s t : Replay) → TakesKnownLine old Text line new → out ≡ before ++ answer → Answers s line answer t → AnswersBehind old s before out t new
-answered_text None new line before out answer s t h e a = tt
-answered_text (Some text) None line before out answer s t h e a = absurd h
-answered_text (Some text) (Some rest) line before out answer s t h e a = (answer, e, (line, lines_of-begins text line rest (h.1, inl h.2), a))
+-- a line of at most 65,536 bytes is a text's first
+abbrev pub IsFirstLine : Option (List ℕ) → List ℕ → Option (List ℕ) → Type 0
+IsFirstLine None line new = Unit {0}
+IsFirstLine (Some text) line None = ⊥
+IsFirstLine (Some text) line (Some rest) = lines_of text ≡ line ∷ lines_of rest
 
-pub answered_last : (old new : Option (List ℕ)) (line before out answer : List ℕ) (s t : Replay) → TakesKnownLine old Last line new → out ≡ before ++ answer → Answers s line answer t → AnswersBehind old s before out t new
-answered_last None new line before out answer s t h e a = tt
-answered_last (Some text) None line before out answer s t h e a = absurd h
-answered_last (Some text) (Some rest) line before out answer s t h e a = (answer, e, (line, lines_of-begins text line rest (h.1, inr h.2), a))
+pub first_text : (old new : Option (List ℕ)) (line : List ℕ) → TakesKnownLine old Text line new → IsFirstLine old line new
+first_text None new line h = tt
+first_text (Some text) None line h = absurd h
+first_text (Some text) (Some rest) line h = lines_of-begins text line rest (h.1, inl h.2)
+
+pub first_last : (old new : Option (List ℕ)) (line : List ℕ) → TakesKnownLine old Last line new → IsFirstLine old line new
+first_last None new line h = tt
+first_last (Some text) None line h = absurd h
+first_last (Some text) (Some rest) line h = lines_of-begins text line rest (h.1, inr h.2)
+
+answered_first : (old new : Option (List ℕ)) (line before out answer : List ℕ) (s t : Replay) → IsFirstLine old line new → out ≡ before ++ answer → Answers s line answer t → AnswersBehind old s before out t new
+answered_first None new line before out answer s t h e a = tt
+answered_first (Some text) None line before out answer s t h e a = absurd h
+answered_first (Some text) (Some rest) line before out answer s t h e a = (answer, e, (line, h, a))
+
+-- a call that answers a line answers the first
+pub answered_line : {E : Type 0} (r : Result Bool E) (old new : Option (List ℕ)) (line given before out : List ℕ) (s t : Replay) → IsFirstLine old line new → given ≡ line
+    → IfOk r (λ more. (more ≡ true) × (answer : List ℕ) × (out ≡ before ++ answer) × Answers s given answer t) → IfOk r (λ more. more ≡ true → AnswersBehind old s before out t new)
+answered_line (Ok more) old new line given before out s t first same h = λ _. answered_first old new line before out h.1 s t first h.2 (subst (λ l. Answers s l h.1 t) same h.3)
+answered_line (Err e) old new line given before out s t first same h = tt
 
 -- some of what waited is written, and the first line is answered behind the rest
 pub gathers_first : (s t : Replay) (text rest a b : Option (List ℕ)) (before waiting after : List ℕ) → AppendsTo a b before waiting → AnswersBehind text s waiting after t rest
@@ -186,6 +203,10 @@ module _ (s t : Replay) (text rest out : List ℕ) (done : List ℕ) (p : Plays 
       let q : Plays s (lines_of text) done t [] = subst (λ ls. Plays s (lines_of text) done t ls) (ap lines_of e ∙ lines_of-nil) p in
       let all = others s text out done t [] q o in
       behind_done s text out done t [] q o ∙ (λ i. done ++ (all.2.0 i ++ ending_text (all.2.1 i).machine))
+
+-- the end is shown of the last state, by whichever name
+pub shown_at_end : (t u : Replay) (waiting shown : List ℕ) → u ≡ t → shown ≡ waiting ++ ending_text u.machine → shown ≡ waiting ++ ending_text t.machine
+shown_at_end t u waiting shown same e = e ∙ (λ i. waiting ++ ending_text (same i).machine)
 
 pub front_end : (s t : Replay) (text rest a b c : Option (List ℕ)) (waiting : List ℕ) → PlaysKnown s text a b waiting t rest → IfSome rest (λ x. x ≡ []) → AppendsFront b c (waiting ++ ending_text t.machine) → FrontOf s text a c
 front_end s t None rest a b c waiting p e w = tt

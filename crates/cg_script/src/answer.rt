@@ -1,61 +1,105 @@
 //! The lines of answers.
-ghost use Rattle.std.specs.Prelude.{◌≡◌, ◌++◌, codes, IfOk, IfErr, OnOk, OnErr};
+ghost use Rattle.std.specs.Prelude.{◌≡◌, ◌++◌, ◌∷◌, IfErr, OnOk, OnErr, length, take};
 ghost use Rattle.std.specs.Fmt.{decimal};
-ghost use Rattle.cg_name.specs.Refusal.{refusal_text};
+ghost use Rattle.cg_name.specs.Refusal.{argument_of, refusal_text};
 ghost use Rattle.cg_name.specs.declared.refusal.Refusal.TheVariants.{Memory};
 ghost use Rattle.cg_core.specs.Meaning.{answer_of};
-ghost use Rattle.cg_name.specs.Word.{quoted_text};
 ghost use Rattle.cg_script.specs.Answer.{answer_text};
 
 use cg_core::record::Answer;
 use cg_name::refusal::{Refusal, TxnNumber};
 use cg_text::writing::write_quoted;
-use std::alloc::Global;
+use itoa::Buffer;
 
 /// Appends the answer's line, without a newline. `Memory` leaves the bytes as they were.
-pub fn write_answer(alloc: Global, answer: &Answer, out: &mut Vec<u8>) -> Result<(), Refusal>
+pub fn write_answer(answer: &Answer, out: &mut Vec<u8>) -> Result<(), Refusal>
     ensures ok { OnOk result (out.new.items ≡ out.old.items ++ answer_text (answer_of answer.now)) }
     ensures err { OnErr result (out.new.items ≡ out.old.items) }
     ensures refusals { IfErr result (λ e. e ≡ Memory) }
 {
-    let line = match answer {
-        Answer::Begun(TxnNumber(number)) => numbered(alloc, "begun ", *number)?,
-        Answer::Done => Vec::from_slice(alloc, b"done")?,
-        Answer::Text(text) => text_line(alloc, text.as_slice())?,
-        Answer::Saved => Vec::from_slice(alloc, b"saved")?,
-        Answer::Back(count) => numbered(alloc, "back ", *count)?,
-        Answer::Committed(number) => numbered(alloc, "committed ", *number)?,
-        Answer::Aborted(TxnNumber(number)) => numbered(alloc, "aborted ", *number)?,
-        Answer::Refused(refusal) => refused(alloc, *refusal)?,
-    };
-    out.extend_from_slice(line.as_slice())?;
+    let start = out.len();
+    let written = append_answer(answer, out);
+    if written.is_err() {
+        out.truncate(start);
+    }
+    written
+}
+
+// What follows appends to `out`, and a refusal leaves what stood there at the front.
+
+// The line of an answer.
+fn append_answer(answer: &Answer, out: &mut Vec<u8>) -> Result<(), Refusal>
+    ensures ok { OnOk result (out.new.items ≡ out.old.items ++ answer_text (answer_of answer.now)) }
+    ensures kept { OnErr result (take (length out.old.items) out.new.items ≡ out.old.items) }
+    ensures refusals { IfErr result (λ e. e ≡ Memory) }
+{
+    match answer {
+        Answer::Begun(TxnNumber(number)) => append_numbered("begun ", *number, out),
+        Answer::Done => append_word("done", out),
+        Answer::Text(text) => {
+            append_word("text ", out)?;
+            write_quoted(text.as_slice(), out)
+        }
+        Answer::Saved => append_word("saved", out),
+        Answer::Back(count) => append_numbered("back ", *count, out),
+        Answer::Committed(number) => append_numbered("committed ", *number, out),
+        Answer::Aborted(TxnNumber(number)) => append_numbered("aborted ", *number, out),
+        Answer::Refused(refusal) => append_refusal(*refusal, out),
+    }
+}
+
+// A word.
+fn append_word(word: &str, out: &mut Vec<u8>) -> Result<(), Refusal>
+    ensures ok { OnOk result (out.new.items ≡ out.old.items ++ word.now) }
+    ensures err { OnErr result (out.new.items ≡ out.old.items) }
+    ensures refusals { IfErr result (λ e. e ≡ Memory) }
+{
+    out.extend_from_slice(word.as_bytes())?;
     Ok(())
 }
 
-// A word and a number.
-fn numbered(alloc: Global, word: &str, number: u32) -> Result<Vec<u8>, Refusal>
-    ensures value { IfOk result (λ line. line.items ≡ word.now ++ decimal number) }
+// A word with a space before it.
+fn append_behind(word: &str, out: &mut Vec<u8>) -> Result<(), Refusal>
+    ensures ok { OnOk result (out.new.items ≡ out.old.items ++ 32 ∷ word.now) }
+    ensures kept { OnErr result (take (length out.old.items) out.new.items ≡ out.old.items) }
     ensures refusals { IfErr result (λ e. e ≡ Memory) }
 {
-    let line = format!(in alloc; "{word}{number}")?;
-    Ok(Vec::from_slice(alloc, line.as_bytes())?)
+    out.push(b' ')?;
+    append_word(word, out)
+}
+
+// A word and a number.
+fn append_numbered(word: &str, number: u32, out: &mut Vec<u8>) -> Result<(), Refusal>
+    ensures ok { OnOk result (out.new.items ≡ out.old.items ++ (word.now ++ decimal number)) }
+    ensures kept { OnErr result (take (length out.old.items) out.new.items ≡ out.old.items) }
+    ensures refusals { IfErr result (λ e. e ≡ Memory) }
+{
+    append_word(word, out)?;
+    out.extend_from_slice(Buffer::new().format(number).as_bytes())?;
+    Ok(())
 }
 
 // The printed form of a refusal.
-fn refused(alloc: Global, refusal: Refusal) -> Result<Vec<u8>, Refusal>
-    ensures value { IfOk result (λ line. line.items ≡ refusal_text refusal) }
+fn append_refusal(refusal: Refusal, out: &mut Vec<u8>) -> Result<(), Refusal>
+    ensures ok { OnOk result (out.new.items ≡ out.old.items ++ refusal_text refusal) }
+    ensures kept { OnErr result (take (length out.old.items) out.new.items ≡ out.old.items) }
     ensures refusals { IfErr result (λ e. e ≡ Memory) }
 {
-    let line = format!(in alloc; "{refusal}")?;
-    Ok(Vec::from_slice(alloc, line.as_bytes())?)
+    append_numbered("refused ", u32::from(refusal.number()), out)?;
+    append_behind(refusal.word(), out)?;
+    append_argument(refusal, out)
 }
 
-// The line that shows a text.
-fn text_line(alloc: Global, text: &[u8]) -> Result<Vec<u8>, Refusal>
-    ensures value { IfOk result (λ line. line.items ≡ codes "text " ++ quoted_text text.now) }
+// The argument of a refusal, with the space before it; most have none.
+fn append_argument(refusal: Refusal, out: &mut Vec<u8>) -> Result<(), Refusal>
+    ensures ok { OnOk result (out.new.items ≡ out.old.items ++ argument_of refusal) }
+    ensures kept { OnErr result (take (length out.old.items) out.new.items ≡ out.old.items) }
     ensures refusals { IfErr result (λ e. e ≡ Memory) }
 {
-    let mut line = Vec::from_slice(alloc, b"text ")?;
-    write_quoted(text, &mut line)?;
-    Ok(line)
+    match refusal {
+        Refusal::Busy(TxnNumber(txn)) => append_numbered(" ", txn, out),
+        Refusal::Unavailable(controller) => append_behind(controller.word(), out),
+        Refusal::InUse(controller) => append_behind(controller.word(), out),
+        _ => Ok(()),
+    }
 }

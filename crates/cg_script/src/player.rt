@@ -67,7 +67,7 @@ impl Player {
         match read_line(alloc, line) {
             Ok(None) => Ok(()),
             Ok(Some((name, request))) => self.ask(alloc, name, request, out),
-            Err(Refusal::Syntax) => refuse(alloc, out),
+            Err(Refusal::Syntax) => refuse(out),
             Err(_) => Err(Refusal::Memory),
         }
     }
@@ -95,7 +95,7 @@ impl Player {
     {
         if let Some(session) = self.core.open_session() {
             let answer = self.core.step(alloc, session, Request::Abort);
-            end_line(alloc, &answer, out)?;
+            end_line(&answer, out)?;
         }
         self.core.tree().write(out)
     }
@@ -130,24 +130,24 @@ impl Player {
         ensures refusals { IfErr result (λ e. e ≡ Memory) }
     {
         let Some(session) = self.session(name)? else {
-            return refuse(alloc, out);
+            return refuse(out);
         };
         let answer = self.core.step(alloc, session, request);
         if let Answer::Refused(Refusal::Memory) = answer {
             return Err(Refusal::Memory);
         }
-        end_line(alloc, &answer, out)
+        end_line(&answer, out)
     }
 }
 
 // Appends the line of an answer. A refusal leaves `out` as it was.
-fn end_line(alloc: Global, answer: &Answer, out: &mut Vec<u8>) -> Result<(), Refusal>
+fn end_line(answer: &Answer, out: &mut Vec<u8>) -> Result<(), Refusal>
     ensures ok { OnOk result (out.new.items ≡ out.old.items ++ (answer_text (answer_of answer.now) ++ newline)) }
     ensures err { OnErr result (out.new.items ≡ out.old.items) }
     ensures refusals { IfErr result (λ e. e ≡ Memory) }
 {
     let start = out.len();
-    write_answer(alloc, answer, out)?;
+    write_answer(answer, out)?;
     if out.push(b'\n').is_err() {
         out.truncate(start);
         return Err(Refusal::Memory);
@@ -156,10 +156,10 @@ fn end_line(alloc: Global, answer: &Answer, out: &mut Vec<u8>) -> Result<(), Ref
 }
 
 /// Appends the answer to a line outside the grammar. `Memory` is the only refusal, and leaves `out` as it was.
-pub fn refuse(alloc: Global, out: &mut Vec<u8>) -> Result<(), Refusal>
+pub fn refuse(out: &mut Vec<u8>) -> Result<(), Refusal>
     ensures ok { OnOk result (out.new.items ≡ out.old.items ++ (refusal_text Syntax ++ newline)) }
     ensures err { OnErr result (out.new.items ≡ out.old.items) }
     ensures refusals { IfErr result (λ e. e ≡ Memory) }
 {
-    end_line(alloc, &Answer::Refused(Refusal::Syntax), out)
+    end_line(&Answer::Refused(Refusal::Syntax), out)
 }

@@ -151,7 +151,7 @@ fn answer_line<S: Source>(
     match kind {
         LineKind::End => Ok(false),
         LineKind::TooLong => {
-            if refuse(alloc, out).is_err() {
+            if refuse(out).is_err() {
                 return Err(ScriptFault::Memory);
             }
             Ok(true)

@@ -1,13 +1,12 @@
-use Rattle.std.proofs.Common.{◌≡◌, ◌++◌, sym, subst, ◌∙◌}
+use Rattle.std.proofs.Common.{sym, subst, ◌∙◌}
 use Rattle.std.specs.Io.KnownBytes.{Appends}
 use Rattle.std.proofs.lemmas.Result.{err_from_is_err_and, on_ok_weaker, on_err_weaker}
 use Rattle.cg_script.specs.Device.{AppendsFront}
 use Rattle.cg_script.specs.Lines.{pending}
-use Rattle.cg_script.specs.Replay.{ending_text}
 use Rattle.cg_script.proofs.DeviceLemmas.{AppendsFront-whole}
 use Rattle.cg_script.proofs.OneLine.{on_any_err, when_err, when_ok}
 use Rattle.cg_script.proofs.WorldLemmas.{err_handed_on}
-use Rattle.cg_script.proofs.Playing.{answers_passed, front_waiting, front_end, whole_end, plays_known_more, plays_known_on}
+use Rattle.cg_script.proofs.Playing.{answers_passed, front_waiting, front_end, whole_end, plays_known_more, plays_known_on, shown_at_end}
 use Rattle.cg_script.proofs.replay.play.Goals as goal
 
 pub returns-in_err-answer_next-clause-front : goal.returns-in_err-answer_next-clause-front
@@ -62,7 +61,7 @@ returns-clause-front g c =
     plays_known_on c.args.player.now c.lines.player (pending c.args.reader.now) (pending c.lines.reader) (g.K.Sink.taken c.args.sink.now) (g.K.Sink.taken c.lines.sink) between c.lines.out.items
     c.answer_next.new.out.items c.lines.invariant.plays ended.2 in
     let shown = when_ok c.end.result (sym c.is_err.ensures.value ∙ c.if-is_err.false) c.end.ensures.ok in
-    let bytes : c.end.new.out.items ≡ c.answer_next.new.out.items ++ ending_text c.lines.player.machine = shown ∙ (λ i. c.answer_next.new.out.items ++ ending_text (ended.1 i).machine) in
+    let bytes = shown_at_end c.lines.player c.answer_next.new.player c.answer_next.new.out.items c.end.new.out.items ended.1 shown in
     on_err_weaker c.send-2.result
     (λ front.
     front_end c.args.player.now c.lines.player (pending c.args.reader.now) (pending c.lines.reader) (g.K.Sink.taken c.args.sink.now) between (g.K.Sink.taken c.send-2.new.sink) c.answer_next.new.out.items plays
@@ -77,7 +76,7 @@ returns-clause-output g c =
     plays_known_on c.args.player.now c.lines.player (pending c.args.reader.now) (pending c.lines.reader) (g.K.Sink.taken c.args.sink.now) (g.K.Sink.taken c.lines.sink) between c.lines.out.items
     c.answer_next.new.out.items c.lines.invariant.plays ended.2 in
     let shown = when_ok c.end.result (sym c.is_err.ensures.value ∙ c.if-is_err.false) c.end.ensures.ok in
-    let bytes : c.end.new.out.items ≡ c.answer_next.new.out.items ++ ending_text c.lines.player.machine = shown ∙ (λ i. c.answer_next.new.out.items ++ ending_text (ended.1 i).machine) in
+    let bytes = shown_at_end c.lines.player c.answer_next.new.player c.answer_next.new.out.items c.end.new.out.items ended.1 shown in
     on_ok_weaker c.send-2.result
     (λ sent.
     whole_end c.args.player.now c.lines.player (pending c.args.reader.now) (pending c.lines.reader) (g.K.Sink.taken c.args.sink.now) between (g.K.Sink.taken c.send-2.new.sink) c.answer_next.new.out.items plays
