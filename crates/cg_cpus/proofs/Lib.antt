@@ -4,6 +4,7 @@ pub mod Ranges
 pub mod Runs
 pub mod Grammar
 pub mod Members
+pub mod Words
 pub mod Writing
 pub mod Canonical
 pub mod Equal

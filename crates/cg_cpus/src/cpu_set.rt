@@ -1,9 +1,10 @@
 //! Sets of CPU numbers.
-ghost use Rattle.std.specs.Prelude.{◌≡◌, ◌∷◌, [], not, ◌++◌, ◌+◌, ◌<◌, ◌≤◌, ◌↔◌, ◌⊎◌, IsTrue, IfOk, IfErr, IfNone, IfSome, OnOk, OnErr, ℕ};
+ghost use Rattle.std.specs.Prelude.{◌≡◌, ◌∷◌, [], not, ◌++◌, ◌+◌, ◌-◌, ◌%◌, ◌<◌, ◌≤◌, ◌↔◌, ◌⊎◌, IsTrue, IfOk, IfErr, IfNone, IfSome, OnOk, OnErr, ℕ};
 ghost use Rattle.std.proofs.Common.{nat_eq, rules};
 ghost use Rattle.std.specs.Cmp.Lexicographic.{pointwise};
 ghost use Rattle.std.specs.Cmp.Rules.{comparing};
 ghost use Rattle.std.specs.Result.{IsErrOf};
+ghost use Rattle.std.specs.Int.{bit_at};
 ghost use Rattle.cg_maps.specs.FiniteSet.{FiniteSet, has, in_common, is_empty_set, members, no_members, with_member};
 ghost use Rattle.cg_name.specs.declared.refusal.Refusal.TheVariants.{Memory, Syntax};
 ghost use Rattle.cg_cpus.specs.Ascending.{runs_from};
@@ -104,13 +105,13 @@ impl CpuSet {
         ensures none { IfNone result (self.now ≡ no_members) }
         ensures below { (n : ℕ) → IsTrue (has self.now n) → n < 1024 }
     {
-        // What is known of the words bounds the numbers.
-        let _ = &self.words;
-        let mut end = CpuSet::LIMIT;
+        // No word from `end` on has a bit.
+        let mut end = self.words.len();
         while end > 0 {
             end -= 1;
-            if self.contains(end) {
-                return Some(end);
+            let word = self.words[end];
+            if word != 0 {
+                return Some(end as u16 * 64 + (63 - word.leading_zeros() as u16));
             }
         }
         None
@@ -135,10 +136,25 @@ impl CpuSet {
         ensures here { result < 1024 → has self.now result ≡ present }
     {
         let mut cpu = from;
-        while cpu < CpuSet::LIMIT && self.contains(cpu) != present {
-            cpu += 1;
+        while cpu < CpuSet::LIMIT {
+            let found = self.bits_from(cpu, present);
+            if found != 0 {
+                return cpu + found.trailing_zeros() as u16;
+            }
+            cpu += 64 - cpu % 64;
         }
-        cpu
+        CpuSet::LIMIT
+    }
+
+    // The rest of a word from this number on, a bit set for each number that is in the set, or that isn't.
+    fn bits_from(&self, cpu: u16, present: bool) -> u64
+        requires { cpu < 1024 }
+        ensures found { (k : ℕ) → k < 64 - cpu % 64 → bit_at result k ≡ 1 → has self.now (cpu + k) ≡ present }
+        ensures passed { (k : ℕ) → k < 64 - cpu % 64 → bit_at result k ≡ 0 → has self.now (cpu + k) ≡ not present }
+        ensures rest { (k : ℕ) → 64 - cpu % 64 ≤ k → bit_at result k ≡ 0 }
+    {
+        let word = self.words[usize::from(cpu / 64)];
+        (if present { word } else { !word }) >> (cpu % 64)
     }
 
     // The first run from `from` on, as its first and last number.
