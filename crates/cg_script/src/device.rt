@@ -1,10 +1,11 @@
 //! Sources and sinks of bytes that count their failures.
 ghost use Rattle.std.specs.Prelude.{◌≡◌, ℕ, List, Option, OnOk, OnErr, IfOk, ◌≤◌, ◌<◌, length};
 ghost use Rattle.std.specs.Io.{ReadsAtMost, WritesAtMost};
-ghost use Rattle.std.specs.Io.KnownBytes.{ReadConsumes};
+ghost use Rattle.std.specs.Io.KnownBytes.{ReadConsumes, WriteAppends};
 ghost use Rattle.cg_script.specs.Device.{more, WritesFront, Failed, WritesWhole};
 
-use std::io::{Read, Write};
+use std::io;
+use std::io::{ErrorKind, Read, Write};
 
 /// A read or a write failed.
 #[derive(Clone, Copy, Debug, PartialEq, Eq)]
@@ -82,8 +83,9 @@ impl<R: Read> Source for FromRead<R> {
         self.failures
     }
 
+    // A read that a signal interrupted is tried again, as std's own loops do.
     fn read(&mut self, buf: &mut [u8]) -> Result<usize, DeviceFault> {
-        match self.reader.read(buf) {
+        match read_uninterrupted(&mut self.reader, buf) {
             Ok(n) => Ok(n),
             Err(_) => {
                 self.failures = self.failures.saturating_add(1);
@@ -131,14 +133,43 @@ impl<W: Write> Sink for FromWrite<W> {
         self.failures
     }
 
-    // A write that takes none of the bytes handed in is a failure, so that writing goes on or stops.
+    // A write that takes none of the bytes handed in is a failure, so that writing goes on or stops. One that a signal
+    // interrupted is tried again.
     fn write(&mut self, bytes: &[u8]) -> Result<usize, DeviceFault> {
-        match self.writer.write(bytes) {
+        match write_uninterrupted(&mut self.writer, bytes) {
             Ok(0) if !bytes.is_empty() => Err(self.fail()),
             Ok(n) => Ok(n),
             Err(_) => Err(self.fail()),
         }
     }
+}
+
+// One read, tried again where a signal interrupts it.
+fn read_uninterrupted<R: Read>(reader: &mut R, buf: &mut [u8]) -> io::Result<usize>
+    ensures bound { ReadsAtMost result buf.new }
+    ensures bytes { ReadConsumes (R.remaining reader.old) (R.remaining reader.new) result buf.new }
+{
+    for _ in 0..u64::MAX {
+        match reader.read(buf) {
+            Err(fault) if fault.kind() == ErrorKind::Interrupted => {}
+            result => return result,
+        }
+    }
+    Err(ErrorKind::Interrupted.into())
+}
+
+// One write, tried again where a signal interrupts it.
+fn write_uninterrupted<W: Write>(writer: &mut W, bytes: &[u8]) -> io::Result<usize>
+    ensures bound { WritesAtMost result bytes.now }
+    ensures bytes { WriteAppends (W.contents writer.old) (W.contents writer.new) result bytes.now }
+{
+    for _ in 0..u64::MAX {
+        match writer.write(bytes) {
+            Err(fault) if fault.kind() == ErrorKind::Interrupted => {}
+            result => return result,
+        }
+    }
+    Err(ErrorKind::Interrupted.into())
 }
 
 /// Writes all of the bytes. A fault comes only where a write failed, and leaves some bytes at the

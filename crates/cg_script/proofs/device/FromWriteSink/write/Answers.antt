@@ -9,4 +9,4 @@ returns-in-Ok-eq0-clause-bytes g c =
 pub returns-in-Err-clause-bytes : goal.returns-in-Err-clause-bytes
 returns-in-Err-clause-bytes g c =
     rw c.fail-in-Err.ensures.writer
-    (AppendsFront-nil (g.W.Write.contents c.args.self.now.writer) (g.W.Write.contents c.write.new.self) c.args.bytes.now c.in-Err.ensures.bytes)
+    (AppendsFront-nil (g.W.Write.contents c.args.self.now.writer) (g.W.Write.contents c.write_uninterrupted.new.writer) c.args.bytes.now c.in-Err.ensures.bytes)
