@@ -1,7 +1,16 @@
-//! The words of refusals and controllers, as they are printed.
+//! The printed texts of refusals and faults.
 use cg_name::controller::Controller;
 use cg_name::refusal::{Refusal, TxnNumber};
-use std::alloc::{AllocError, Global};
+use cg_script::fault::ScriptFault;
+use std::alloc::AllocError;
+
+// Whether this was printed.
+fn is_printed(printed: &Result<String, AllocError>, text: &str) -> bool {
+    match printed {
+        Ok(printed) => printed.as_str() == text,
+        Err(_) => false,
+    }
+}
 
 const REFUSALS: [(Refusal, &str); 25] = [
     (Refusal::Syntax, "refused 1 syntax"),
@@ -34,47 +43,25 @@ const REFUSALS: [(Refusal, &str); 25] = [
     (Refusal::WriteFault, "refused 25 writefault"),
 ];
 
-// The printed form of a refusal.
-fn printed(alloc: Global, refusal: Refusal) -> Result<String, AllocError> {
-    format!(in alloc; "{refusal}")
-}
-
-// Whether that is the text.
-fn is_printed_as(alloc: Global, refusal: Refusal, text: &str) -> bool {
-    match printed(alloc, refusal) {
-        Ok(found) => found.as_str() == text,
-        Err(_) => false,
-    }
-}
-
 #[test]
 fn refusals_are_printed(rt: HostRuntime) {
     for (refusal, text) in &REFUSALS {
-        assert!(rt; is_printed_as(rt.alloc(), *refusal, *text), "{text}");
+        let printed = format!(in rt.alloc(); "{refusal}");
+        assert!(rt; is_printed(&printed, text), "{text}");
     }
 }
 
-const WORDS: [(Controller, &str); 8] = [
-    (Controller::Cpuset, "cpuset"),
-    (Controller::Cpu, "cpu"),
-    (Controller::Io, "io"),
-    (Controller::Memory, "memory"),
-    (Controller::Hugetlb, "hugetlb"),
-    (Controller::Pids, "pids"),
-    (Controller::Rdma, "rdma"),
-    (Controller::Misc, "misc"),
+const FAULTS: [(ScriptFault, &str); 4] = [
+    (ScriptFault::Syntax, "the text is not in its grammar"),
+    (ScriptFault::Memory, "memory ran out"),
+    (ScriptFault::ReadFault, "the reader failed"),
+    (ScriptFault::WriteFault, "the writer failed"),
 ];
 
 #[test]
-fn controllers_have_their_words(rt: HostRuntime) {
-    for (controller, word) in &WORDS {
-        assert!(rt; controller.word() == *word && Controller::read(word) == Ok(*controller));
-    }
-}
-
-#[test]
-fn other_words_are_of_no_controller(rt: HostRuntime) {
-    for word in &["", "Cpu", "cpu ", "cpus", "perf_event"] {
-        assert!(rt; Controller::read(word) == Err(Refusal::Syntax), "{word}");
+fn faults_are_printed(rt: HostRuntime) {
+    for (fault, text) in &FAULTS {
+        let printed = format!(in rt.alloc(); "{fault}");
+        assert!(rt; is_printed(&printed, text), "{text}");
     }
 }

@@ -1,0 +1,64 @@
+//! The worlds that a machine gives: of its tree, and the one that it was opened on.
+use cg_core::command::Command;
+use cg_core::machine::Core;
+use cg_core::record::{Request, SessionId};
+use cg_name::path::Path;
+use cg_name::refusal::Refusal;
+use cg_world::world::World;
+use std::alloc::Global;
+
+const OPENING: &str = "world 1\ncontrollers cpu\nonline 0\ngroup / - 0 -\nproc 10 /\nend\n";
+
+// That world.
+fn world(alloc: Global) -> Result<World, Refusal> {
+    World::read(alloc, OPENING.as_bytes())
+}
+
+// Makes the group `/a` in a transaction. What is answered is seen by the tree.
+fn make_a(alloc: Global, core: &mut Core) -> Result<(), Refusal> {
+    let path = Path::read(alloc, "/a")?;
+    let _ = core.step(alloc, SessionId(1), Request::Begin);
+    let _ = core.step(alloc, SessionId(1), Request::Do(Command::Create { path }));
+    Ok(())
+}
+
+// A machine on that world, on which the group `/a` was made.
+fn with_a(alloc: Global) -> Result<Core, Refusal> {
+    let mut core = Core::open(alloc, world(alloc)?, 8)?;
+    make_a(alloc, &mut core)?;
+    Ok(core)
+}
+
+// Appends the text of the world that equals the machine's tree.
+fn write_world(alloc: Global, core: &Core, out: &mut Vec<u8>) -> Result<(), Refusal> {
+    core.tree().to_world(alloc)?.write(out)
+}
+
+// Appends that, and the text of the world that the machine was opened on.
+fn write_worlds(alloc: Global, out: &mut Vec<u8>) -> Result<(), Refusal> {
+    let core = with_a(alloc)?;
+    write_world(alloc, &core, out)?;
+    core.opening().write(out)
+}
+
+const WORLDS: &str = "world 1
+controllers cpu
+online 0
+group / - 0 -
+group /a - 0 -
+proc 10 /
+end
+world 1
+controllers cpu
+online 0
+group / - 0 -
+proc 10 /
+end
+";
+
+#[test]
+fn a_machine_keeps_the_world_that_it_was_opened_on(rt: HostRuntime) {
+    let mut out = Vec::new(rt.alloc());
+    assert!(rt; write_worlds(rt.alloc(), &mut out) == Ok(()));
+    assert!(rt; out.as_slice() == WORLDS.as_bytes());
+}

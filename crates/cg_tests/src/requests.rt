@@ -1,0 +1,42 @@
+//! Lines of requests that are read, and written in their one form.
+use cg_core::record::Request;
+use cg_name::refusal::Refusal;
+use cg_script::request::{read_line, write_line};
+use cg_script::session::SessionName;
+use std::alloc::Global;
+
+// Appends the line that is written for a copy of a session's request.
+fn write_copy(
+    alloc: Global,
+    name: SessionName,
+    request: &Request,
+    out: &mut Vec<u8>,
+) -> Result<(), Refusal> {
+    write_line(name, &request.copy(alloc)?, out)
+}
+
+// Appends the line that is written for what a line asks.
+fn rewrite(alloc: Global, line: &str, out: &mut Vec<u8>) -> Result<(), Refusal> {
+    match read_line(alloc, line.as_bytes())? {
+        Some((name, request)) => write_copy(alloc, name, &request, out),
+        None => Ok(()),
+    }
+}
+
+const LINES: [(&str, &str); 6] = [
+    ("\t A\t begin ", "> A begin"),
+    ("s-1_Z  create \"/\"\r", "> s-1_Z create /"),
+    ("A create /é", "> A create \"/é\""),
+    ("B create \"/a \\\"b/#\"", "> B create \"/a \\\"b/#\""),
+    ("0123456789abcdef commit", "> 0123456789abcdef commit"),
+    ("B abort", "> B abort"),
+];
+
+#[test]
+fn lines_are_written_in_one_form(rt: HostRuntime) {
+    for (line, want) in &LINES {
+        let mut out = Vec::from_slice(rt.alloc(), b"> ").expect(&rt, "memory");
+        assert!(rt; rewrite(rt.alloc(), line, &mut out) == Ok(()), "{line}");
+        assert!(rt; out.as_slice() == want.as_bytes(), "{line}");
+    }
+}
