@@ -6,7 +6,7 @@ use std::alloc::Global;
 
 // Appends the line of an answer's copy.
 fn write_copy(alloc: Global, answer: &Answer, out: &mut Vec<u8>) -> Result<(), Refusal> {
-    write_answer(alloc, &answer.copy(alloc)?, out)
+    write_answer(&answer.copy(alloc)?, out)
 }
 
 #[test]

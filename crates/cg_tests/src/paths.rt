@@ -12,7 +12,7 @@ fn copied_name(alloc: Global, text: &str) -> Result<Name, Refusal> {
 // The child with this name of the path that a word spells.
 fn child_of(alloc: Global, word: &str, name: &str) -> Result<Path, Refusal> {
     let path = Path::read(alloc, word)?;
-    path.child(alloc, copied_name(alloc, name)?)
+    path.child(alloc, &copied_name(alloc, name)?)
 }
 
 // Appends the word of a path's copy.
