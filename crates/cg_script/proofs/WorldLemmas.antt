@@ -15,6 +15,7 @@ use Rattle.cg_script.specs.Lines.{HasNoNewline, BeginsWithLine, TakesKnownLine}
 use Rattle.cg_script.specs.declared.lines.LineKind.TheVariants.{End, TooLong, Text, Last}
 use Rattle.cg_script.specs.WorldPart.{joined, BeginsWithWorld, ReadsWorld, HasNoWorld}
 use Rattle.cg_script.specs.WorldLines.{EndsAt, IsPart, IsPartBehind, SpoilEnd, SpoilWorld}
+use Rattle.cg_world.proofs.Taken.{some_last}
 use Rattle.cg_script.proofs.LinesLaw.{lines_of-begins}
 use Rattle.cg_script.proofs.LinesLemmas.{Consumes-append}
 
@@ -72,11 +73,6 @@ last_ends [] last h (inl e) = e
 last_ends [] last h (inr e) = absurd e
 last_ends (l ∷ lines) last h (inl e) = absurd (h.0 e)
 last_ends (l ∷ lines) last h (inr e) = last_ends lines last h.1 e
-
--- and one is where the last is
-pub some_ends : (lines : List Line) (last : Line) → EndsWorld last → SomeEnds (lines ++ last ∷ [])
-some_ends [] last e = inl e
-some_ends (l ∷ lines) last e = inr (some_ends lines last e)
 
 -- each of some lines says something that a line may
 each_says : (gathered more : List (List ℕ)) (line : List ℕ) (said : List (List Word)) → SayAll (gathered ++ line ∷ more) said → (s : Option (List Word)) × Says line s
@@ -312,11 +308,6 @@ stops_at_end (Some text) (Some rest) gathered line h = record {
       absurd (omega arith);
 }
 
--- what holds anyway holds of an outcome that is no error
-pub on_ok : {A E P : Type 0} (r : Result A E) → P → OnOk r P
-on_ok (Ok x) p = p
-on_ok (Err e) p = tt
-
 -- what two facts of an outcome that is no error say together
 pub both_ok : {A E : Type 0} (r : Result A E) (P Q R : A → Type 0) → ((x : A) → P x → Q x → R x) → IfOk r P → IfOk r Q → IfOk r R
 both_ok (Ok x) P Q R f p q = f x p q
@@ -389,12 +380,12 @@ part_goes_on start now world bytes p none = at p.through
     at (inl h) = record {
       lines = p.lines ++ p.last ∷ [];
       plain = p.plain;
-      open_lines = all_append (λ line. EndsWorld line → ⊥) p.lines (p.last ∷ []) p.open_lines ((λ e. none (some_ends p.lines p.last e)), tt);
+      open_lines = all_append (λ line. EndsWorld line → ⊥) p.lines (p.last ∷ []) p.open_lines ((λ e. none (some_last p.lines p.last e)), tt);
       past = subst (Consumes start now) (sym more) h.0;
       counted = h.1 ∙ sym (ap length more ∙ length-append (joined p.lines) (p.last ++ 10 ∷ []) ∙ ap (λ n. length (joined p.lines) + n) (length-append p.last (10 ∷ [])));
       taken = p.taken;
     }
-    at (inr h) = absurd (none (some_ends p.lines p.last h.0))
+    at (inr h) = absurd (none (some_last p.lines p.last h.0))
 
 -- ---- the world that the part spells
 

@@ -131,7 +131,7 @@ module _ (n : versions.Version) (T : Tree) (v : versions.Version) (ss : List Sta
     (λ f. ([], f.0, f.1, f.2, f.3, f.4, f.5, f.6)),
   )
 
-abbrev both : {A B C : Type 0} → A ↔ B → B ↔ C → A ↔ C
+abbrev pub both : {A B C : Type 0} → A ↔ B → B ↔ C → A ↔ C
 both f g = ((λ a. g.0 (f.0 a)), (λ c. f.1 (g.1 c)))
 
 abbrev itself : {A : Type 0} → A ↔ A

@@ -11,12 +11,9 @@ use Rattle.cg_world.specs.Statement.{SpellsStatement}
 use Rattle.cg_world.specs.Reader.{BeginTree, SpellTree, EndsWorld, SomeEnds, HasEnded, HasTaken}
 use Rattle.cg_world.specs.Stage.{taken, version_at, Leads}
 use Rattle.cg_text.proofs.Cuts.{one_saying}
-use Rattle.cg_world.proofs.Lines.{at_end, from_begun, leads_itself, one_spelled, silent, spoken}
+use Rattle.cg_world.proofs.Lines.{at_end, leads_itself, one_spelled, silent, spoken}
 use Rattle.cg_world.proofs.Spelled.{one_statement}
-use Rattle.cg_world.proofs.Stages.{free}
-
-abbrev both : {A B C : Type 0} → A ↔ B → B ↔ C → A ↔ C
-both f g = ((λ a. g.0 (f.0 a)), (λ c. f.1 (g.1 c)))
+use Rattle.cg_world.proofs.Stages.{both, free}
 
 -- ---- whether one of the lines ends a world
 
@@ -25,7 +22,7 @@ some_front [] ys h = absurd h
 some_front (x ∷ xs) ys (inl h) = inl h
 some_front (x ∷ xs) ys (inr h) = inr (some_front xs ys h)
 
-some_last : (xs : List Line) (line : Line) → EndsWorld line → SomeEnds (xs ++ line ∷ [])
+pub some_last : (xs : List Line) (line : Line) → EndsWorld line → SomeEnds (xs ++ line ∷ [])
 some_last [] line h = inl h
 some_last (x ∷ xs) line h = inr (some_last xs line h)
 
@@ -115,9 +112,6 @@ regroup lines line others T =
     ((λ h. subst (λ ls. SpellTree ls T) e h), (λ h. subst (λ ls. SpellTree ls T) (sym e) h))
 
 -- ---- the lines taken
-
-pub taken_none : HasTaken Begun []
-taken_none = record { goes_on = from_begun; ended = ((λ h. h), (λ h. h)) }
 
 -- a line more that says nothing
 pub taken_silent : (st : Stage) (line : Line) → Says line None → (lines : List Line) → HasTaken st lines → HasTaken st (lines ++ line ∷ [])

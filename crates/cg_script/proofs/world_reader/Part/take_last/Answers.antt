@@ -1,7 +1,7 @@
 use Rattle.std.proofs.Common.{[], ◌∷◌, ◌++◌, append-nil, subst, sym, ◌∙◌, true≢false}
 use Rattle.std.proofs.lemmas.Result.{err_from_is_err_and}
 use Rattle.cg_world.specs.Reader.{SpellTree}
-use Rattle.cg_script.proofs.WorldLemmas.{some_ends}
+use Rattle.cg_world.proofs.Taken.{some_last}
 use Rattle.cg_script.proofs.world_reader.Part.take_last.Goals as goal
 
 pub returns-in_err-part-clause-syntax : goal.returns-in_err-part-clause-syntax
@@ -11,5 +11,5 @@ returns-in_err-part-clause-syntax c =
 
 pub returns-else-has_ended-clause-syntax : goal.returns-else-has_ended-clause-syntax
 returns-else-has_ended-clause-syntax c = λ _ lines h ends T tree.
-    let ended = (c.has_ended.ensures (lines ++ c.args.line.now ∷ []) (c.in_ok-part.ensures.taken lines h)).1 (some_ends lines c.args.line.now ends) in
+    let ended = (c.has_ended.ensures (lines ++ c.args.line.now ∷ []) (c.in_ok-part.ensures.taken lines h)).1 (some_last lines c.args.line.now ends) in
     absurd (true≢false (sym ended ∙ c.if-has_ended.false))
