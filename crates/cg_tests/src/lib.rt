@@ -11,6 +11,8 @@ mod files;
 #[cfg(test)]
 mod machine;
 #[cfg(test)]
+mod path_maps;
+#[cfg(test)]
 mod paths;
 #[cfg(test)]
 mod printed;
