@@ -6,12 +6,13 @@ ghost use Rattle.std.specs.Cmp.Rules.{comparing};
 ghost use Rattle.std.specs.Result.{IsErrOf};
 ghost use Rattle.std.specs.Int.{bit_at};
 ghost use Rattle.cg_maps.specs.FiniteSet.{FiniteSet, has, in_common, is_empty_set, members, no_members, with_member};
-ghost use Rattle.cg_name.specs.declared.refusal.Refusal.TheVariants.{Memory, Syntax};
+ghost use Rattle.cg_name.specs.declared.refusal.Refusal.TheVariants.{Syntax};
 ghost use Rattle.cg_cpus.specs.Ascending.{runs_from};
 ghost use Rattle.cg_cpus.specs.CpuList.{cpus_text, SpellsCpus};
 
 use crate::list;
 use cg_name::refusal::Refusal;
+use std::alloc::AllocError;
 use std::marker::Model;
 
 /// A set of CPU numbers, each from 0 to 1,023.
@@ -182,11 +183,10 @@ impl CpuSet {
         list::read(text)
     }
 
-    /// Appends the set's list: its runs, ascending; `Memory` leaves `out` as it was.
-    pub fn write(&self, out: &mut Vec<u8>) -> Result<(), Refusal>
+    /// Appends the set's list: its runs, ascending; An error, where there is no memory, leaves `out` as it was.
+    pub fn write(&self, out: &mut Vec<u8>) -> Result<(), AllocError>
         ensures text { OnOk result (out.new.items ≡ out.old.items ++ cpus_text self.now) }
         ensures unchanged { OnErr result (out.new.items ≡ out.old.items) }
-        ensures refusals { IfErr result (λ e. e ≡ Memory) }
         ensures below { (n : ℕ) → IsTrue (has self.now n) → n < 1024 }
     {
         // What is known of the words bounds the numbers.

@@ -2,7 +2,7 @@
 ghost use Rattle.std.specs.Prelude.{◌≡◌, ◌++◌, ◌<◌, ◌≤◌, IsTrue, IfOk, IfErr, IfNone, IfSome, OnOk, OnErr, ℕ, length, reverse, take};
 ghost use Rattle.std.specs.Result.{IsErrOf};
 ghost use Rattle.cg_maps.specs.FiniteSet.{FiniteSet, has};
-ghost use Rattle.cg_name.specs.declared.refusal.Refusal.TheVariants.{Memory, Syntax};
+ghost use Rattle.cg_name.specs.declared.refusal.Refusal.TheVariants.{Syntax};
 ghost use Rattle.cg_cpus.specs.Ascending.{separated};
 ghost use Rattle.cg_cpus.specs.CpuList.{cpus_text, IsCpuNumber, run_text, SpellsCpus, SpellsRange, SpellsTrimmed, without_leading_blanks, without_trailing_blanks};
 
@@ -10,6 +10,7 @@ use crate::blanks::trim;
 use crate::cpu_set::CpuSet;
 use cg_name::refusal::Refusal;
 use itoa::Buffer;
+use std::alloc::AllocError;
 
 // A number of decimal digits alone, below 1,024.
 fn read_number(digits: &str) -> Result<u16, Refusal>
@@ -74,10 +75,9 @@ pub(crate) fn read(text: &str) -> Result<CpuSet, Refusal>
 }
 
 // Appends a run, with a comma before it where it stands behind another; a refusal leaves what stood there at the front.
-fn append_run(behind: bool, first: u16, last: u16, out: &mut Vec<u8>) -> Result<(), Refusal>
+fn append_run(behind: bool, first: u16, last: u16, out: &mut Vec<u8>) -> Result<(), AllocError>
     ensures text { OnOk result (out.new.items ≡ out.old.items ++ separated behind (run_text (first, last))) }
     ensures kept { OnErr result (take (length out.old.items) out.new.items ≡ out.old.items) }
-    ensures refusals { IfErr result (λ e. e ≡ Memory) }
 {
     let mut buffer = Buffer::new();
     if behind {
@@ -92,11 +92,10 @@ fn append_run(behind: bool, first: u16, last: u16, out: &mut Vec<u8>) -> Result<
 }
 
 // Appends the set's runs; a refusal leaves what stood there at the front.
-pub(crate) fn append_runs(set: &CpuSet, out: &mut Vec<u8>) -> Result<(), Refusal>
+pub(crate) fn append_runs(set: &CpuSet, out: &mut Vec<u8>) -> Result<(), AllocError>
     requires { (n : ℕ) → IsTrue (has set.now n) → n < 1024 }
     ensures text { OnOk result (out.new.items ≡ out.old.items ++ cpus_text set.now) }
     ensures kept { OnErr result (take (length out.old.items) out.new.items ≡ out.old.items) }
-    ensures refusals { IfErr result (λ e. e ≡ Memory) }
 {
     let mut next = 0;
     while let Some((first, last)) = set.run_from(next) {

@@ -14,17 +14,16 @@ use crate::controllers::Controllers;
 use crate::limit::Limit;
 use cg_cpus::cpu_set::CpuSet;
 use cg_name::controller::Controller;
-use cg_name::refusal::Refusal;
 use cg_name::word;
 use itoa::Buffer;
+use std::alloc::AllocError;
 
 /// Appends what `cgroup.controllers` and `cgroup.subtree_control` show: the names of the set's controllers in the
-/// profile's order, with single spaces between them and a newline; nothing for no controller. `Memory` leaves `out`
+/// profile's order, with single spaces between them and a newline; nothing for no controller. An error, where there is no memory, leaves `out`
 /// as it was.
-pub fn write_controllers(set: Controllers, out: &mut Vec<u8>) -> Result<(), Refusal>
+pub fn write_controllers(set: Controllers, out: &mut Vec<u8>) -> Result<(), AllocError>
     ensures text { OnOk result (out.new.items ≡ out.old.items ++ controllers_text set) }
     ensures unchanged { OnErr result (out.new.items ≡ out.old.items) }
-    ensures refusals { IfErr result (λ e. e ≡ Memory) }
 {
     let start = out.len();
     let written = append_controllers(&set, out);
@@ -36,11 +35,10 @@ pub fn write_controllers(set: Controllers, out: &mut Vec<u8>) -> Result<(), Refu
 
 /// Appends what is written to `cgroup.subtree_control`: a word for each controller of the operations, in the profile's
 /// order, a `+` where it is enabled and else a `-`, and its name; with single spaces between the words, and no
-/// newline. `Memory` leaves `out` as it was.
-pub fn write_ops(ops: ControlOps, out: &mut Vec<u8>) -> Result<(), Refusal>
+/// newline. An error, where there is no memory, leaves `out` as it was.
+pub fn write_ops(ops: ControlOps, out: &mut Vec<u8>) -> Result<(), AllocError>
     ensures text { OnOk result (out.new.items ≡ out.old.items ++ ops_text ops) }
     ensures unchanged { OnErr result (out.new.items ≡ out.old.items) }
-    ensures refusals { IfErr result (λ e. e ≡ Memory) }
 {
     let start = out.len();
     let written = append_ops(&ops, out);
@@ -50,12 +48,11 @@ pub fn write_ops(ops: ControlOps, out: &mut Vec<u8>) -> Result<(), Refusal>
     written
 }
 
-/// Appends what `cgroup.procs` shows: each PID on a line of its own, in the order given. `Memory` leaves `out` as it
+/// Appends what `cgroup.procs` shows: each PID on a line of its own, in the order given. An error, where there is no memory, leaves `out` as it
 /// was.
-pub fn write_procs(pids: &[u32], out: &mut Vec<u8>) -> Result<(), Refusal>
+pub fn write_procs(pids: &[u32], out: &mut Vec<u8>) -> Result<(), AllocError>
     ensures text { OnOk result (out.new.items ≡ out.old.items ++ pids_text pids.now) }
     ensures unchanged { OnErr result (out.new.items ≡ out.old.items) }
-    ensures refusals { IfErr result (λ e. e ≡ Memory) }
 {
     let start = out.len();
     let written = append_pids(pids, out);
@@ -66,11 +63,10 @@ pub fn write_procs(pids: &[u32], out: &mut Vec<u8>) -> Result<(), Refusal>
 }
 
 /// Appends what `cgroup.events` shows: whether the group has a live process in it or below it, and whether it is
-/// frozen, each on a line of its own. `Memory` leaves `out` as it was.
-pub fn write_events(populated: bool, frozen: bool, out: &mut Vec<u8>) -> Result<(), Refusal>
+/// frozen, each on a line of its own. An error, where there is no memory, leaves `out` as it was.
+pub fn write_events(populated: bool, frozen: bool, out: &mut Vec<u8>) -> Result<(), AllocError>
     ensures text { OnOk result (out.new.items ≡ out.old.items ++ events_text populated frozen) }
     ensures unchanged { OnErr result (out.new.items ≡ out.old.items) }
-    ensures refusals { IfErr result (λ e. e ≡ Memory) }
 {
     out.extend_from_slice(match (populated, frozen) {
         (false, false) => b"populated 0\nfrozen 0\n",
@@ -81,22 +77,20 @@ pub fn write_events(populated: bool, frozen: bool, out: &mut Vec<u8>) -> Result<
     Ok(())
 }
 
-/// Appends what `cgroup.freeze` shows: `0` or `1`, and a newline. `Memory` leaves `out` as it was.
-pub fn write_flag(flag: bool, out: &mut Vec<u8>) -> Result<(), Refusal>
+/// Appends what `cgroup.freeze` shows: `0` or `1`, and a newline. An error, where there is no memory, leaves `out` as it was.
+pub fn write_flag(flag: bool, out: &mut Vec<u8>) -> Result<(), AllocError>
     ensures text { OnOk result (out.new.items ≡ out.old.items ++ flag_text flag) }
     ensures unchanged { OnErr result (out.new.items ≡ out.old.items) }
-    ensures refusals { IfErr result (λ e. e ≡ Memory) }
 {
     out.extend_from_slice(if flag { b"1\n" } else { b"0\n" })?;
     Ok(())
 }
 
 /// Appends what `cpuset.cpus` and `cpuset.cpus.effective` show: the set's list, as `0-4,6`, and a newline; the newline
-/// alone for no CPU. `Memory` leaves `out` as it was.
-pub fn write_cpus(cpus: CpuSet, out: &mut Vec<u8>) -> Result<(), Refusal>
+/// alone for no CPU. An error, where there is no memory, leaves `out` as it was.
+pub fn write_cpus(cpus: CpuSet, out: &mut Vec<u8>) -> Result<(), AllocError>
     ensures text { OnOk result (out.new.items ≡ out.old.items ++ cpus_line cpus) }
     ensures unchanged { OnErr result (out.new.items ≡ out.old.items) }
-    ensures refusals { IfErr result (λ e. e ≡ Memory) }
 {
     let start = out.len();
     cpus.write(out)?;
@@ -105,10 +99,9 @@ pub fn write_cpus(cpus: CpuSet, out: &mut Vec<u8>) -> Result<(), Refusal>
 
 /// Appends what `cgroup.max.descendants` and `cgroup.max.depth` show: `max` or the number, and a newline. `Memory`
 /// leaves `out` as it was.
-pub fn write_limit(limit: Limit, out: &mut Vec<u8>) -> Result<(), Refusal>
+pub fn write_limit(limit: Limit, out: &mut Vec<u8>) -> Result<(), AllocError>
     ensures text { OnOk result (out.new.items ≡ out.old.items ++ limit_text limit) }
     ensures unchanged { OnErr result (out.new.items ≡ out.old.items) }
-    ensures refusals { IfErr result (λ e. e ≡ Memory) }
 {
     match limit {
         Limit::Max => {
@@ -120,11 +113,10 @@ pub fn write_limit(limit: Limit, out: &mut Vec<u8>) -> Result<(), Refusal>
 }
 
 /// Appends the text between quotation marks. A quotation mark and a backslash get a backslash before them, a
-/// newline is a backslash and an `n`, and every other byte stands for itself. `Memory` leaves `out` as it was.
-pub fn write_quoted(text: &[u8], out: &mut Vec<u8>) -> Result<(), Refusal>
+/// newline is a backslash and an `n`, and every other byte stands for itself. An error, where there is no memory, leaves `out` as it was.
+pub fn write_quoted(text: &[u8], out: &mut Vec<u8>) -> Result<(), AllocError>
     ensures text { OnOk result (out.new.items ≡ out.old.items ++ quoted_text text.now) }
     ensures unchanged { OnErr result (out.new.items ≡ out.old.items) }
-    ensures refusals { IfErr result (λ e. e ≡ Memory) }
 {
     Ok(word::write_quoted(text, out)?)
 }
@@ -132,10 +124,9 @@ pub fn write_quoted(text: &[u8], out: &mut Vec<u8>) -> Result<(), Refusal>
 // What follows appends to `out`, and a refusal leaves what stood there at the front.
 
 // The line of a set of controllers.
-fn append_controllers(set: &Controllers, out: &mut Vec<u8>) -> Result<(), Refusal>
+fn append_controllers(set: &Controllers, out: &mut Vec<u8>) -> Result<(), AllocError>
     ensures text { OnOk result (out.new.items ≡ out.old.items ++ controllers_text set.now) }
     ensures kept { OnErr result (take (length out.old.items) out.new.items ≡ out.old.items) }
-    ensures refusals { IfErr result (λ e. e ≡ Memory) }
 {
     let mut behind = false;
     for controller in &Controller::ALL {
@@ -151,10 +142,9 @@ fn append_controllers(set: &Controllers, out: &mut Vec<u8>) -> Result<(), Refusa
 }
 
 // A controller's name, with a space before it where it stands behind another.
-fn append_name(behind: bool, controller: Controller, out: &mut Vec<u8>) -> Result<(), Refusal>
+fn append_name(behind: bool, controller: Controller, out: &mut Vec<u8>) -> Result<(), AllocError>
     ensures text { OnOk result (out.new.items ≡ out.old.items ++ spaced behind (controller_word controller)) }
     ensures kept { OnErr result (take (length out.old.items) out.new.items ≡ out.old.items) }
-    ensures refusals { IfErr result (λ e. e ≡ Memory) }
 {
     if behind {
         out.push(b' ')?;
@@ -164,10 +154,9 @@ fn append_name(behind: bool, controller: Controller, out: &mut Vec<u8>) -> Resul
 }
 
 // The words of operations.
-fn append_ops(ops: &ControlOps, out: &mut Vec<u8>) -> Result<(), Refusal>
+fn append_ops(ops: &ControlOps, out: &mut Vec<u8>) -> Result<(), AllocError>
     ensures text { OnOk result (out.new.items ≡ out.old.items ++ ops_text ops.now) }
     ensures kept { OnErr result (take (length out.old.items) out.new.items ≡ out.old.items) }
-    ensures refusals { IfErr result (λ e. e ≡ Memory) }
 {
     let mut behind = false;
     for controller in &Controller::ALL {
@@ -186,10 +175,9 @@ fn append_op(
     enables: bool,
     controller: Controller,
     out: &mut Vec<u8>,
-) -> Result<(), Refusal>
+) -> Result<(), AllocError>
     ensures text { OnOk result (out.new.items ≡ out.old.items ++ spaced behind (sign_byte enables ∷ controller_word controller)) }
     ensures kept { OnErr result (take (length out.old.items) out.new.items ≡ out.old.items) }
-    ensures refusals { IfErr result (λ e. e ≡ Memory) }
 {
     if behind {
         out.push(b' ')?;
@@ -200,10 +188,9 @@ fn append_op(
 }
 
 // A line for each PID.
-fn append_pids(pids: &[u32], out: &mut Vec<u8>) -> Result<(), Refusal>
+fn append_pids(pids: &[u32], out: &mut Vec<u8>) -> Result<(), AllocError>
     ensures text { OnOk result (out.new.items ≡ out.old.items ++ pids_text pids.now) }
     ensures kept { OnErr result (take (length out.old.items) out.new.items ≡ out.old.items) }
-    ensures refusals { IfErr result (λ e. e ≡ Memory) }
 {
     for pid in pids {
         append_number(*pid, out)?;
@@ -212,10 +199,9 @@ fn append_pids(pids: &[u32], out: &mut Vec<u8>) -> Result<(), Refusal>
 }
 
 // A number and a newline; a refusal leaves `out` as it was.
-fn append_number(number: u32, out: &mut Vec<u8>) -> Result<(), Refusal>
+fn append_number(number: u32, out: &mut Vec<u8>) -> Result<(), AllocError>
     ensures text { OnOk result (out.new.items ≡ out.old.items ++ line_text (decimal number)) }
     ensures unchanged { OnErr result (out.new.items ≡ out.old.items) }
-    ensures refusals { IfErr result (λ e. e ≡ Memory) }
 {
     let start = out.len();
     out.extend_from_slice(Buffer::new().format(number).as_bytes())?;
@@ -223,11 +209,10 @@ fn append_number(number: u32, out: &mut Vec<u8>) -> Result<(), Refusal>
 }
 
 // The newline of the line that begins at `start`; a refusal cuts the line off.
-fn end_line(start: usize, out: &mut Vec<u8>) -> Result<(), Refusal>
+fn end_line(start: usize, out: &mut Vec<u8>) -> Result<(), AllocError>
     requires { start ≤ length out.old.items }
     ensures text { OnOk result (out.new.items ≡ out.old.items ++ 10 ∷ []) }
     ensures cut { OnErr result (out.new.items ≡ take start out.old.items) }
-    ensures refusals { IfErr result (λ e. e ≡ Memory) }
 {
     let ended = out.push(b'\n');
     if ended.is_err() {

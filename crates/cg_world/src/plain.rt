@@ -4,16 +4,14 @@ ghost use Rattle.std.specs.Option.{option_copied};
 ghost use Rattle.std.specs.Ordering.{nat_cmp};
 ghost use Rattle.cg_maps.specs.FiniteMap.{set_at, empty, from_entries};
 ghost use Rattle.cg_name.specs.Path.{path_cmp};
-ghost use Rattle.cg_name.specs.declared.refusal.Refusal.TheVariants.{Memory};
 ghost use Rattle.cg_model.specs.Tree.{Tree, group, place_of};
 ghost use Rattle.cg_world.specs.World.{IsPid, IsRepresentable};
 
 use cg_cpus::cpu_set::CpuSet;
 use cg_name::path::Path;
-use cg_name::refusal::Refusal;
 use cg_text::controllers::Controllers;
 use cg_text::settings::Settings;
-use std::alloc::Global;
+use std::alloc::{AllocError, Global};
 use std::collections::BTreeMap;
 use std::marker::Model;
 
@@ -86,12 +84,11 @@ impl PlainTree {
         self.places.get(&pid)
     }
 
-    /// Makes the group at this path, or gives it these settings. `Memory` leaves the tree as it was, and comes
+    /// Makes the group at this path, or gives it these settings. An error, where there is no memory, leaves the tree as it was, and comes
     /// only at a path that has no group.
-    pub fn set_group(&mut self, path: Path, settings: Settings) -> Result<(), Refusal>
+    pub fn set_group(&mut self, path: Path, settings: Settings) -> Result<(), AllocError>
         ensures ok { OnOk result (self.new ≡ record self.old { groups = set_at self.old.groups path (Some settings) }) }
         ensures err { OnErr result (self.new ≡ self.old) }
-        ensures refusals { IfErr result (λ e. e ≡ Memory) }
     {
         // The path and the CPUs tell what holds of them.
         let _ = path.names();
@@ -100,13 +97,12 @@ impl PlainTree {
         Ok(())
     }
 
-    /// Puts the process with this PID, from 1 to 4,194,303, into the group at this path. `Memory` leaves the tree as
+    /// Puts the process with this PID, from 1 to 4,194,303, into the group at this path. An error, where there is no memory, leaves the tree as
     /// it was.
-    pub fn set_place(&mut self, pid: u32, path: Path) -> Result<(), Refusal>
+    pub fn set_place(&mut self, pid: u32, path: Path) -> Result<(), AllocError>
         requires { IsPid pid }
         ensures ok { OnOk result (self.new ≡ record self.old { places = set_at self.old.places pid (Some path) }) }
         ensures err { OnErr result (self.new ≡ self.old) }
-        ensures refusals { IfErr result (λ e. e ≡ Memory) }
     {
         // The path tells what holds of it.
         let _ = path.names();
@@ -114,10 +110,9 @@ impl PlainTree {
         Ok(())
     }
 
-    /// An equal tree; `Memory` where there is none for it.
-    pub fn copy(&self, alloc: Global) -> Result<PlainTree, Refusal>
-        ensures value { IfOk result (λ t. t ≡ self.now) }
-        ensures refusals { IfErr result (λ e. e ≡ Memory) }
+    /// An equal tree; an error where there is no memory for it.
+    pub fn copy(&self, alloc: Global) -> Result<PlainTree, AllocError>
+        ensures { IfOk result (λ t. t ≡ self.now) }
     {
         Ok(PlainTree {
             controllers: self.controllers,
@@ -146,9 +141,8 @@ impl PlainTree {
 fn copy_groups(
     alloc: Global,
     groups: &BTreeMap<Path, Settings>,
-) -> Result<BTreeMap<Path, Settings>, Refusal>
-    ensures value { IfOk result (λ made. from_entries path_cmp made.entries ≡ from_entries path_cmp groups.now.entries) }
-    ensures refusals { IfErr result (λ e. e ≡ Memory) }
+) -> Result<BTreeMap<Path, Settings>, AllocError>
+    ensures { IfOk result (λ made. from_entries path_cmp made.entries ≡ from_entries path_cmp groups.now.entries) }
 {
     let mut made = BTreeMap::new(alloc);
     for (path, settings) in groups {
@@ -158,9 +152,11 @@ fn copy_groups(
 }
 
 // A map of the same processes.
-fn copy_places(alloc: Global, places: &BTreeMap<u32, Path>) -> Result<BTreeMap<u32, Path>, Refusal>
-    ensures value { IfOk result (λ made. from_entries nat_cmp made.entries ≡ from_entries nat_cmp places.now.entries) }
-    ensures refusals { IfErr result (λ e. e ≡ Memory) }
+fn copy_places(
+    alloc: Global,
+    places: &BTreeMap<u32, Path>,
+) -> Result<BTreeMap<u32, Path>, AllocError>
+    ensures { IfOk result (λ made. from_entries nat_cmp made.entries ≡ from_entries nat_cmp places.now.entries) }
 {
     let mut made = BTreeMap::new(alloc);
     for (pid, path) in places {

@@ -10,7 +10,7 @@ use crate::plain::PlainTree;
 use cg_name::path::Path;
 use cg_name::refusal::Refusal;
 use cg_text::settings::Settings;
-use std::alloc::Global;
+use std::alloc::{AllocError, Global};
 
 impl PlainTree {
     /// Refuses with `Syntax` a tree that isn't sound. `Memory` comes where there is none for a parent's path.
@@ -48,9 +48,8 @@ fn may_be_root(tree: &PlainTree, settings: &Settings) -> bool
 }
 
 // Whether each group may be where it is.
-fn has_sound_groups(tree: &PlainTree, alloc: Global) -> Result<bool, Refusal>
-    ensures value { IfOk result (λ sound. IsTrue sound ↔ HasSoundGroups tree.now) }
-    ensures refusals { IfErr result (λ e. e ≡ Memory) }
+fn has_sound_groups(tree: &PlainTree, alloc: Global) -> Result<bool, AllocError>
+    ensures { IfOk result (λ sound. IsTrue sound ↔ HasSoundGroups tree.now) }
 {
     for (path, settings) in tree.groups() {
         if !is_sound_group(tree, alloc, path, settings)? {
@@ -66,9 +65,8 @@ fn is_sound_group(
     alloc: Global,
     path: &Path,
     settings: &Settings,
-) -> Result<bool, Refusal>
-    ensures value { IfOk result (λ sound. IsTrue sound ↔ IsSoundGroup tree.now path.now settings.now) }
-    ensures refusals { IfErr result (λ e. e ≡ Memory) }
+) -> Result<bool, AllocError>
+    ensures { IfOk result (λ sound. IsTrue sound ↔ IsSoundGroup tree.now path.now settings.now) }
 {
     let Some(parent) = path.parent(alloc)? else {
         return Ok(true);

@@ -2,7 +2,6 @@
 ghost use Rattle.std.specs.Prelude.{◌≡◌, IfOk, IfErr, slice_get};
 ghost use Rattle.std.specs.Option.{option_copied, option_map};
 ghost use Rattle.cg_maps.specs.FiniteMap.{entries};
-ghost use Rattle.cg_name.specs.declared.refusal.Refusal.TheVariants.{Memory};
 ghost use Rattle.cg_model.specs.Sound.{Sound};
 ghost use Rattle.cg_model.specs.Tree.{group, place_of};
 ghost use Rattle.cg_world.specs.World.{IsRepresentable};
@@ -10,10 +9,9 @@ ghost use Rattle.cg_world.specs.World.{IsRepresentable};
 use crate::plain::PlainTree;
 use cg_cpus::cpu_set::CpuSet;
 use cg_name::path::Path;
-use cg_name::refusal::Refusal;
 use cg_text::controllers::Controllers;
 use cg_text::settings::Settings;
-use std::alloc::Global;
+use std::alloc::{AllocError, Global};
 use std::marker::Model;
 
 /// A sound tree.
@@ -67,10 +65,9 @@ impl World {
         self.tree
     }
 
-    /// An equal world; `Memory` where there is none for it.
-    pub fn copy(&self, alloc: Global) -> Result<World, Refusal>
-        ensures value { IfOk result (λ w. w ≡ self.now) }
-        ensures refusals { IfErr result (λ e. e ≡ Memory) }
+    /// An equal world; an error where there is no memory for it.
+    pub fn copy(&self, alloc: Global) -> Result<World, AllocError>
+        ensures { IfOk result (λ w. w ≡ self.now) }
     {
         Ok(World {
             tree: self.tree.copy(alloc)?,

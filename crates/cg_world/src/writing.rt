@@ -5,7 +5,6 @@ ghost use Rattle.std.specs.Ordering.{nat_cmp};
 ghost use Rattle.cg_maps.specs.FiniteMap.{entries, from_entries};
 ghost use Rattle.cg_name.specs.Controller.{controller_word};
 ghost use Rattle.cg_name.specs.Path.{path_cmp};
-ghost use Rattle.cg_name.specs.declared.refusal.Refusal.TheVariants.{Memory};
 ghost use Rattle.cg_text.specs.Controllers.{members};
 ghost use Rattle.cg_text.specs.FileText.{flag_word, limit_word};
 ghost use Rattle.cg_world.specs.Version.{version_word};
@@ -18,20 +17,19 @@ use crate::world::World;
 use cg_cpus::cpu_set::CpuSet;
 use cg_name::controller::Controller;
 use cg_name::path::Path;
-use cg_name::refusal::Refusal;
 use cg_text::controllers::Controllers;
 use cg_text::limit::Limit;
 use cg_text::settings::Settings;
 use itoa::Buffer;
+use std::alloc::AllocError;
 use std::collections::BTreeMap;
 
 impl World {
     /// Appends the world's text, in version 1 where it can be: its groups in the order of their paths, its
-    /// processes by ascending PID. `Memory` leaves `out` as it was.
-    pub fn write(&self, out: &mut Vec<u8>) -> Result<(), Refusal>
+    /// processes by ascending PID. An error, where there is no memory, leaves `out` as it was.
+    pub fn write(&self, out: &mut Vec<u8>) -> Result<(), AllocError>
         ensures ok { OnOk result (out.new.items ≡ out.old.items ++ world_text self.now) }
         ensures err { OnErr result (out.new.items ≡ out.old.items) }
-        ensures refusals { IfErr result (λ e. e ≡ Memory) }
     {
         self.tree().write(out)
     }
@@ -39,11 +37,10 @@ impl World {
 
 impl PlainTree {
     /// Appends the tree's text as a world's, in version 1 where it can be: its groups in the order of their paths,
-    /// its processes by ascending PID. `Memory` leaves `out` as it was.
-    pub fn write(&self, out: &mut Vec<u8>) -> Result<(), Refusal>
+    /// its processes by ascending PID. An error, where there is no memory, leaves `out` as it was.
+    pub fn write(&self, out: &mut Vec<u8>) -> Result<(), AllocError>
         ensures ok { OnOk result (out.new.items ≡ out.old.items ++ world_text self.now) }
         ensures err { OnErr result (out.new.items ≡ out.old.items) }
-        ensures refusals { IfErr result (λ e. e ≡ Memory) }
     {
         let start = out.len();
         let written = append_world(self.version(), self, out);
@@ -57,10 +54,9 @@ impl PlainTree {
 // What follows appends to `out`, and a refusal leaves what stood there at the front.
 
 // All lines of the tree's text in one version.
-fn append_world(version: Version, tree: &PlainTree, out: &mut Vec<u8>) -> Result<(), Refusal>
+fn append_world(version: Version, tree: &PlainTree, out: &mut Vec<u8>) -> Result<(), AllocError>
     ensures ok { OnOk result (out.new.items ≡ out.old.items ++ text_of_version version tree.now) }
     ensures kept { OnErr result (take (length out.old.items) out.new.items ≡ out.old.items) }
-    ensures refusals { IfErr result (λ e. e ≡ Memory) }
 {
     append_machine(version, &tree.controllers(), &tree.online(), out)?;
     append_groups(version, tree.groups(), out)?;
@@ -75,10 +71,9 @@ fn append_machine(
     controllers: &Controllers,
     online: &CpuSet,
     out: &mut Vec<u8>,
-) -> Result<(), Refusal>
+) -> Result<(), AllocError>
     ensures ok { OnOk result (out.new.items ≡ out.old.items ++ machine_lines version controllers.now online.now) }
     ensures kept { OnErr result (take (length out.old.items) out.new.items ≡ out.old.items) }
-    ensures refusals { IfErr result (λ e. e ≡ Memory) }
 {
     append_version(version, out)?;
     out.extend_from_slice(b"controllers")?;
@@ -90,10 +85,9 @@ fn append_machine(
 }
 
 // The line of the version.
-fn append_version(version: Version, out: &mut Vec<u8>) -> Result<(), Refusal>
+fn append_version(version: Version, out: &mut Vec<u8>) -> Result<(), AllocError>
     ensures ok { OnOk result (out.new.items ≡ out.old.items ++ (codes "world " ++ version_word version ++ newline)) }
     ensures kept { OnErr result (take (length out.old.items) out.new.items ≡ out.old.items) }
-    ensures refusals { IfErr result (λ e. e ≡ Memory) }
 {
     out.extend_from_slice(b"world ")?;
     out.extend_from_slice(version.word().as_bytes())?;
@@ -102,10 +96,9 @@ fn append_version(version: Version, out: &mut Vec<u8>) -> Result<(), Refusal>
 }
 
 // The names of the controllers, each with a space before it.
-fn append_names(controllers: &Controllers, out: &mut Vec<u8>) -> Result<(), Refusal>
+fn append_names(controllers: &Controllers, out: &mut Vec<u8>) -> Result<(), AllocError>
     ensures ok { OnOk result (out.new.items ≡ out.old.items ++ flat_map (λ c. 32 ∷ controller_word c) (members controllers.now)) }
     ensures kept { OnErr result (take (length out.old.items) out.new.items ≡ out.old.items) }
-    ensures refusals { IfErr result (λ e. e ≡ Memory) }
 {
     for controller in &Controller::ALL {
         if controllers.contains(*controller) {
@@ -121,10 +114,9 @@ fn append_groups(
     version: Version,
     groups: &BTreeMap<Path, Settings>,
     out: &mut Vec<u8>,
-) -> Result<(), Refusal>
+) -> Result<(), AllocError>
     ensures ok { OnOk result (out.new.items ≡ out.old.items ++ flat_map (group_line version) (entries (from_entries path_cmp groups.now.entries))) }
     ensures kept { OnErr result (take (length out.old.items) out.new.items ≡ out.old.items) }
-    ensures refusals { IfErr result (λ e. e ≡ Memory) }
 {
     for (path, settings) in groups {
         append_group(version, path, settings, out)?;
@@ -138,10 +130,9 @@ fn append_group(
     path: &Path,
     settings: &Settings,
     out: &mut Vec<u8>,
-) -> Result<(), Refusal>
+) -> Result<(), AllocError>
     ensures ok { OnOk result (out.new.items ≡ out.old.items ++ group_line version (path.now, settings.now)) }
     ensures kept { OnErr result (take (length out.old.items) out.new.items ≡ out.old.items) }
-    ensures refusals { IfErr result (λ e. e ≡ Memory) }
 {
     out.extend_from_slice(b"group ")?;
     path.write(out)?;
@@ -157,10 +148,9 @@ fn append_group(
 }
 
 // The limits on descendants and on depth, each with a space before it, which version 1 has not.
-fn append_limits(version: Version, settings: &Settings, out: &mut Vec<u8>) -> Result<(), Refusal>
+fn append_limits(version: Version, settings: &Settings, out: &mut Vec<u8>) -> Result<(), AllocError>
     ensures ok { OnOk result (out.new.items ≡ out.old.items ++ limits_text version settings.now) }
     ensures kept { OnErr result (take (length out.old.items) out.new.items ≡ out.old.items) }
-    ensures refusals { IfErr result (λ e. e ≡ Memory) }
 {
     match version {
         Version::One => Ok(()),
@@ -172,10 +162,9 @@ fn append_limits(version: Version, settings: &Settings, out: &mut Vec<u8>) -> Re
 }
 
 // A limit, with a space before it.
-fn append_limit(limit: Limit, out: &mut Vec<u8>) -> Result<(), Refusal>
+fn append_limit(limit: Limit, out: &mut Vec<u8>) -> Result<(), AllocError>
     ensures ok { OnOk result (out.new.items ≡ out.old.items ++ (space ++ limit_word limit)) }
     ensures kept { OnErr result (take (length out.old.items) out.new.items ≡ out.old.items) }
-    ensures refusals { IfErr result (λ e. e ≡ Memory) }
 {
     out.push(b' ')?;
     match limit {
@@ -189,10 +178,9 @@ fn append_limit(limit: Limit, out: &mut Vec<u8>) -> Result<(), Refusal>
 }
 
 // The names of the controllers with commas between them, or a minus for none.
-fn append_control(control: &Controllers, out: &mut Vec<u8>) -> Result<(), Refusal>
+fn append_control(control: &Controllers, out: &mut Vec<u8>) -> Result<(), AllocError>
     ensures ok { OnOk result (out.new.items ≡ out.old.items ++ control_text control.now) }
     ensures kept { OnErr result (take (length out.old.items) out.new.items ≡ out.old.items) }
-    ensures refusals { IfErr result (λ e. e ≡ Memory) }
 {
     let mut behind = false;
     for controller in &Controller::ALL {
@@ -208,10 +196,9 @@ fn append_control(control: &Controllers, out: &mut Vec<u8>) -> Result<(), Refusa
 }
 
 // A controller's name, with a comma before it where it stands behind another.
-fn append_behind(behind: bool, controller: Controller, out: &mut Vec<u8>) -> Result<(), Refusal>
+fn append_behind(behind: bool, controller: Controller, out: &mut Vec<u8>) -> Result<(), AllocError>
     ensures ok { OnOk result (out.new.items ≡ out.old.items ++ separated behind (controller_word controller)) }
     ensures kept { OnErr result (take (length out.old.items) out.new.items ≡ out.old.items) }
-    ensures refusals { IfErr result (λ e. e ≡ Memory) }
 {
     if behind {
         out.push(b',')?;
@@ -228,10 +215,9 @@ fn flag(value: bool) -> u8
 }
 
 // The list of the CPUs, or a minus for none.
-fn append_asked_cpus(cpus: &CpuSet, out: &mut Vec<u8>) -> Result<(), Refusal>
+fn append_asked_cpus(cpus: &CpuSet, out: &mut Vec<u8>) -> Result<(), AllocError>
     ensures ok { OnOk result (out.new.items ≡ out.old.items ++ asked_cpus_text cpus.now) }
     ensures kept { OnErr result (take (length out.old.items) out.new.items ≡ out.old.items) }
-    ensures refusals { IfErr result (λ e. e ≡ Memory) }
 {
     if cpus.is_empty() {
         out.push(b'-')?;
@@ -241,10 +227,9 @@ fn append_asked_cpus(cpus: &CpuSet, out: &mut Vec<u8>) -> Result<(), Refusal>
 }
 
 // The line of each process.
-fn append_processes(places: &BTreeMap<u32, Path>, out: &mut Vec<u8>) -> Result<(), Refusal>
+fn append_processes(places: &BTreeMap<u32, Path>, out: &mut Vec<u8>) -> Result<(), AllocError>
     ensures ok { OnOk result (out.new.items ≡ out.old.items ++ flat_map process_line (entries (from_entries nat_cmp places.now.entries))) }
     ensures kept { OnErr result (take (length out.old.items) out.new.items ≡ out.old.items) }
-    ensures refusals { IfErr result (λ e. e ≡ Memory) }
 {
     for (pid, path) in places {
         append_process(*pid, path, out)?;
@@ -253,10 +238,9 @@ fn append_processes(places: &BTreeMap<u32, Path>, out: &mut Vec<u8>) -> Result<(
 }
 
 // The line of a process.
-fn append_process(pid: u32, path: &Path, out: &mut Vec<u8>) -> Result<(), Refusal>
+fn append_process(pid: u32, path: &Path, out: &mut Vec<u8>) -> Result<(), AllocError>
     ensures ok { OnOk result (out.new.items ≡ out.old.items ++ process_line (pid, path.now)) }
     ensures kept { OnErr result (take (length out.old.items) out.new.items ≡ out.old.items) }
-    ensures refusals { IfErr result (λ e. e ≡ Memory) }
 {
     let mut buffer = Buffer::new();
     out.extend_from_slice(b"proc ")?;

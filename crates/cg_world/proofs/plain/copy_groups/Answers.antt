@@ -14,8 +14,8 @@ loop-path-preserved c =
     ∙ ap (puts (from_entries path_cmp c.loop-path.made.entries)) (sym (rest_more deref_pair _ _ _ _ c.in-Some.is c.next.ensures.steps))
     ∙ c.loop-path.invariant
 
-pub returns-clause-value : goal.returns-clause-value
-returns-clause-value c =
+pub returns : goal.returns
+returns c =
     ap (puts (from_entries path_cmp c.loop-path.made.entries)) (sym (rest_all deref_pair _ _ _ c.in-None.is c.next.ensures.steps))
     ∙ c.loop-path.invariant
     ∙ puts-view path_cmp_total path_cmp_exact c.args.groups.now c.into_iter-path-iterator.ensures.into_iter_gives.5

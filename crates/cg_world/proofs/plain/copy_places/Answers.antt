@@ -37,8 +37,8 @@ loop-pid-preserved-in_ok-insert-2 c =
     ∙ ap (puts (from_entries nat_cmp c.loop-pid.made.entries)) (sym (rest_more deref_pair _ _ _ _ c.in-Some.is c.next.ensures.steps))
     ∙ c.loop-pid.invariant
 
-pub returns-clause-value : goal.returns-clause-value
-returns-clause-value c =
+pub returns : goal.returns
+returns c =
     ap (puts (from_entries nat_cmp c.loop-pid.made.entries)) (sym (rest_all deref_pair _ _ _ c.in-None.is c.next.ensures.steps))
     ∙ c.loop-pid.invariant
     ∙ puts-view nat_cmp_total nat_cmp-IsAntisymmetric c.args.places.now c.into_iter-pid-iterator.ensures.into_iter_gives.5

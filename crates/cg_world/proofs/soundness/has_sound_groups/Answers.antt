@@ -15,22 +15,22 @@ loop-path-init c = λ h.
     each_answer path_cmp_total path_cmp_exact (IsSoundGroup c.args.tree.now) c.groups-path-items.result.now.entries c.args.tree.now.groups c.groups-path-items.ensures
     (subst (AllByRecursion (λ e. IsSoundGroup c.args.tree.now e.0 e.1)) c.into_iter-path-iterator.ensures.into_iter_gives.0 h)
 
-pub returns-then-not-branch-clause-value : goal.returns-then-not-branch-clause-value
-returns-then-not-branch-clause-value c =
+pub returns-then-not-branch : goal.returns-then-not-branch
+returns-then-not-branch c =
     let m = c.groups-path-items.result.now in
     let turn = btree_map_turn deref_pair _ _ _ _ _ _ c.loop-path.yielded_by c.in-Some.is c.next.ensures.steps path_cmp_total m c.into_iter-path-iterator.ensures.into_iter_gives.0 c.into_iter-path-iterator.ensures.into_iter_gives.5 in
     let here : group c.args.tree.now c.in-Some.path.now ≡ Some c.in-Some.settings.now =
     ap (λ g. get g c.in-Some.path.now) (sym c.groups-path-items.ensures) ∙ get-view path_cmp_total path_cmp_exact m c.in-Some.path.now ∙ turn.1 in
     let f = c.if-not-branch.true in
-    (λ t. absurd (true≢false (sym t)), λ all. absurd (true≢false (sym (c.in_ok-is_sound_group.ensures.value.1 (all _ _ here)) ∙ c.if-not-branch.true)))
+    (λ t. absurd (true≢false (sym t)), λ all. absurd (true≢false (sym (c.in_ok-is_sound_group.ensures.1 (all _ _ here)) ∙ c.if-not-branch.true)))
 
 pub loop-path-preserved : goal.loop-path-preserved
 loop-path-preserved c = λ h.
     c.loop-path.invariant
-    (subst (AllByRecursion (λ e. IsSoundGroup c.args.tree.now e.0 e.1)) (sym (rest_more deref_pair _ _ _ _ c.in-Some.is c.next.ensures.steps)) (c.in_ok-is_sound_group.ensures.value.0 c.if-not-branch.false, h))
+    (subst (AllByRecursion (λ e. IsSoundGroup c.args.tree.now e.0 e.1)) (sym (rest_more deref_pair _ _ _ _ c.in-Some.is c.next.ensures.steps)) (c.in_ok-is_sound_group.ensures.0 c.if-not-branch.false, h))
 
-pub returns-clause-value : goal.returns-clause-value
-returns-clause-value c = (
+pub returns : goal.returns
+returns c = (
   λ _. c.loop-path.invariant (subst (AllByRecursion (λ e. IsSoundGroup c.args.tree.now e.0 e.1)) (sym (rest_all deref_pair _ _ _ c.in-None.is c.next.ensures.steps)) tt),
   λ _. refl,
 )

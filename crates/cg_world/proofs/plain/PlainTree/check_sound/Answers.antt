@@ -14,7 +14,7 @@ returns-then-is_empty-clause-syntax c = λ _ s. elim c.then-is_empty.branch [
 pub returns-then-branch-clause-sound : goal.returns-then-branch-clause-sound
 returns-then-branch-clause-sound c =
     sound_of c.args.self.now (sym (ap is_empty_set c.online.ensures) ∙ sym c.is_empty.ensures ∙ c.if-is_empty.false)
-    (c.has_sound_root.ensures.0 c.if-not-has_sound_root.false) (c.has_sound_places.ensures.0 c.if-not-has_sound_places.false) (c.in_ok-has_sound_groups.ensures.value.0 c.if-branch.true)
+    (c.has_sound_root.ensures.0 c.if-not-has_sound_root.false) (c.has_sound_places.ensures.0 c.if-not-has_sound_places.false) (c.in_ok-has_sound_groups.ensures.0 c.if-branch.true)
 
 pub returns-else-branch-clause-syntax : goal.returns-else-branch-clause-syntax
-returns-else-branch-clause-syntax c = λ _ s. true≢false (sym (c.in_ok-has_sound_groups.ensures.value.1 (sound_groups c.args.self.now s)) ∙ c.if-branch.false)
+returns-else-branch-clause-syntax c = λ _ s. true≢false (sym (c.in_ok-has_sound_groups.ensures.1 (sound_groups c.args.self.now s)) ∙ c.if-branch.false)
