@@ -12,7 +12,7 @@ use crate::tree::Tree;
 use cg_name::path::Path;
 use cg_name::refusal::Refusal;
 use cg_text::settings::Settings;
-use std::alloc::Global;
+use std::alloc::{AllocError, Global};
 
 /// A change of a tree.
 #[derive(Drop)]
@@ -27,10 +27,9 @@ pub enum Command {
 impl Command {
     ghost use Rattle.cg_core.specs.Meaning.{command_of};
 
-    /// An equal command; `Memory` where there is none for it.
-    pub fn copy(&self, alloc: Global) -> Result<Command, Refusal>
-        ensures value { IfOk result (λ c. c ≡ self.now) }
-        ensures refusals { IfErr result (λ e. e ≡ Memory) }
+    /// An equal command; an error where there is no memory for it.
+    pub fn copy(&self, alloc: Global) -> Result<Command, AllocError>
+        ensures { IfOk result (λ c. c ≡ self.now) }
     {
         match self {
             Command::Create { path } => Ok(Command::Create {
@@ -50,12 +49,11 @@ impl Command {
     }
 
     /// Changes the tree as an accepted command does. `Memory`, the only refusal, leaves it as it was.
-    pub fn apply(&self, alloc: Global, tree: &mut Tree) -> Result<(), Refusal>
+    pub fn apply(&self, alloc: Global, tree: &mut Tree) -> Result<(), AllocError>
         requires { IsAccepted (effect (command_of self.now) tree.old) }
         ensures ok { OnOk result (ChangesTo (effect (command_of self.now) tree.old) tree.old tree.new) }
         ensures sound { Sound tree.old → Sound tree.new }
         ensures err { OnErr result (tree.new ≡ tree.old) }
-        ensures refusals { IfErr result (λ e. e ≡ Memory) }
     {
         match self {
             Command::Create { path } => create(alloc, path, tree),
@@ -88,12 +86,11 @@ fn check_create(alloc: Global, path: &Path, tree: &Tree) -> Result<(), Refusal>
 }
 
 /// Makes the group at this path, with the settings of a new one.
-fn create(alloc: Global, path: &Path, tree: &mut Tree) -> Result<(), Refusal>
+fn create(alloc: Global, path: &Path, tree: &mut Tree) -> Result<(), AllocError>
     requires { IsAccepted (effect (model.Create path.now) tree.old) }
     ensures ok { OnOk result (ChangesTo (effect (model.Create path.now) tree.old) tree.old tree.new) }
     ensures sound { Sound tree.old → Sound tree.new }
     ensures err { OnErr result (tree.new ≡ tree.old) }
-    ensures refusals { IfErr result (λ e. e ≡ Memory) }
 {
     tree.set_group(path.copy(alloc)?, Settings::fresh())?;
     Ok(())

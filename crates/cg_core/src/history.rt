@@ -1,11 +1,9 @@
 //! The history of a machine, with places kept for records to come.
 ghost use Rattle.std.specs.Prelude.{◌≡◌, ◌+◌, ◌-◌, ◌<◌, ◌≤◌, ◌^◌, ◌++◌, ◌∷◌, [], length, IfErr, OnOk, OnErr};
-ghost use Rattle.cg_name.specs.declared.refusal.Refusal.TheVariants.{Memory};
 ghost use Rattle.cg_core.specs.Record.{begins, commits};
 
 use crate::record::{Answer, Record};
-use cg_name::refusal::Refusal;
-use std::alloc::Global;
+use std::alloc::{AllocError, Global};
 use std::marker::Model;
 
 /// The records so far, oldest first, and how many more there is memory for.
@@ -80,11 +78,10 @@ impl History {
         self.committed
     }
 
-    /// Keeps places for so many records from now on. `Memory` leaves the history as it was.
-    pub fn keep(&mut self, count: usize) -> Result<(), Refusal>
+    /// Keeps places for so many records from now on. An error, where there is no memory, leaves the history as it was.
+    pub fn keep(&mut self, count: usize) -> Result<(), AllocError>
         ensures ok { OnOk result (self.new ≡ (self.old.0, count)) }
         ensures err { OnErr result (self.new ≡ self.old) }
-        ensures refusals { IfErr result (λ e. e ≡ Memory) }
     {
         self.records.reserve(count)?;
         self.kept = count;

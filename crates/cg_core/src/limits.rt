@@ -1,20 +1,17 @@
 //! The limits of the groups above a new one.
 ghost use Rattle.std.specs.Prelude.{◌≡◌, ◌≤◌, ◌-◌, length, IfOk, IfErr};
-ghost use Rattle.cg_name.specs.declared.refusal.Refusal.TheVariants.{Memory};
 ghost use Rattle.cg_model.specs.Tree.{group};
 ghost use Rattle.cg_model.specs.Derived.{descendants};
 ghost use Rattle.cg_model.specs.Groups.{is_full, is_too_deep, too_many, too_deep};
 
 use crate::tree::Tree;
 use cg_name::path::Path;
-use cg_name::refusal::Refusal;
 use cg_text::limit::Limit;
-use std::alloc::Global;
+use std::alloc::{AllocError, Global};
 
 /// Whether some group above the path has as many descendants as it may have.
-pub(crate) fn too_many(alloc: Global, path: &Path, tree: &Tree) -> Result<bool, Refusal>
-    ensures value { IfOk result (λ many. many ≡ too_many tree.now path.now) }
-    ensures refusals { IfErr result (λ e. e ≡ Memory) }
+pub(crate) fn too_many(alloc: Global, path: &Path, tree: &Tree) -> Result<bool, AllocError>
+    ensures { IfOk result (λ many. many ≡ too_many tree.now path.now) }
 {
     let mut at = path.copy(alloc)?;
     while let Some(above) = at.parent(alloc)? {
@@ -27,9 +24,8 @@ pub(crate) fn too_many(alloc: Global, path: &Path, tree: &Tree) -> Result<bool, 
 }
 
 /// Whether the path is deeper below some group than that group allows.
-pub(crate) fn too_deep(alloc: Global, path: &Path, tree: &Tree) -> Result<bool, Refusal>
-    ensures value { IfOk result (λ deep. deep ≡ too_deep tree.now path.now) }
-    ensures refusals { IfErr result (λ e. e ≡ Memory) }
+pub(crate) fn too_deep(alloc: Global, path: &Path, tree: &Tree) -> Result<bool, AllocError>
+    ensures { IfOk result (λ deep. deep ≡ too_deep tree.now path.now) }
 {
     let mut at = path.copy(alloc)?;
     while let Some(above) = at.parent(alloc)? {

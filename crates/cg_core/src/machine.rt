@@ -1,7 +1,6 @@
 //! The machine: its steps, one transaction at a time.
 ghost use Rattle.std.specs.Prelude.{◌≡◌, ◌+◌, ◌≤◌, ◌^◌, Bool, true, false, is_some, not, map, OnOk, IfOk, IfErr, IfSome, [], None, Some};
 ghost use Rattle.std.specs.Bool.{OnTrue, OnFalse};
-ghost use Rattle.cg_name.specs.declared.refusal.Refusal.TheVariants.{Memory};
 ghost use Rattle.cg_world.specs.World.{IsRepresentable};
 ghost use Rattle.std.specs.Option.{option_map};
 ghost use Rattle.cg_model.specs.Effect.{effect};
@@ -17,7 +16,7 @@ use crate::record::{Answer, Record, Request, SessionId};
 use crate::tree::Tree;
 use cg_name::refusal::{Refusal, TxnNumber};
 use cg_world::world::World;
-use std::alloc::Global;
+use std::alloc::{AllocError, Global};
 use std::marker::Model;
 
 /// The open transaction.
@@ -60,11 +59,10 @@ impl Core {
     ghost use Rattle.cg_core.specs.Meaning.{command_of, request_of, answer_of, record_of, is_memory, takes_memory};
 
     /// A machine on this world's tree, whose history holds at most `limit` records, kept places included.
-    pub fn open(alloc: Global, world: World, limit: u32) -> Result<Core, Refusal>
+    pub fn open(alloc: Global, world: World, limit: u32) -> Result<Core, AllocError>
         requires low { 2 ≤ limit }
         requires high { limit ≤ 1048576 }
-        ensures value { IfOk result (λ core. core ≡ record { opening = world; limit = limit; tree = world; open_one = None; history = [] }) }
-        ensures refusals { IfErr result (λ e. e ≡ Memory) }
+        ensures { IfOk result (λ core. core ≡ record { opening = world; limit = limit; tree = world; open_one = None; history = [] }) }
     {
         let opening = world.copy(alloc)?;
         Ok(Core {

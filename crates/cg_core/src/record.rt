@@ -1,10 +1,9 @@
 //! Requests, answers and records.
 ghost use Rattle.std.specs.Prelude.{◌≡◌, IfOk, IfErr};
-ghost use Rattle.cg_name.specs.declared.refusal.Refusal.TheVariants.{Memory};
 
 use crate::command::Command;
 use cg_name::refusal::{Refusal, TxnNumber};
-use std::alloc::Global;
+use std::alloc::{AllocError, Global};
 
 /// A session of the machine.
 #[derive(Clone, Copy, Debug, PartialEq, Eq)]
@@ -26,10 +25,9 @@ pub enum Request {
 impl Request {
     ghost use Rattle.cg_core.specs.Meaning.{request_of};
 
-    /// An equal request; `Memory` where there is none for it.
-    pub fn copy(&self, alloc: Global) -> Result<Request, Refusal>
-        ensures value { IfOk result (λ r. r ≡ self.now) }
-        ensures refusals { IfErr result (λ e. e ≡ Memory) }
+    /// An equal request; an error where there is no memory for it.
+    pub fn copy(&self, alloc: Global) -> Result<Request, AllocError>
+        ensures { IfOk result (λ r. r ≡ self.now) }
     {
         Ok(match self {
             Request::Begin => Request::Begin,
@@ -64,10 +62,9 @@ pub enum Answer {
 impl Answer {
     ghost use Rattle.cg_core.specs.Meaning.{answer_of};
 
-    /// An equal answer; `Memory` where there is none for it.
-    pub fn copy(&self, alloc: Global) -> Result<Answer, Refusal>
-        ensures value { IfOk result (λ a. answer_of a ≡ answer_of self.now) }
-        ensures refusals { IfErr result (λ e. e ≡ Memory) }
+    /// An equal answer; an error where there is no memory for it.
+    pub fn copy(&self, alloc: Global) -> Result<Answer, AllocError>
+        ensures { IfOk result (λ a. answer_of a ≡ answer_of self.now) }
     {
         Ok(match self {
             Answer::Begun(number) => Answer::Begun(*number),

@@ -1,18 +1,16 @@
 //! The tree that the machine changes.
 ghost use Rattle.std.specs.Prelude.{◌≡◌, ◌++◌, nat_le, is_some, Some, IfOk, IfErr, OnOk, OnErr};
 ghost use Rattle.cg_maps.specs.FiniteMap.{set_at};
-ghost use Rattle.cg_name.specs.declared.refusal.Refusal.TheVariants.{Memory};
 ghost use Rattle.cg_model.specs.Sound.{Sound};
 ghost use Rattle.cg_model.specs.Tree.{group};
 ghost use Rattle.cg_model.specs.Derived.{descendants};
 ghost use Rattle.cg_world.specs.World.{IsRepresentable, world_text};
 
 use cg_name::path::Path;
-use cg_name::refusal::Refusal;
 use cg_text::settings::Settings;
 use cg_world::plain::PlainTree;
 use cg_world::world::World;
-use std::alloc::Global;
+use std::alloc::{AllocError, Global};
 use std::marker::Model;
 
 /// Groups and processes.
@@ -54,19 +52,17 @@ impl Tree {
         &self.plain
     }
 
-    /// A world that equals the tree, which has to be sound; `Memory` where there is none for it.
-    pub fn to_world(&self, alloc: Global) -> Result<World, Refusal>
+    /// A world that equals the tree, which has to be sound; an error where there is no memory for it.
+    pub fn to_world(&self, alloc: Global) -> Result<World, AllocError>
         requires { Sound self.now }
-        ensures value { IfOk result (λ w. w ≡ self.now) }
-        ensures refusals { IfErr result (λ e. e ≡ Memory) }
+        ensures { IfOk result (λ w. w ≡ self.now) }
     {
         Ok(World::from_tree(self.plain.copy(alloc)?))
     }
 
-    /// An equal tree; `Memory` where there is none for it.
-    pub fn copy(&self, alloc: Global) -> Result<Tree, Refusal>
-        ensures value { IfOk result (λ t. t ≡ self.now) }
-        ensures refusals { IfErr result (λ e. e ≡ Memory) }
+    /// An equal tree; an error where there is no memory for it.
+    pub fn copy(&self, alloc: Global) -> Result<Tree, AllocError>
+        ensures { IfOk result (λ t. t ≡ self.now) }
     {
         Ok(Tree {
             plain: self.plain.copy(alloc)?,
@@ -94,20 +90,18 @@ impl Tree {
         self.plain.has_descendants(path, count)
     }
 
-    /// Makes the group at this path, or gives it these settings. `Memory` leaves the tree as it was.
-    pub fn set_group(&mut self, path: Path, settings: Settings) -> Result<(), Refusal>
+    /// Makes the group at this path, or gives it these settings. An error, where there is no memory, leaves the tree as it was.
+    pub fn set_group(&mut self, path: Path, settings: Settings) -> Result<(), AllocError>
         ensures ok { OnOk result (self.new ≡ record self.old { groups = set_at self.old.groups path (Some settings) }) }
         ensures err { OnErr result (self.new ≡ self.old) }
-        ensures refusals { IfErr result (λ e. e ≡ Memory) }
     {
         self.plain.set_group(path, settings)
     }
 
-    /// Appends the world text of the tree. `Memory` leaves the bytes as they were.
-    pub fn write(&self, out: &mut Vec<u8>) -> Result<(), Refusal>
+    /// Appends the world text of the tree. An error, where there is no memory, leaves the bytes as they were.
+    pub fn write(&self, out: &mut Vec<u8>) -> Result<(), AllocError>
         ensures ok { OnOk result (out.new.items ≡ out.old.items ++ world_text self.now) }
         ensures err { OnErr result (out.new.items ≡ out.old.items) }
-        ensures refusals { IfErr result (λ e. e ≡ Memory) }
     {
         self.plain.write(out)
     }

@@ -2,7 +2,6 @@
 ghost use Rattle.std.specs.Prelude.{◌≡◌, ◌++◌, ◌∷◌, IfErr, OnOk, OnErr, length, take};
 ghost use Rattle.std.specs.Fmt.{decimal};
 ghost use Rattle.cg_name.specs.Refusal.{argument_of, refusal_text};
-ghost use Rattle.cg_name.specs.declared.refusal.Refusal.TheVariants.{Memory};
 ghost use Rattle.cg_core.specs.Meaning.{answer_of};
 ghost use Rattle.cg_script.specs.Answer.{answer_text};
 
@@ -10,12 +9,12 @@ use cg_core::record::Answer;
 use cg_name::refusal::{Refusal, TxnNumber};
 use cg_text::writing::write_quoted;
 use itoa::Buffer;
+use std::alloc::AllocError;
 
-/// Appends the answer's line, without a newline. `Memory` leaves the bytes as they were.
-pub fn write_answer(answer: &Answer, out: &mut Vec<u8>) -> Result<(), Refusal>
+/// Appends the answer's line, without a newline. An error, where there is no memory, leaves the bytes as they were.
+pub fn write_answer(answer: &Answer, out: &mut Vec<u8>) -> Result<(), AllocError>
     ensures ok { OnOk result (out.new.items ≡ out.old.items ++ answer_text (answer_of answer.now)) }
     ensures err { OnErr result (out.new.items ≡ out.old.items) }
-    ensures refusals { IfErr result (λ e. e ≡ Memory) }
 {
     let start = out.len();
     let written = append_answer(answer, out);
@@ -28,10 +27,9 @@ pub fn write_answer(answer: &Answer, out: &mut Vec<u8>) -> Result<(), Refusal>
 // What follows appends to `out`, and a refusal leaves what stood there at the front.
 
 // The line of an answer.
-fn append_answer(answer: &Answer, out: &mut Vec<u8>) -> Result<(), Refusal>
+fn append_answer(answer: &Answer, out: &mut Vec<u8>) -> Result<(), AllocError>
     ensures ok { OnOk result (out.new.items ≡ out.old.items ++ answer_text (answer_of answer.now)) }
     ensures kept { OnErr result (take (length out.old.items) out.new.items ≡ out.old.items) }
-    ensures refusals { IfErr result (λ e. e ≡ Memory) }
 {
     match answer {
         Answer::Begun(TxnNumber(number)) => append_numbered("begun ", *number, out),
@@ -49,30 +47,27 @@ fn append_answer(answer: &Answer, out: &mut Vec<u8>) -> Result<(), Refusal>
 }
 
 // A word.
-fn append_word(word: &str, out: &mut Vec<u8>) -> Result<(), Refusal>
+fn append_word(word: &str, out: &mut Vec<u8>) -> Result<(), AllocError>
     ensures ok { OnOk result (out.new.items ≡ out.old.items ++ word.now) }
     ensures err { OnErr result (out.new.items ≡ out.old.items) }
-    ensures refusals { IfErr result (λ e. e ≡ Memory) }
 {
     out.extend_from_slice(word.as_bytes())?;
     Ok(())
 }
 
 // A word with a space before it.
-fn append_behind(word: &str, out: &mut Vec<u8>) -> Result<(), Refusal>
+fn append_behind(word: &str, out: &mut Vec<u8>) -> Result<(), AllocError>
     ensures ok { OnOk result (out.new.items ≡ out.old.items ++ 32 ∷ word.now) }
     ensures kept { OnErr result (take (length out.old.items) out.new.items ≡ out.old.items) }
-    ensures refusals { IfErr result (λ e. e ≡ Memory) }
 {
     out.push(b' ')?;
     append_word(word, out)
 }
 
 // A word and a number.
-fn append_numbered(word: &str, number: u32, out: &mut Vec<u8>) -> Result<(), Refusal>
+fn append_numbered(word: &str, number: u32, out: &mut Vec<u8>) -> Result<(), AllocError>
     ensures ok { OnOk result (out.new.items ≡ out.old.items ++ (word.now ++ decimal number)) }
     ensures kept { OnErr result (take (length out.old.items) out.new.items ≡ out.old.items) }
-    ensures refusals { IfErr result (λ e. e ≡ Memory) }
 {
     append_word(word, out)?;
     out.extend_from_slice(Buffer::new().format(number).as_bytes())?;
@@ -80,10 +75,9 @@ fn append_numbered(word: &str, number: u32, out: &mut Vec<u8>) -> Result<(), Ref
 }
 
 // The printed form of a refusal.
-fn append_refusal(refusal: Refusal, out: &mut Vec<u8>) -> Result<(), Refusal>
+fn append_refusal(refusal: Refusal, out: &mut Vec<u8>) -> Result<(), AllocError>
     ensures ok { OnOk result (out.new.items ≡ out.old.items ++ refusal_text refusal) }
     ensures kept { OnErr result (take (length out.old.items) out.new.items ≡ out.old.items) }
-    ensures refusals { IfErr result (λ e. e ≡ Memory) }
 {
     append_numbered("refused ", u32::from(refusal.number()), out)?;
     append_behind(refusal.word(), out)?;
@@ -91,10 +85,9 @@ fn append_refusal(refusal: Refusal, out: &mut Vec<u8>) -> Result<(), Refusal>
 }
 
 // The argument of a refusal, with the space before it; most have none.
-fn append_argument(refusal: Refusal, out: &mut Vec<u8>) -> Result<(), Refusal>
+fn append_argument(refusal: Refusal, out: &mut Vec<u8>) -> Result<(), AllocError>
     ensures ok { OnOk result (out.new.items ≡ out.old.items ++ argument_of refusal) }
     ensures kept { OnErr result (take (length out.old.items) out.new.items ≡ out.old.items) }
-    ensures refusals { IfErr result (λ e. e ≡ Memory) }
 {
     match refusal {
         Refusal::Busy(TxnNumber(txn)) => append_numbered(" ", txn, out),

@@ -1,6 +1,6 @@
 //! A schedule being played: its sessions' names and the machine.
 ghost use Rattle.std.specs.Prelude.{◌≡◌, ◌≤◌, ◌++◌, List, ℕ, MatchOption, IfOk, IfErr, OnOk, OnErr, length, take};
-ghost use Rattle.cg_name.specs.declared.refusal.Refusal.TheVariants.{Memory, Syntax};
+ghost use Rattle.cg_name.specs.declared.refusal.Refusal.TheVariants.{Syntax};
 ghost use Rattle.std.specs.Option.{option_map};
 ghost use Rattle.cg_name.specs.Refusal.{refusal_text};
 ghost use Rattle.cg_core.specs.Meaning.{answer_of, request_of};
@@ -15,7 +15,7 @@ use cg_core::record::{Answer, Request, SessionId};
 use cg_name::refusal::Refusal;
 use cg_world::world::World;
 use indexmap::IndexSet;
-use std::alloc::Global;
+use std::alloc::{AllocError, Global};
 use std::marker::Model;
 
 /// The most session names of a schedule.
@@ -45,11 +45,10 @@ impl Model for Player {
 
 impl Player {
     /// A player before the first line.
-    pub fn open(alloc: Global, world: World, limit: u32) -> Result<Player, Refusal>
+    pub fn open(alloc: Global, world: World, limit: u32) -> Result<Player, AllocError>
         requires low { 2 ≤ limit }
         requires high { limit ≤ 1048576 }
-        ensures value { IfOk result (λ p. p ≡ opened world limit) }
-        ensures refusals { IfErr result (λ e. e ≡ Memory) }
+        ensures { IfOk result (λ p. p ≡ opened world limit) }
     {
         Ok(Player {
             names: IndexSet::new(alloc),
@@ -59,25 +58,28 @@ impl Player {
 
     /// Answers a line, at the end of `out`: nothing for a line that says nothing. `Memory` is the only refusal, and
     /// leaves `out` as it was.
-    pub fn answer(&mut self, alloc: Global, line: &[u8], out: &mut Vec<u8>) -> Result<(), Refusal>
+    pub fn answer(
+        &mut self,
+        alloc: Global,
+        line: &[u8],
+        out: &mut Vec<u8>,
+    ) -> Result<(), AllocError>
         ensures ok { OnOk result ((written : List ℕ) × (out.new.items ≡ out.old.items ++ written) × Answers self.old line.now written self.new) }
         ensures err { OnErr result (out.new.items ≡ out.old.items) }
-        ensures refusals { IfErr result (λ e. e ≡ Memory) }
     {
         match read_line(alloc, line) {
             Ok(None) => Ok(()),
             Ok(Some((name, request))) => self.ask(alloc, name, request, out),
             Err(Refusal::Syntax) => refuse(out),
-            Err(_) => Err(Refusal::Memory),
+            Err(_) => Err(AllocError),
         }
     }
 
     /// Answers the end of the schedule, at the end of `out`: aborts the open transaction, and shows the tree. `Memory`
     /// is the only refusal, and leaves `out` as it was.
-    pub fn end(&mut self, alloc: Global, out: &mut Vec<u8>) -> Result<(), Refusal>
+    pub fn end(&mut self, alloc: Global, out: &mut Vec<u8>) -> Result<(), AllocError>
         ensures ok { OnOk result (out.new.items ≡ out.old.items ++ ending_text self.old.machine) }
         ensures err { OnErr result (out.new.items ≡ out.old.items) }
-        ensures refusals { IfErr result (λ e. e ≡ Memory) }
     {
         let start = out.len();
         let ended = self.append_end(alloc, out);
@@ -88,10 +90,9 @@ impl Player {
     }
 
     // The same, where a refusal leaves what stood there at the front.
-    fn append_end(&mut self, alloc: Global, out: &mut Vec<u8>) -> Result<(), Refusal>
+    fn append_end(&mut self, alloc: Global, out: &mut Vec<u8>) -> Result<(), AllocError>
         ensures ok { OnOk result (out.new.items ≡ out.old.items ++ ending_text self.old.machine) }
         ensures kept { take (length out.old.items) out.new.items ≡ out.old.items }
-        ensures refusals { IfErr result (λ e. e ≡ Memory) }
     {
         if let Some(session) = self.core.open_session() {
             let answer = self.core.step(alloc, session, Request::Abort);
@@ -101,10 +102,9 @@ impl Player {
     }
 
     // The session of this name, which gets the next number where it is new: none where it is one too many.
-    fn session(&mut self, name: SessionName) -> Result<Option<SessionId>, Refusal>
+    fn session(&mut self, name: SessionName) -> Result<Option<SessionId>, AllocError>
         ensures number { IfOk result (λ s. option_map (λ k. k.0) s ≡ session_number self.old.names name) }
         ensures names { IfOk result (λ s. MatchOption s (self.new ≡ self.old) (λ _. self.new ≡ record self.old { names = with_name self.old.names name })) }
-        ensures refusals { IfErr result (λ e. e ≡ Memory) }
     {
         if let Some(index) = self.names.get_index_of(&name) {
             return Ok(Some(SessionId(index as u32 + 1)));
@@ -124,42 +124,39 @@ impl Player {
         name: SessionName,
         request: Request,
         out: &mut Vec<u8>,
-    ) -> Result<(), Refusal>
+    ) -> Result<(), AllocError>
         ensures ok { OnOk result ((written : List ℕ) × (out.new.items ≡ out.old.items ++ written) × Asked self.old name (request_of request) written self.new) }
         ensures err { OnErr result (out.new.items ≡ out.old.items) }
-        ensures refusals { IfErr result (λ e. e ≡ Memory) }
     {
         let Some(session) = self.session(name)? else {
             return refuse(out);
         };
         let answer = self.core.step(alloc, session, request);
         if let Answer::Refused(Refusal::Memory) = answer {
-            return Err(Refusal::Memory);
+            return Err(AllocError);
         }
         end_line(&answer, out)
     }
 }
 
 // Appends the line of an answer. A refusal leaves `out` as it was.
-fn end_line(answer: &Answer, out: &mut Vec<u8>) -> Result<(), Refusal>
+fn end_line(answer: &Answer, out: &mut Vec<u8>) -> Result<(), AllocError>
     ensures ok { OnOk result (out.new.items ≡ out.old.items ++ (answer_text (answer_of answer.now) ++ newline)) }
     ensures err { OnErr result (out.new.items ≡ out.old.items) }
-    ensures refusals { IfErr result (λ e. e ≡ Memory) }
 {
     let start = out.len();
     write_answer(answer, out)?;
     if out.push(b'\n').is_err() {
         out.truncate(start);
-        return Err(Refusal::Memory);
+        return Err(AllocError);
     }
     Ok(())
 }
 
-/// Appends the answer to a line outside the grammar. `Memory` is the only refusal, and leaves `out` as it was.
-pub fn refuse(out: &mut Vec<u8>) -> Result<(), Refusal>
+/// Appends the answer to a line outside the grammar. An error, where there is no memory for it, leaves `out` as it was.
+pub fn refuse(out: &mut Vec<u8>) -> Result<(), AllocError>
     ensures ok { OnOk result (out.new.items ≡ out.old.items ++ (refusal_text Syntax ++ newline)) }
     ensures err { OnErr result (out.new.items ≡ out.old.items) }
-    ensures refusals { IfErr result (λ e. e ≡ Memory) }
 {
     end_line(&Answer::Refused(Refusal::Syntax), out)
 }

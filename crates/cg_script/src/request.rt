@@ -3,7 +3,6 @@ ghost use Rattle.std.specs.Prelude.{◌≡◌, ◌++◌, IfOk, IfErr, OnOk, OnEr
 ghost use Rattle.std.specs.Option.{option_map};
 ghost use Rattle.std.specs.Result.{IsErrOf};
 ghost use Rattle.cg_name.specs.Refusal.{IsSyntaxOrMemory};
-ghost use Rattle.cg_name.specs.declared.refusal.Refusal.TheVariants.{Memory};
 ghost use Rattle.cg_core.specs.Meaning.{request_of};
 ghost use Rattle.cg_core.specs.Record as model;
 ghost use Rattle.cg_script.specs.Request.{SpellsCall, SpellsLine, SpellsRequest, line_text, request_text, OneCall, WrittenLinesAreSpelled};
@@ -14,7 +13,7 @@ use cg_core::record::Request;
 use cg_name::path::Path;
 use cg_name::refusal::Refusal;
 use cg_text::words::read_words;
-use std::alloc::Global;
+use std::alloc::{AllocError, Global};
 
 /// Which session asks for what by this line: `None` where the line is blank or a comment. `Syntax` where it
 /// isn't a line of the grammar, too long, or not UTF-8.
@@ -60,17 +59,16 @@ fn read_request(alloc: Global, words: &[&str]) -> Result<Request, Refusal>
     }
 }
 
-/// Appends the line in which a session asks, without a newline: its words with single spaces. `Memory` leaves the
+/// Appends the line in which a session asks, without a newline: its words with single spaces. An error, where there is no memory, leaves the
 /// bytes as they were.
-pub fn write_line(name: SessionName, request: &Request, out: &mut Vec<u8>) -> Result<(), Refusal>
+pub fn write_line(name: SessionName, request: &Request, out: &mut Vec<u8>) -> Result<(), AllocError>
     ensures ok { OnOk result (out.new.items ≡ out.old.items ++ line_text name (request_of request.now)) }
     ensures err { OnErr result (out.new.items ≡ out.old.items) }
-    ensures refusals { IfErr result (λ e. e ≡ Memory) }
 {
     let start = out.len();
     if append_line(name, request, out).is_err() {
         out.truncate(start);
-        return Err(Refusal::Memory);
+        return Err(AllocError);
     }
     Ok(())
 }
@@ -86,10 +84,9 @@ pub fn written_lines_are_spelled()
 {}
 
 // The same, but where memory runs out some of the line may stand after what was there.
-fn append_line(name: SessionName, request: &Request, out: &mut Vec<u8>) -> Result<(), Refusal>
+fn append_line(name: SessionName, request: &Request, out: &mut Vec<u8>) -> Result<(), AllocError>
     ensures ok { OnOk result (out.new.items ≡ out.old.items ++ line_text name (request_of request.now)) }
     ensures kept { take (vec_len out.old) out.new.items ≡ out.old.items }
-    ensures refusals { IfErr result (λ e. e ≡ Memory) }
 {
     out.extend_from_slice(name.as_bytes())?;
     out.push(b' ')?;
@@ -97,10 +94,9 @@ fn append_line(name: SessionName, request: &Request, out: &mut Vec<u8>) -> Resul
 }
 
 // Appends the words behind the session's name, or some of them where memory runs out.
-fn append_request(request: &Request, out: &mut Vec<u8>) -> Result<(), Refusal>
+fn append_request(request: &Request, out: &mut Vec<u8>) -> Result<(), AllocError>
     ensures ok { OnOk result (out.new.items ≡ out.old.items ++ request_text (request_of request.now)) }
     ensures kept { take (vec_len out.old) out.new.items ≡ out.old.items }
-    ensures refusals { IfErr result (λ e. e ≡ Memory) }
 {
     match request {
         Request::Begin => out.extend_from_slice(b"begin")?,

@@ -5,7 +5,7 @@ use cg_core::record::{Request, SessionId};
 use cg_name::path::Path;
 use cg_name::refusal::Refusal;
 use cg_world::world::World;
-use std::alloc::Global;
+use std::alloc::{AllocError, Global};
 
 const OPENING: &str = "world 1\ncontrollers cpu\nonline 0\ngroup / - 0 -\nproc 10 /\nend\n";
 
@@ -30,7 +30,7 @@ fn with_a(alloc: Global) -> Result<Core, Refusal> {
 }
 
 // Appends the text of the world that equals the machine's tree.
-fn write_world(alloc: Global, core: &Core, out: &mut Vec<u8>) -> Result<(), Refusal> {
+fn write_world(alloc: Global, core: &Core, out: &mut Vec<u8>) -> Result<(), AllocError> {
     core.tree().to_world(alloc)?.write(out)
 }
 
@@ -38,7 +38,8 @@ fn write_world(alloc: Global, core: &Core, out: &mut Vec<u8>) -> Result<(), Refu
 fn write_worlds(alloc: Global, out: &mut Vec<u8>) -> Result<(), Refusal> {
     let core = with_a(alloc)?;
     write_world(alloc, &core, out)?;
-    core.opening().write(out)
+    core.opening().write(out)?;
+    Ok(())
 }
 
 const WORLDS: &str = "world 1

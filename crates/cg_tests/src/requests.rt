@@ -3,7 +3,7 @@ use cg_core::record::Request;
 use cg_name::refusal::Refusal;
 use cg_script::request::{read_line, write_line};
 use cg_script::session::SessionName;
-use std::alloc::Global;
+use std::alloc::{AllocError, Global};
 
 // Appends the line that is written for a copy of a session's request.
 fn write_copy(
@@ -11,14 +11,14 @@ fn write_copy(
     name: SessionName,
     request: &Request,
     out: &mut Vec<u8>,
-) -> Result<(), Refusal> {
+) -> Result<(), AllocError> {
     write_line(name, &request.copy(alloc)?, out)
 }
 
 // Appends the line that is written for what a line asks.
 fn rewrite(alloc: Global, line: &str, out: &mut Vec<u8>) -> Result<(), Refusal> {
     match read_line(alloc, line.as_bytes())? {
-        Some((name, request)) => write_copy(alloc, name, &request, out),
+        Some((name, request)) => Ok(write_copy(alloc, name, &request, out)?),
         None => Ok(()),
     }
 }

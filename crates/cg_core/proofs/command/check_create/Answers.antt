@@ -29,7 +29,7 @@ returns-then-branch-clause-refused c =
     let parent = subst (λ o. IfSome o (λ q. q ≡ take (length c.args.path.now - 1) c.args.path.now)) c.in-Some.is c.in_ok-parent.ensures.value in
     let present : is_some (group c.args.tree.now c.in-Some.parent) ≡ true = cc in
     let free : is_some (group c.args.tree.now c.args.path.now) ≡ false = cc in
-    λ ne. full_above c.args.tree.now c.args.path.now c.in-Some.parent below parent present free (sym c.if-branch.true ∙ c.in_ok-too_many.ensures.value)
+    λ ne. full_above c.args.tree.now c.args.path.now c.in-Some.parent below parent present free (sym c.if-branch.true ∙ c.in_ok-too_many.ensures)
 
 pub returns-then-branch-2-clause-refused : goal.returns-then-branch-2-clause-refused
 returns-then-branch-2-clause-refused c =
@@ -37,7 +37,7 @@ returns-then-branch-2-clause-refused c =
     let parent = subst (λ o. IfSome o (λ q. q ≡ take (length c.args.path.now - 1) c.args.path.now)) c.in-Some.is c.in_ok-parent.ensures.value in
     let present : is_some (group c.args.tree.now c.in-Some.parent) ≡ true = cc in
     let free : is_some (group c.args.tree.now c.args.path.now) ≡ false = cc in
-    λ ne. far_above c.args.tree.now c.args.path.now c.in-Some.parent below parent present free (sym c.if-branch.false ∙ c.in_ok-too_many.ensures.value) (sym c.if-branch-2.true ∙ c.in_ok-too_deep.ensures.value)
+    λ ne. far_above c.args.tree.now c.args.path.now c.in-Some.parent below parent present free (sym c.if-branch.false ∙ c.in_ok-too_many.ensures) (sym c.if-branch-2.true ∙ c.in_ok-too_deep.ensures)
 
 pub returns-clause-accepted : goal.returns-clause-accepted
 returns-clause-accepted c =
@@ -45,4 +45,4 @@ returns-clause-accepted c =
     let parent = subst (λ o. IfSome o (λ q. q ≡ take (length c.args.path.now - 1) c.args.path.now)) c.in-Some.is c.in_ok-parent.ensures.value in
     let present : is_some (group c.args.tree.now c.in-Some.parent) ≡ true = cc in
     let free : is_some (group c.args.tree.now c.args.path.now) ≡ false = cc in
-    accepted c.args.tree.now c.args.path.now c.in-Some.parent below parent present free (sym c.if-branch.false ∙ c.in_ok-too_many.ensures.value) (sym c.if-branch-2.false ∙ c.in_ok-too_deep.ensures.value)
+    accepted c.args.tree.now c.args.path.now c.in-Some.parent below parent present free (sym c.if-branch.false ∙ c.in_ok-too_many.ensures) (sym c.if-branch-2.false ∙ c.in_ok-too_deep.ensures)

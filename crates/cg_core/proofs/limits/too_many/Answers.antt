@@ -11,8 +11,8 @@ loop-at-init c =
     let f : Path → Bool = (λ a. is_full (group c.args.tree.now a) (descendants c.args.tree.now a)) in
     ap (any_above f) (sym c.in_ok-at.ensures.value)
 
-pub returns-then-is_full-clause-value : goal.returns-then-is_full-clause-value
-returns-then-is_full-clause-value c =
+pub returns-then-is_full : goal.returns-then-is_full
+returns-then-is_full c =
     let f : Path → Bool = (λ a. is_full (group c.args.tree.now a) (descendants c.args.tree.now a)) in
     let below : is_root c.loop-at.at ≡ false = below_from_some c.in_ok-above.field-0 (is_root c.loop-at.at) _ c.in_ok-above.ensures.root c.in-Some.is in
     let parent = subst (λ o. IfSome o (λ q. q ≡ take (length c.loop-at.at - 1) c.loop-at.at)) c.in-Some.is c.in_ok-above.ensures.value in
@@ -31,7 +31,7 @@ loop-at-preserved c =
     let parent = subst (λ o. IfSome o (λ q. q ≡ take (length c.loop-at.at - 1) c.loop-at.at)) c.in-Some.is c.in_ok-above.ensures.value in
     c.loop-at.invariant ∙ or_missed (any_above f c.loop-at.at) (any_above f c.in-Some.above) (f c.in-Some.above) (any_parent f c.loop-at.at c.in-Some.above below parent) (sym c.is_full.ensures ∙ c.if-is_full.false)
 
-pub returns-clause-value : goal.returns-clause-value
-returns-clause-value c =
+pub returns : goal.returns
+returns c =
     let f : Path → Bool = (λ a. is_full (group c.args.tree.now a) (descendants c.args.tree.now a)) in
     sym (c.loop-at.invariant ∙ any_root f c.loop-at.at (root_from_none c.in_ok-above.field-0 (is_root c.loop-at.at) c.in_ok-above.ensures.root c.in_default.is))

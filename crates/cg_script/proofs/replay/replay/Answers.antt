@@ -11,4 +11,4 @@ returns-in_default-clause-front g c = front_nothing (opened c.args.world c.args.
 pub returns-clause-passed : goal.returns-clause-passed
 returns-clause-passed g c = λ broken.
     subst (λ s. IfSome (pending c.args.reader.now) (λ text. AnswersPassed s text (pending c.play.new.reader) (g.K.Sink.taken c.args.sink.now) (g.K.Sink.taken c.play.new.sink)))
-    c.in-Ok.ensures.value (c.play.ensures.passed broken)
+    c.in-Ok.ensures (c.play.ensures.passed broken)
