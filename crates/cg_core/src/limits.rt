@@ -2,7 +2,7 @@
 ghost use Rattle.std.specs.Prelude.{◌≡◌, ◌≤◌, ◌-◌, length, IfOk, IfErr};
 ghost use Rattle.cg_model.specs.Tree.{group};
 ghost use Rattle.cg_model.specs.Derived.{descendants};
-ghost use Rattle.cg_model.specs.Groups.{is_full, is_too_deep, too_many, too_deep};
+ghost use Rattle.cg_model.specs.Groups.{reaches_descendants, exceeds_depth, too_many, too_deep};
 
 use crate::tree::Tree;
 use cg_name::path::Path;
@@ -39,7 +39,7 @@ pub(crate) fn too_deep(alloc: Global, path: &Path, tree: &Tree) -> Result<bool, 
 
 // Whether a group has as many descendants as it may have.
 fn is_full(path: &Path, tree: &Tree) -> bool
-    ensures { result ≡ is_full (group tree.now path.now) (descendants tree.now path.now) }
+    ensures { result ≡ reaches_descendants (group tree.now path.now) (descendants tree.now path.now) }
 {
     let Some(settings) = tree.settings(path) else {
         return false;
@@ -52,7 +52,7 @@ fn is_full(path: &Path, tree: &Tree) -> bool
 
 // Whether a path is deeper below a group than that group allows.
 fn is_too_deep(path: &Path, above: &Path, tree: &Tree) -> bool
-    ensures { result ≡ is_too_deep (group tree.now above.now) (length path.now - length above.now) }
+    ensures { result ≡ exceeds_depth (group tree.now above.now) (length path.now - length above.now) }
 {
     let Some(settings) = tree.settings(above) else {
         return false;

@@ -11,7 +11,7 @@ use Rattle.cg_model.specs.Cgroups.{cgroups}
 use Rattle.cg_model.specs.History.{Do, Answer, Gave, Refused}
 use Rattle.cg_model.specs.Opens.{numbers, without, transaction_in, opens}
 use Rattle.cg_model.specs.Run.{tree_of, own_tree}
-use Rattle.cg_model.specs.Reply.{holder, is_full, command_reply, answer_of, reply_at}
+use Rattle.cg_model.specs.Reply.{holder, is_full, command_reply, attempt_reply, reply_at}
 use Rattle.cg_model.specs.Machine.{Machine, step}
 use Rattle.cg_model_laws.proofs.OwnChecks.{own_checks}
 use Rattle.cg_core_laws.specs.Headline.{IsLeastHolder, IsSerial, IsFaithful}
@@ -34,7 +34,7 @@ refusal_same r x e = ap (refusal_in r) e
 not_given : (a : Outcome) (u : ℕ) → Gave a ≡ Refused (Busy (record { 0 = u })) → ⊥
 not_given a u e = cc e
 
-module _ (O : Tree) (m : Machine cgroups) (serial : IsSerial cgroups O m) (faithful : IsFaithful cgroups O m) (s t : ℕ) (opened : transaction_in s (opens m.history) ≡ Some t) (room : is_full m.limit m.history ≡ false) (c : Command) where
+module _ (O : Tree) (m : Machine cgroups) (serial : IsSerial cgroups O m) (faithful : IsFaithful cgroups O m) (s t : ℕ) (opened : transaction_in s (opens m.history) ≡ Some t) (room : is_full m.bound m.history ≡ false) (c : Command) where
   abbrev held : Option ℕ
   held = holder cgroups O (footprint c m.tree) m.history (numbers (without t (opens m.history)))
 
@@ -42,12 +42,12 @@ module _ (O : Tree) (m : Machine cgroups) (serial : IsSerial cgroups O m) (faith
   answer : (step cgroups m s (Do c)).1 ≡ command_reply held (effect c (own_tree cgroups O t m.history))
   answer =
       faithful.replies s (Do c)
-      ∙ ap (λ o. reply_at cgroups O m.limit m.history o (Do c)) opened
+      ∙ ap (λ o. reply_at cgroups O m.bound m.history o (Do c)) opened
       ∙ ap (λ b. cond b (Refused Full) (command_reply (holder cgroups O (footprint c (tree_of cgroups O m.history)) m.history (numbers (without t (opens m.history)))) (effect c (own_tree cgroups O t m.history)))) room
       ∙ ap (λ T. command_reply (holder cgroups O (footprint c T) m.history (numbers (without t (opens m.history)))) (effect c (own_tree cgroups O t m.history))) (sym serial.tree)
 
   -- no command refuses with Busy itself
-  own_refusal : (u : ℕ) (e : Effect) → effect c (own_tree cgroups O t m.history) ≡ e → answer_of e ≡ Refused (Busy (record { 0 = u })) → ⊥
+  own_refusal : (u : ℕ) (e : Effect) → effect c (own_tree cgroups O t m.history) ≡ e → attempt_reply e ≡ Refused (Busy (record { 0 = u })) → ⊥
   own_refusal u (Accept a cs) is said = not_given a u said
   own_refusal u (Refuse r) is said =
       let busy = refusal_same r (Busy (record { 0 = u })) said in

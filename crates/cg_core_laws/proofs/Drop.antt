@@ -2,7 +2,7 @@
 use Rattle.std.proofs.Common.{◌≡◌, ℕ, false, [], ◌∷◌, ◌++◌, refl, sym, ap, ◌∙◌, subst}
 use Rattle.cg_model.specs.System.{System, Outcome, Accept}
 use Rattle.cg_model.specs.History.{History}
-use Rattle.cg_model.specs.Live.{Item, Ran, Marked, Items}
+use Rattle.cg_model.specs.Live.{Item, Ran, AtSavepoint, Items}
 use Rattle.cg_model.specs.Run.{state_after, run_items, Accepted}
 use Rattle.cg_core_laws.specs.Reordered.{ClashesWithNone, IsTakenOut, DropsOut}
 use Rattle.cg_core_laws.proofs.SystemLaws.{SystemLaws}
@@ -47,7 +47,7 @@ module _ (y : System) (laws : SystemLaws y) (o : y.State) where
     last_too : (newer : Items y) → Accepted y o (newer ++ taken ∷ older) → ClashesWithNone y o (y.footprint c (run_items y o older)) newer (taken ∷ older) → IsLastToo newer
     last_too [] runs none = record { state = leads c (run_items y o older) a d first; again = first; marks = refl; accepted = runs.1 }
     last_too (Ran u g b q ∷ newer) runs none = one_more u g b q newer runs none (last_too newer runs.1 none.1)
-    last_too (Marked u g n ∷ newer) runs none =
+    last_too (AtSavepoint u g n ∷ newer) runs none =
         let last = last_too newer runs none in record { state = last.state; again = last.again; marks = last.marks; accepted = last.accepted }
 
     taken_out : (newer : Items y) → IsLastToo newer → IsTakenOut y o newer taken older d

@@ -52,7 +52,7 @@ module _ (y : System) where
   one_abort : (o : y.State) (m : Machine y) → IsFaithful y o m → (l : Opens) (p : ℕ × ℕ) → opens m.history ≡ l ++ p ∷ [] → OnceEach (numbers (opens m.history)) → IsAborted m l p
   one_abort o m right l p e once =
       let h : History y = m.history in
-      let found : transaction_in p.0 (opens h) ≡ Some p.1 = ap (transaction_in p.0) e ∙ last_found l p (subst (λ ps. OnceEach (sessions ps)) e (once_each y o m.limit h right.legal)) in
+      let found : transaction_in p.0 (opens h) ≡ Some p.1 = ap (transaction_in p.0) e ∙ last_found l p (subst (λ ps. OnceEach (sessions ps)) e (once_each y o m.bound h right.legal)) in
       let answer : (step y m p.0 Abort).1 ≡ Aborted p.1 = (goes_back y o m right p.0 p.1 found).abort.0 in
       let grown = right.recorded p.0 Abort (ap (λ (a : Answer). is_recorded {y = y} Abort a) answer) in
       let named : named_in (transaction_in p.0 (opens h)) (step y m p.0 Abort).1 ≡ p.1 = ap (λ t. named_in t (step y m p.0 Abort).1) found in
@@ -63,9 +63,9 @@ module _ (y : System) where
         same = ap (λ (g : History y). committed g) new;
       }
 
-module _ (y : System) (laws : SystemLaws y) (o : y.State) (sound : y.Sound o) (limit : ℕ) where
+module _ (y : System) (laws : SystemLaws y) (o : y.State) (sound : y.Sound o) (bound : ℕ) where
   abbrev after : List (ℕ × Request y) → Machine y
-  after rs = steps y (opened y o limit) rs
+  after rs = steps y (opened y o bound) rs
 
   -- the aborts of these, after which nothing is open
   record AreAborted (m : Machine y) (ps : Opens) : Type 0 where
@@ -83,24 +83,24 @@ module _ (y : System) (laws : SystemLaws y) (o : y.State) (sound : y.Sound o) (l
       record {
         accepted = refl;
         closed = none;
-        tree = sym ((serial y laws o sound limit rs proper).orders [] (tt, λ u. sym (ap (λ ps. among u (numbers ps)) none))).1;
+        tree = sym ((serial y laws o sound bound rs proper).orders [] (tt, λ u. sym (ap (λ ps. among u (numbers ps)) none))).1;
       }
   are_aborted (p ∷ ps) rs proper e =
       let m : Machine y = after rs in
       let all : opens m.history ≡ reverse ps ++ p ∷ [] = sym (reverse-reverse (opens m.history)) ∙ ap reverse e ∙ reverse-append (p ∷ []) ps in
-      let once : OnceEach (numbers (opens m.history)) = by_log y laws o sound limit rs proper (λ n. OnceEach (numbers (opens n.history))) (λ c i. subst (λ qs. OnceEach (numbers qs)) i.tied.opens i.kept.once) in
-      let one : IsAborted y m (reverse ps) p = one_abort y o m (faithful y laws o sound limit rs proper) (reverse ps) p all once in
-      let next : after (rs ++ abort p ∷ []) ≡ (step y m p.0 Abort).0 = steps_more y (opened y o limit) rs (abort p ∷ []) in
+      let once : OnceEach (numbers (opens m.history)) = by_log y laws o sound bound rs proper (λ n. OnceEach (numbers (opens n.history))) (λ c i. subst (λ qs. OnceEach (numbers qs)) i.tied.opens i.kept.once) in
+      let one : IsAborted y m (reverse ps) p = one_abort y o m (faithful y laws o sound bound rs proper) (reverse ps) p all once in
+      let next : after (rs ++ abort p ∷ []) ≡ (step y m p.0 Abort).0 = steps_more y (opened y o bound) rs (abort p ∷ []) in
       let left : reverse (opens (after (rs ++ abort p ∷ [])).history) ≡ ps = ap (λ (n : Machine y). reverse (opens n.history)) next ∙ ap reverse one.left ∙ reverse-reverse ps in
       one_more m p ps one (subst (λ n. AreAborted n ps) next (are_aborted ps (rs ++ abort p ∷ []) (proper_more y rs p proper) left))
 
   pub ends_all : (rs : List (ℕ × Request y)) → AreProper rs → EndsAll y o (after rs)
   ends_all rs proper =
       let all : AreAborted (after rs) (reverse (opens (after rs).history)) = are_aborted (reverse (opens (after rs).history)) rs proper refl in
-      let falls = falling y o limit rs in
+      let falls = falling y o bound rs in
       record {
-        numbered = subst (λ (m : Machine y). GoDown (numbers (opens m.history))) (steps_are y laws o limit rs proper)
-            (subst (λ ps. GoDown (numbers ps)) (invariant y laws o limit rs proper).tied.opens (go_down _ _ falls));
+        numbered = subst (λ (m : Machine y). GoDown (numbers (opens m.history))) (steps_are y laws o bound rs proper)
+            (subst (λ ps. GoDown (numbers ps)) (invariant y laws o bound rs proper).tied.opens (go_down _ _ falls));
         accepted = all.accepted;
         closed = all.closed;
         tree = all.tree;

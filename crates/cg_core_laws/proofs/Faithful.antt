@@ -5,7 +5,7 @@ use Rattle.cg_model.specs.History.{Request, Answer, History, is_recorded, named_
 use Rattle.cg_model.specs.Opens.{Opens, numbers, among, without, transaction_in, opens}
 use Rattle.cg_model.specs.Live.{committed, stacked}
 use Rattle.cg_model.specs.Run.{run_items, Accepted}
-use Rattle.cg_model.specs.Reply.{holder, live_count, places}
+use Rattle.cg_model.specs.Reply.{holder, live_count, slots}
 use Rattle.cg_model.specs.Machine.{Machine, step}
 use Rattle.cg_core_laws.specs.Headline.{IsOrder, IsLeastHolder, IsSerial, IsFaithful}
 use Rattle.cg_core_laws.proofs.SystemLaws.{SystemLaws}
@@ -72,13 +72,13 @@ module _ (y : System) (laws : SystemLaws y) (o : y.State) where
       let n = c.begun + 1 in
       least_holder y o f c.history n (without t ps) (falls_without t n ps (subst (Falls n) d.opens fall))
 
-  room : (c : Log y) → Tied y o c → HasRoom c → places c.history ≤ c.limit
+  room : (c : Log y) → Tied y o c → HasRoom c → slots c.history ≤ c.bound
   room c d has =
       let e : length c.opens + held c.opens c.entries ≡ length (opens c.history) + live_count (opens c.history) c.history =
       ap (λ n. length c.opens + n) (held_is y laws o c c.opens d) ∙ ap (λ ps. length ps + live_count ps c.history) d.opens in
-      subst (λ n. length c.history + n ≤ c.limit) e has
+      subst (λ n. length c.history + n ≤ c.bound) e has
 
-  pub faithful_from : (c : Log y) → Invariant y o c → Falling c → (2 ≤ c.limit → HasRoom c) → IsFaithful y o (machine_of c)
+  pub faithful_from : (c : Log y) → Invariant y o c → Falling c → (2 ≤ c.bound → HasRoom c) → IsFaithful y o (machine_of c)
   faithful_from c i fall has = record {
     legal = i.legal;
     replies = λ s r. sym (ap (λ (q : Machine y × Answer). q.1) (step_is y c s r i.kept.owners)) ∙ step_answer y laws o c s r i.kept i.tied;

@@ -6,7 +6,7 @@ use Rattle.cg_model.specs.System.{System}
 use Rattle.cg_model.specs.Opens.{Opens, numbers, among, opens}
 use Rattle.cg_model.specs.Live.{joined_if, committed, stacked}
 use Rattle.cg_model.specs.Run.{run_items, Accepted}
-use Rattle.cg_model.specs.Machine.{Entry}
+use Rattle.cg_model.specs.Machine.{StackEntry}
 use Rattle.cg_core_laws.specs.Headline.{OnceEach}
 use Rattle.cg_core_laws.specs.Reordered.{of_those, not_pulled, PulledToTheFront}
 use Rattle.cg_core_laws.proofs.Tests.{false_if, or_cases}
@@ -45,20 +45,20 @@ left true n e = refl
 left false n e = absurd (cc e)
 
 module _ (y : System) (laws : SystemLaws y) (o : y.State) where
-  free_one : (x z : Entry y) (a : List (Entry y)) → FreeOf y x (only (owner z) (z ∷ a)) → Free y x z
+  free_one : (x z : StackEntry y) (a : List (StackEntry y)) → FreeOf y x (only (owner z) (z ∷ a)) → Free y x z
   free_one x z a h = (subst (λ b. FreeOf y x (joined_if b z (only (owner z) a))) (eq-eqb (owner z) (owner z) refl) h).0
 
-  free_put : (x z : Entry y) (l : List (Entry y)) (b : Bool) → (b ≡ true → Free y x z) → FreeOf y x l → FreeOf y x (joined_if b z l)
+  free_put : (x z : StackEntry y) (l : List (StackEntry y)) (b : Bool) → (b ≡ true → Free y x z) → FreeOf y x l → FreeOf y x (joined_if b z l)
   free_put x z l true h i = (h refl, i)
   free_put x z l false h i = i
 
-  free_of_those : (x : Entry y) (r : ℕ → Bool) (a : List (Entry y)) → ((t : ℕ) → r t ≡ true → FreeOf y x (only t a)) → FreeOf y x (keep r a)
+  free_of_those : (x : StackEntry y) (r : ℕ → Bool) (a : List (StackEntry y)) → ((t : ℕ) → r t ≡ true → FreeOf y x (only t a)) → FreeOf y x (keep r a)
   free_of_those x r [] h = tt
   free_of_those x r (z ∷ a) h =
       free_put x z (keep r a) (r (owner z)) (λ e. free_one x z a (h (owner z) e)) (free_of_those x r a (λ t e. free_tail y x z (only t a) (owner z == t) (h t e)))
 
   -- the entries of some transactions on top of those of others
-  gather_those : (r q : ℕ → Bool) → ((u : ℕ) → r u ≡ true → q u ≡ false) → (a : List (Entry y)) → ((t : ℕ) → r t ≡ true → Apart y t a) → Same y o (keep (λ u. r u || q u) a) (keep r a ++ keep q a)
+  gather_those : (r q : ℕ → Bool) → ((u : ℕ) → r u ≡ true → q u ≡ false) → (a : List (StackEntry y)) → ((t : ℕ) → r t ≡ true → Apart y t a) → Same y o (keep (λ u. r u || q u) a) (keep r a ++ keep q a)
   gather_those r q apart [] h = same_refl y laws o []
   gather_those r q apart (x ∷ a) h =
       gather_step y laws o x (keep r a) (keep q a) (keep (λ u. r u || q u) a) (r (owner x)) (q (owner x)) (apart (owner x))
@@ -75,7 +75,7 @@ module _ (y : System) (laws : SystemLaws y) (o : y.State) where
       (subst (λ l. Same y o l (keep r c.entries ++ keep q c.entries)) all parted)
       (same_append y laws o (keep r c.entries) _ _ (canon y laws o (closed c.opens) c.entries c.done ts once (λ t m. let n = are_open t m in (ap not n, k.apart t n)) k.done))
 
-  as_items_keep : (r : ℕ → Bool) (a : List (Entry y)) → as_items (keep r a) ≡ of_those r (as_items a)
+  as_items_keep : (r : ℕ → Bool) (a : List (StackEntry y)) → as_items (keep r a) ≡ of_those r (as_items a)
   as_items_keep r [] = refl
   as_items_keep r (x ∷ a) = as_items_put y o (r (owner x)) x (keep r a) ∙ (λ i. joined_if (r (sym (owner_as_item y o x) i)) (as_item x) (as_items_keep r a i))
 
@@ -85,8 +85,8 @@ module _ (y : System) (laws : SystemLaws y) (o : y.State) where
 
   pub pulled_to_the_front : (c : Log y) → Kept y o c → Tied y o c → PulledToTheFront y o (machine_of c)
   pulled_to_the_front c k d ts once are_open =
-      let waiting : List (Entry y) = keep (waits c.opens ts) c.entries in
-      let front : List (Entry y) = blocks ts c.entries c.done in
+      let waiting : List (StackEntry y) = keep (waits c.opens ts) c.entries in
+      let front : List (StackEntry y) = blocks ts c.entries c.done in
       let is_open : (t : ℕ) → among t ts ≡ true → among t (numbers c.opens) ≡ true = λ t m. ap (λ ps. among t (numbers ps)) d.opens ∙ each_among (λ u. among u (numbers (opens c.history)) ≡ true) ts are_open t m in
       let p = (pulled c ts k once is_open).by k.runs in
       let q = ran y o (waiting ++ front) p.0 in

@@ -17,10 +17,10 @@ use Rattle.cg_core_laws.specs.Headline.{IsFaithful, GoesBack, OthersStay, Commit
 
 module _ (y : System) (o : y.State) (m : Machine y) (faithful : IsFaithful y o m) where
   -- the answer in t, and t's stack after it
-  in_step : (s t : ℕ) (r : Request y) (a : Answer) → transaction_in s (opens m.history) ≡ Some t → reply_in y o m.limit m.history t r ≡ a → is_recorded r a ≡ true → ((step y m s r).1 ≡ a) × (live t (step y m s r).0.history ≡ live_after r a t m.history (live t m.history))
+  in_step : (s t : ℕ) (r : Request y) (a : Answer) → transaction_in s (opens m.history) ≡ Some t → reply_in y o m.bound m.history t r ≡ a → is_recorded r a ≡ true → ((step y m s r).1 ≡ a) × (live t (step y m s r).0.history ≡ live_after r a t m.history (live t m.history))
   in_step s t r a e w k =
       let h = m.history in
-      let answer : (step y m s r).1 ≡ a = faithful.replies s r ∙ ap (λ x. reply_at y o m.limit h x r) e ∙ w in
+      let answer : (step y m s r).1 ≡ a = faithful.replies s r ∙ ap (λ x. reply_at y o m.bound h x r) e ∙ w in
       let grown = faithful.recorded s r (ap (λ (x : Answer). is_recorded r x) answer ∙ k) in
       let named : named_in (transaction_in s (opens h)) (step y m s r).1 ≡ t = ap (λ x. named_in x (step y m s r).1) e in
       let same : live t (step y m s r).0.history ≡ live t (record { session = s; transaction = t; request = r; answer = a } ∷ h) =
@@ -56,7 +56,7 @@ module _ (y : System) (o : y.State) (m : Machine y) (faithful : IsFaithful y o m
   other_live r u false k same = rw k
 
   -- without a transaction only Begin is recorded
-  out_live : (r : Request y) (a : Answer) (t : ℕ) (l : Items y) → a ≡ reply_out y m.limit m.history r → is_recorded r a ≡ true → live_after r a t m.history l ≡ l
+  out_live : (r : Request y) (a : Answer) (t : ℕ) (l : Items y) → a ≡ reply_out y m.bound m.history r → is_recorded r a ≡ true → live_after r a t m.history l ≡ l
   out_live Begin a t l e k = refl
   out_live (Do c) a t l e k = let n = ap (λ (x : Answer). is_recorded {y = y} (Do c) x) e in absurd (cc (n, k))
   out_live (Save j) a t l e k = let n = ap (λ (x : Answer). is_recorded {y = y} (Save j) x) e in absurd (cc (n, k))
@@ -65,7 +65,7 @@ module _ (y : System) (o : y.State) (m : Machine y) (faithful : IsFaithful y o m
   out_live Commit a t l e k = let n = ap (λ (x : Answer). is_recorded {y = y} Commit x) e in absurd (cc (n, k))
   out_live Abort a t l e k = let n = ap (λ (x : Answer). is_recorded {y = y} Abort x) e in absurd (cc (n, k))
 
-  record_stays : (s : ℕ) (r : Request y) (u : ℕ) (a : Answer) (found : Option ℕ) → a ≡ reply_at y o m.limit m.history found r → is_recorded r a ≡ true → ¬ (found ≡ Some u) → live u (record { session = s; transaction = named_in found a; request = r; answer = a } ∷ m.history) ≡ live u m.history
+  record_stays : (s : ℕ) (r : Request y) (u : ℕ) (a : Answer) (found : Option ℕ) → a ≡ reply_at y o m.bound m.history found r → is_recorded r a ≡ true → ¬ (found ≡ Some u) → live u (record { session = s; transaction = named_in found a; request = r; answer = a } ∷ m.history) ≡ live u m.history
   record_stays s r u a (Some t) e k n = other_live (record { session = s; transaction = t; request = r; answer = a }) u (t == u) refl (λ z. absurd (n (ap Some (eqb-true t u z))))
   record_stays s r u a None e k n =
       let t = named_in None a in

@@ -15,7 +15,7 @@ use Rattle.cg_text.specs.declared.settings.Settings.{Settings}
 use Rattle.cg_model.specs.Tree.{Tree, group, place_of}
 use Rattle.cg_model.specs.Derived.{with_cpuset}
 use Rattle.cg_model.specs.Sound.{admits}
-use Rattle.cg_model.specs.Key.{Field, Setting, Key, Group, Place, Part, Held, value_at, part_replaced, put}
+use Rattle.cg_model.specs.Key.{Field, Setting, Key, Group, Place, Part, ValueOf, value_at, part_replaced, put}
 use Rattle.cg_model.specs.Key as keys
 use Rattle.cg_model.specs.Change.{Change, change, undone, Fits}
 use Rattle.cg_model.specs.System.{Done, Refuse, Accept}
@@ -38,7 +38,7 @@ there_replaced f None (Some s) = refl
 there_replaced f (Some v) (Some s) = refl
 
 -- a put of any other key leaves whether a group is there
-there_put : (p : Path) (k : Key) (v : Option (Held k)) (T : Tree) → is_group_key p k ≡ false → is_some (group (put k v T) p) ≡ is_some (group T p)
+there_put : (p : Path) (k : Key) (v : Option (ValueOf k)) (T : Tree) → is_group_key p k ≡ false → is_some (group (put k v T) p) ≡ is_some (group T p)
 there_put p (Group q) v T e = ap is_some (group_apart T q v p (paths_differ p q e))
 there_put p (Place k) v T e = refl
 there_put p (Part q f) v T e = elim (path_cases p q) [
@@ -55,7 +55,7 @@ there_undone p (c ∷ cs) T e = there_put p c.key c.before (undone cs T) (or_par
 -- ---- what the changes of an accepted command tell
 
 -- of the tree before it: a group that changes is there before or after, and a process that moves was where it is put back
-abbrev Tells : Tree → (k : Key) → Option (Held k) → Option (Held k) → Type 0
+abbrev Tells : Tree → (k : Key) → Option (ValueOf k) → Option (ValueOf k) → Type 0
 Tells T (Group p) b l = (is_some (group T p) || is_some l) ≡ true
 Tells T (Place k) b l = place_of T k ≡ b
 Tells T _ b l = Unit {0}
@@ -123,7 +123,7 @@ module _ (T : Tree) where
 
 -- ---- what follows
 
-there_at : (q : Path) (T U : Tree) (k : Key) (b l : Option (Held k)) → Tells T k b l → value_at U k ≡ l → is_group_key q k ≡ true → (is_some (group T q) || is_some (group U q)) ≡ true
+there_at : (q : Path) (T U : Tree) (k : Key) (b l : Option (ValueOf k)) → Tells T k b l → value_at U k ≡ l → is_group_key q k ≡ true → (is_some (group T q) || is_some (group U q)) ≡ true
 there_at q T U (Group p) b l t f e =
     let there : (is_some (group T p) || is_some (group U p)) ≡ true = subst (λ o. (is_some (group T p) || is_some o) ≡ true) (sym f) t in
     subst (λ x. (is_some (group T x) || is_some (group U x)) ≡ true) (sym (same_path-is q p e)) there
@@ -140,7 +140,7 @@ there_before_or_after q T U (c ∷ cs) t f e = elim (or_cases _ _ e) [
 ]
 
 module _ (E : Path → Bool) (T : Tree) (places : (k : ℕ) (q : Path) → place_of T k ≡ Some q → E q ≡ true) where
-  room_at : (k : Key) (b l : Option (Held k)) → Tells T k b l → ((p : Path) → is_group_key p k ≡ true → E p ≡ true) → room_for E k b
+  room_at : (k : Key) (b l : Option (ValueOf k)) → Tells T k b l → ((p : Path) → is_group_key p k ≡ true → E p ≡ true) → room_for E k b
   room_at (Group p) (Some s) l t own = own p (same_path-itself p)
   room_at (Place k) (Some q) l t own = places k q t
   room_at k b l t own = tt

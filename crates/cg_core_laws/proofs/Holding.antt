@@ -1,4 +1,4 @@
--- Below a path that is absent at a stage there is no group, and what a stack holds below it is held with the path itself: a
+-- Below a path that is absent at a stage there is no group, and what a stack needs below it is needed with the path itself: a
 -- group that is put back finds those above it, unless newer inverses of its own stack put them back first.
 use Rattle.std.proofs.Common.{◌≡◌, ℕ, true, false, ◌||◌, List, [], ◌∷◌, ◌++◌, inl, inr, refl, subst, ◌∙◌, Option, Some, None}
 use Rattle.std.specs.Option.{is_some}
@@ -11,7 +11,7 @@ use Rattle.cg_model.specs.Change.{Change, undone}
 use Rattle.cg_model.specs.Cgroups.{cgroups}
 use Rattle.cg_model.specs.Opens.{among}
 use Rattle.cg_model.specs.Live.{Items}
-use Rattle.cg_model.specs.Room.{changes_group, inverse, holds}
+use Rattle.cg_model.specs.Room.{changes_group, inverse, needs_group}
 use Rattle.cg_core_laws.specs.Unwind.{with_items}
 use Rattle.cg_model_laws.proofs.Paths.{never, same_name-itself, same_name-is, above-prefix}
 use Rattle.cg_core_laws.proofs.GroupChanges.{there_undone, there_before_or_after}
@@ -40,21 +40,21 @@ module _ (T : Tree) (sound : Sound T) where
   absent_below p q a h = absent_down (group T) absent_child p q (above-prefix p q a) h
 
 module _ {O : Tree} {ts : List ℕ} (u : ℕ) (is_open : among u ts ≡ true) (p q : Path) (above : is_above p q ≡ true) where
-  -- the part of a stack above any of its items holds p, where p is absent and it holds q
-  pub holds_above : (newer older : Items cgroups) {stacks : ℕ → Items cgroups} {T : Tree} → Stage O ts stacks T → stacks u ≡ newer ++ older → IsAbsent T p → holds O q newer ≡ true → holds O p newer ≡ true
-  holds_above [] older stage e absent h = h
-  holds_above (x ∷ l) older {stacks} {T} stage e absent h =
+  -- the part of a stack above any of its items needs p, where p is absent and it needs q
+  pub needs_above : (newer older : Items cgroups) {stacks : ℕ → Items cgroups} {T : Tree} → Stage O ts stacks T → stacks u ≡ newer ++ older → IsAbsent T p → needs_group O q newer ≡ true → needs_group O p newer ≡ true
+  needs_above [] older stage e absent h = h
+  needs_above (x ∷ l) older {stacks} {T} stage e absent h =
       let cs : List Change = inverse O x in
       let before : Tree = undone cs T in
       let next : Stage O ts (with_items u (l ++ older) stacks) before = next_stage stage u x (l ++ older) is_open e in
       let top : IsNewest cs T = newest stage u x (l ++ older) is_open e in
-      elim (changes_group p cs) as (λ b. changes_group p cs ≡ b → (b || holds O p l) ≡ true) [
+      elim (changes_group p cs) as (λ b. changes_group p cs ≡ b → (b || needs_group O p l) ≡ true) [
         | true ↦ λ own. refl
         | false ↦ λ other.
             let still : IsAbsent before p = there_undone p cs T other ∙ absent in
             let nowhere = or_from _ _ (absent_below before (stage_sound next) p q above still) (absent_below T (stage_sound stage) p q above absent) in
             elim (or_cases _ _ h) [
               | inl here ↦ absurd (both_ways _ nowhere (there_before_or_after q before T cs top.tell top.fits here))
-              | inr later ↦ holds_above l older next (own_items u (l ++ older) stacks) still later
+              | inr later ↦ needs_above l older next (own_items u (l ++ older) stacks) still later
             ]
       ] refl

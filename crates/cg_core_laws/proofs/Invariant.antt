@@ -23,7 +23,7 @@ use Rattle.cg_core_laws.proofs.StepsTied.{step_tied, start_tied}
 pub record Invariant (y : System) (o : y.State) (c : Log y) : Type 0 where
   pub kept : Kept y o c
   pub tied : Tied y o c
-  pub legal : Legal y o c.limit c.history
+  pub legal : Legal y o c.bound c.history
   pub through : (n : ℕ) → Accepted y o (committed_through n c.history)
 
 module _ (y : System) (laws : SystemLaws y) (o : y.State) where
@@ -37,12 +37,12 @@ module _ (y : System) (laws : SystemLaws y) (o : y.State) where
   }
 
   -- one more record, or none
-  legal_noted : (c : Log y) (s : ℕ) (r : Request y) (h : Option ℕ) (p : Log y × Answer) (b : Bool) → is_recorded r p.1 ≡ b → p.1 ≡ reply y o c.limit c.history s r → (named_in h p.1 ≡ named_in (transaction_in s c.opens) p.1) → SameHistory y c p.0 → Tied y o c → Defined y o (log_noted b s r h p).0.history → Legal y o c.limit c.history → Legal y o (log_noted b s r h p).0.limit (log_noted b s r h p).0.history
+  legal_noted : (c : Log y) (s : ℕ) (r : Request y) (h : Option ℕ) (p : Log y × Answer) (b : Bool) → is_recorded r p.1 ≡ b → p.1 ≡ reply y o c.bound c.history s r → (named_in h p.1 ≡ named_in (transaction_in s c.opens) p.1) → SameHistory y c p.0 → Tied y o c → Defined y o (log_noted b s r h p).0.history → Legal y o c.bound c.history → Legal y o (log_noted b s r h p).0.bound (log_noted b s r h p).0.history
   legal_noted c s r h p true e w v i d runs legal =
       let new : Record y = record { session = s; transaction = named_in h p.1; request = r; answer = p.1 } in
       let known = subst (λ (g : History y). Defined y o (new ∷ g)) i.0 runs in
-      let all : Legal y o c.limit (new ∷ c.history) = (e, w, v ∙ ap (λ ps. named_in (transaction_in s ps) p.1) d.opens, known, legal) in
-      subst (λ g. Legal y o p.0.limit (new ∷ g)) (sym i.0) (subst (λ n. Legal y o n (new ∷ c.history)) (sym i.1) all)
+      let all : Legal y o c.bound (new ∷ c.history) = (e, w, v ∙ ap (λ ps. named_in (transaction_in s ps) p.1) d.opens, known, legal) in
+      subst (λ g. Legal y o p.0.bound (new ∷ g)) (sym i.0) (subst (λ n. Legal y o n (new ∷ c.history)) (sym i.1) all)
   legal_noted c s r h p false e w v i d runs legal = rw (i.0, i.1) legal
 
   accepted_cond : (b : Bool) (l m : Items y) → Accepted y o l → Accepted y o m → Accepted y o (cond b l m)
@@ -75,6 +75,6 @@ module _ (y : System) (laws : SystemLaws y) (o : y.State) where
   steps_hold [] c proper i = i
   steps_hold (p ∷ ps) c proper i = steps_hold ps (log_step y c p.0 p.1).0 proper.1 (step_holds c p.0 p.1 proper.0 i)
 
-  pub invariant : (limit : ℕ) (ps : List (ℕ × Request y)) → AreProper ps → Invariant y o (log_steps y (log_opened y o limit) ps)
-  invariant limit ps proper =
-      steps_hold ps (log_opened y o limit) proper (record { kept = start_kept y laws o limit; tied = start_tied y laws o limit; legal = tt; through = λ n. tt })
+  pub invariant : (bound : ℕ) (ps : List (ℕ × Request y)) → AreProper ps → Invariant y o (log_steps y (log_opened y o bound) ps)
+  invariant bound ps proper =
+      steps_hold ps (log_opened y o bound) proper (record { kept = start_kept y laws o bound; tied = start_tied y laws o bound; legal = tt; through = λ n. tt })

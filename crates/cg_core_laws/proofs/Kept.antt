@@ -4,7 +4,7 @@ use Rattle.cg_name.specs.Name.{Name, same_name}
 use Rattle.cg_model.specs.System.{System}
 use Rattle.cg_model.specs.History.{Answer}
 use Rattle.cg_model.specs.Opens.{among, numbers}
-use Rattle.cg_model.specs.Machine.{Entry, Did, Mark}
+use Rattle.cg_model.specs.Machine.{StackEntry, Did, Savepoint}
 use Rattle.cg_core_laws.specs.Unwind.{IsLast}
 use Rattle.cg_core_laws.specs.Headline.{OnceEach}
 use Rattle.cg_core_laws.proofs.SystemLaws.{SystemLaws}
@@ -15,12 +15,12 @@ use Rattle.cg_core_laws.proofs.Cuts.{cut_apart, cut_keep, cut_own}
 use Rattle.cg_core_laws.proofs.Open.{closed}
 
 -- the state is as if the entry had been the last
-abbrev pub FitsNow : (y : System) → Entry y → y.State → Type 0
+abbrev pub FitsNow : (y : System) → StackEntry y → y.State → Type 0
 FitsNow y (Did t th c a d f) s = IsLast y c a d s
-FitsNow y (Mark t th n) s = Unit {0}
+FitsNow y (Savepoint t th n) s = Unit {0}
 
 -- the transactions of the entries are at most n
-abbrev pub OwnersUpTo : {y : System} → ℕ → List (Entry y) → Type 0
+abbrev pub OwnersUpTo : {y : System} → ℕ → List (StackEntry y) → Type 0
 OwnersUpTo n [] = Unit {0}
 OwnersUpTo n (x ∷ a) = (owner x ≤ n) × OwnersUpTo n a
 
@@ -38,17 +38,17 @@ pub record Kept (y : System) (o : y.State) (c : Log y) : Type 0 where
   pub once : OnceEach (numbers c.opens)
 
 module _ (y : System) (laws : SystemLaws y) (o : y.State) where
-  goes_back : (s : y.State) (x : Entry y) → Accepts y s x → FitsNow y x (moved y x s) × (unmoved y x (moved y x s) ≡ s)
+  goes_back : (s : y.State) (x : StackEntry y) → Accepts y s x → FitsNow y x (moved y x s) × (unmoved y x (moved y x s) ≡ s)
   goes_back s (Did t th c a d f) h =
       let before = laws.goes_back s c a d h.1 in
       (record { fits = laws.fits s c a d h.1; again = ap (y.effect c) before ∙ h.1; back = ap (y.done d) before }, before)
-  goes_back s (Mark t th n) h = (tt, refl)
+  goes_back s (Savepoint t th n) h = (tt, refl)
 
-  owners_cut_step : (t n : ℕ) (x : Entry y) (a : List (Entry y)) (b : Bool) → (OwnersUpTo n a → OwnersUpTo n (cut t a)) → OwnersUpTo n (x ∷ a) → OwnersUpTo n (skip b x a (cut t a))
+  owners_cut_step : (t n : ℕ) (x : StackEntry y) (a : List (StackEntry y)) (b : Bool) → (OwnersUpTo n a → OwnersUpTo n (cut t a)) → OwnersUpTo n (x ∷ a) → OwnersUpTo n (skip b x a (cut t a))
   owners_cut_step t n x a true i h = h.1
   owners_cut_step t n x a false i h = (h.0, i h.1)
 
-  owners_cut : (t n : ℕ) (a : List (Entry y)) → OwnersUpTo n a → OwnersUpTo n (cut t a)
+  owners_cut : (t n : ℕ) (a : List (StackEntry y)) → OwnersUpTo n a → OwnersUpTo n (cut t a)
   owners_cut t n [] h = h
   owners_cut t n (x ∷ a) h = owners_cut_step t n x a (owner x == t) (owners_cut t n a) h
 
@@ -57,7 +57,7 @@ module _ (y : System) (laws : SystemLaws y) (o : y.State) where
   stop_kept false p q h i = i
 
   -- one entry is taken off
-  pub pop_kept : (c : Log y) (t : ℕ) (x : Entry y) (r : List (Entry y)) → Kept y o c → among t (numbers c.opens) ≡ true → only t c.entries ≡ x ∷ r → FitsNow y x c.tree × Kept y o (pop y c t x)
+  pub pop_kept : (c : Log y) (t : ℕ) (x : StackEntry y) (r : List (StackEntry y)) → Kept y o c → among t (numbers c.opens) ≡ true → only t c.entries ≡ x ∷ r → FitsNow y x c.tree × Kept y o (pop y c t x)
   pop_kept c t x r k is_open e =
       let p = after_cut y laws o t x c.entries r (k.apart t is_open) e k.runs in
       let back = goes_back (state y o (cut t c.entries)) x p.0.0 in
@@ -75,14 +75,14 @@ module _ (y : System) (laws : SystemLaws y) (o : y.State) where
       )
 
   -- all that a transaction did is taken off
-  pub pop_all_kept : (t : ℕ) (l : List (Entry y)) (c : Log y) → Kept y o c → among t (numbers c.opens) ≡ true → only t c.entries ≡ l → Kept y o (pop_all y t l c) × (only t (pop_all y t l c).entries ≡ []) × ((pop_all y t l c).opens ≡ c.opens)
+  pub pop_all_kept : (t : ℕ) (l : List (StackEntry y)) (c : Log y) → Kept y o c → among t (numbers c.opens) ≡ true → only t c.entries ≡ l → Kept y o (pop_all y t l c) × (only t (pop_all y t l c).entries ≡ []) × ((pop_all y t l c).opens ≡ c.opens)
   pop_all_kept t [] c k m e = (k, e, refl)
   pop_all_kept t (x ∷ l) c k m e = pop_all_kept t l (pop y c t x) (pop_kept c t x l k m e).1 m (cut_own y t x c.entries l e)
 
-  pub back_kept : (t : ℕ) (n : Name) (l : List (Entry y)) (c : Log y) (j : ℕ) → Kept y o c → among t (numbers c.opens) ≡ true → only t c.entries ≡ l → Kept y o (log_back_to y t n l c j).0
+  pub back_kept : (t : ℕ) (n : Name) (l : List (StackEntry y)) (c : Log y) (j : ℕ) → Kept y o c → among t (numbers c.opens) ≡ true → only t c.entries ≡ l → Kept y o (log_back_to y t n l c j).0
   back_kept t n [] c j k m e = k
   back_kept t n (Did u uh b a d f ∷ l) c j k m e =
       back_kept t n l (pop y c t (Did u uh b a d f)) (j + 1) (pop_kept c t (Did u uh b a d f) l k m e).1 m (cut_own y t _ c.entries l e)
-  back_kept t n (Mark u uh i ∷ l) c j k m e =
-      let p = (pop_kept c t (Mark u uh i) l k m e).1 in
-      stop_kept (same_name i n) _ _ p (back_kept t n l (pop y c t (Mark u uh i)) j p m (cut_own y t _ c.entries l e))
+  back_kept t n (Savepoint u uh i ∷ l) c j k m e =
+      let p = (pop_kept c t (Savepoint u uh i) l k m e).1 in
+      stop_kept (same_name i n) _ _ p (back_kept t n l (pop y c t (Savepoint u uh i)) j p m (cut_own y t _ c.entries l e))

@@ -112,5 +112,5 @@ module _ (y : System) where
       let q = log_step_at y c p.0 p.1 (transaction_in p.0 c.opens) in
       falling_steps ps (log_step y c p.0 p.1).0 (falling_noted p.0 p.1 (transaction_in p.0 c.opens) q (is_recorded p.1 q.1) (falling_at c p.0 p.1 (transaction_in p.0 c.opens) f))
 
-  pub falling : (o : y.State) (limit : ℕ) (ps : List (ℕ × Request y)) → Falling (log_steps y (log_opened y o limit) ps)
-  falling o limit ps = falling_steps ps (log_opened y o limit) tt
+  pub falling : (o : y.State) (bound : ℕ) (ps : List (ℕ × Request y)) → Falling (log_steps y (log_opened y o bound) ps)
+  falling o bound ps = falling_steps ps (log_opened y o bound) tt

@@ -7,48 +7,48 @@ use Rattle.cg_model.specs.System.{System, Done, Attempt, Refuse, Accept}
 use Rattle.cg_model.specs.History.{Request, Begin, Do, Save, Back, Undo, Commit, Abort, Answer, Begun, Gave, Saved, WentBack, Committed, Aborted, Refused, History, is_recorded, named_in}
 use Rattle.cg_model.specs.Opens.{Opens, numbers, without, transaction_in}
 use Rattle.cg_model.specs.Reply.{found_or}
-use Rattle.cg_model.specs.Machine.{Entry, Did, Mark, hits, has_mark}
+use Rattle.cg_model.specs.Machine.{StackEntry, Did, Savepoint, hits, stack_has_savepoint}
 use Rattle.cg_core_laws.proofs.Trace.{only, cut}
 
 -- the tree; what was done and stands, with the savepoints of the open transactions; what was committed, in commit order,
 -- each newest first; the open transactions, each as its session and its number
 pub record Log (y : System) : Type 0 where
   pub tree : y.State
-  pub entries : List (Entry y)
-  pub done : List (Entry y)
+  pub entries : List (StackEntry y)
+  pub done : List (StackEntry y)
   pub opens : Opens
   pub begun : ℕ
   pub commits : ℕ
   -- the newest first
   pub history : History y
-  pub limit : ℕ
+  pub bound : ℕ
 
 abbrev pub log_opened : (y : System) → y.State → ℕ → Log y
-log_opened y o lim = record { tree = o; entries = []; done = []; opens = []; begun = 0; commits = 0; history = []; limit = lim }
+log_opened y o bound = record { tree = o; entries = []; done = []; opens = []; begun = 0; commits = 0; history = []; bound = bound }
 
 -- the oldest of these transactions that holds what clashes
-abbrev pub log_holder : (y : System) → y.Footprint → List (Entry y) → List ℕ → Option ℕ
+abbrev pub log_holder : (y : System) → y.Footprint → List (StackEntry y) → List ℕ → Option ℕ
 log_holder y f log [] = None
 log_holder y f log (u ∷ os) = found_or (log_holder y f log os) (hits y f (only u log)) u
 
-abbrev pub unmoved : (y : System) → Entry y → y.State → y.State
+abbrev pub unmoved : (y : System) → StackEntry y → y.State → y.State
 unmoved y (Did t th c a d f) s = y.undone d s
-unmoved y (Mark t th n) s = s
+unmoved y (Savepoint t th n) s = s
 
 -- the newest entry x of t is taken off
-abbrev pub pop : (y : System) → Log y → ℕ → Entry y → Log y
+abbrev pub pop : (y : System) → Log y → ℕ → StackEntry y → Log y
 pop y c t x = record c { tree = unmoved y x c.tree; entries = cut t c.entries }
 
-abbrev pub pop_all : (y : System) → ℕ → List (Entry y) → Log y → Log y
+abbrev pub pop_all : (y : System) → ℕ → List (StackEntry y) → Log y → Log y
 pop_all y t [] c = c
 pop_all y t (x ∷ l) c = pop_all y t l (pop y c t x)
 
 -- down to the savepoint, which goes too
-abbrev pub log_back_to : (y : System) → ℕ → Name → List (Entry y) → Log y → ℕ → Log y × Answer
+abbrev pub log_back_to : (y : System) → ℕ → Name → List (StackEntry y) → Log y → ℕ → Log y × Answer
 log_back_to y t n [] c k = (c, Refused NoSavepoint)
 log_back_to y t n (Did u uh b a d f ∷ l) c k = log_back_to y t n l (pop y c t (Did u uh b a d f)) (k + 1)
-log_back_to y t n (Mark u uh m ∷ l) c k =
-    cond (same_name m n) (pop y c t (Mark u uh m), WentBack k) (log_back_to y t n l (pop y c t (Mark u uh m)) k)
+log_back_to y t n (Savepoint u uh m ∷ l) c k =
+    cond (same_name m n) (pop y c t (Savepoint u uh m), WentBack k) (log_back_to y t n l (pop y c t (Savepoint u uh m)) k)
 
 abbrev pub try_do : (y : System) → Log y → ℕ → y.Command → Attempt y.Change → Log y × Answer
 try_do y c t b (Accept a d) = (record c { tree = y.done d c.tree; entries = Did t c.history b a d (y.footprint b c.tree) ∷ c.entries }, Gave a)
@@ -58,9 +58,9 @@ abbrev pub do_at : (y : System) → Log y → ℕ → y.Command → Option ℕ �
 do_at y c t b (Some u) = (c, Refused (Busy (record { 0 = u })))
 do_at y c t b None = try_do y c t b (y.effect b c.tree)
 
-abbrev pub undo_at : (y : System) → Log y → ℕ → List (Entry y) → Log y × Answer
+abbrev pub undo_at : (y : System) → Log y → ℕ → List (StackEntry y) → Log y × Answer
 undo_at y c t [] = (c, Refused NothingToUndo)
-undo_at y c t (Mark u uh n ∷ l) = (c, Refused NothingToUndo)
+undo_at y c t (Savepoint u uh n ∷ l) = (c, Refused NothingToUndo)
 undo_at y c t (Did u uh b a d f ∷ l) = (pop y c t (Did u uh b a d f), (Gave Done))
 
 abbrev pub others : (y : System) → Log y → ℕ → List ℕ
@@ -69,20 +69,20 @@ others y c t = numbers (without t c.opens)
 abbrev pub ended : (y : System) → Log y → ℕ → Log y
 ended y c t = record c { opens = without t c.opens }
 
-abbrev pub held : {y : System} → List (ℕ × ℕ) → List (Entry y) → ℕ
+abbrev pub held : {y : System} → List (ℕ × ℕ) → List (StackEntry y) → ℕ
 held [] log = 0
 held (p ∷ ps) log = length (only p.1 log) + held ps log
 
--- too few places are left
+-- too few slots are left
 abbrev pub is_full_log : {y : System} → Log y → Bool
-is_full_log c = nat_lt (c.limit - 2) (length c.history + (length c.opens + held c.opens c.entries))
+is_full_log c = nat_lt (c.bound - 2) (length c.history + (length c.opens + held c.opens c.entries))
 
 abbrev pub log_step_in : (y : System) → Log y → ℕ → ℕ → Request y → Log y × Answer
 log_step_in y c s t Begin = (c, Refused AlreadyOpen)
 log_step_in y c s t (Do b) = cond (is_full_log c) (c, Refused Full) (do_at y c t b (log_holder y (y.footprint b c.tree) c.entries (others y c t)))
 log_step_in y c s t (Save n) =
-    cond (has_mark n (only t c.entries)) (c, Refused NameTaken) (cond (is_full_log c) (c, Refused Full) (record c { entries = Mark t c.history n ∷ c.entries }, Saved))
-log_step_in y c s t (Back n) = cond (has_mark n (only t c.entries)) (log_back_to y t n (only t c.entries) c 0) (c, Refused NoSavepoint)
+    cond (stack_has_savepoint n (only t c.entries)) (c, Refused NameTaken) (cond (is_full_log c) (c, Refused Full) (record c { entries = Savepoint t c.history n ∷ c.entries }, Saved))
+log_step_in y c s t (Back n) = cond (stack_has_savepoint n (only t c.entries)) (log_back_to y t n (only t c.entries) c 0) (c, Refused NoSavepoint)
 log_step_in y c s t Undo = undo_at y c t (only t c.entries)
 log_step_in y c s t Commit =
     (record c { done = only t c.entries ++ c.done; opens = without t c.opens; commits = c.commits + 1 }, Committed (c.commits + 1))

@@ -5,8 +5,8 @@ use Rattle.std.specs.List.{AllByRecursion}
 use Rattle.cg_model.specs.System.{System, Attempt, Refuse, Accept}
 use Rattle.cg_model.specs.History.{Request, Answer, is_recorded}
 use Rattle.cg_model.specs.Opens.{Opens, numbers, among, without}
-use Rattle.cg_model.specs.Reply.{answer_of, command_reply}
-use Rattle.cg_model.specs.Machine.{Entry}
+use Rattle.cg_model.specs.Reply.{attempt_reply, command_reply}
+use Rattle.cg_model.specs.Machine.{StackEntry}
 use Rattle.cg_core_laws.specs.Headline.{OnceEach, AreProper}
 use Rattle.cg_core_laws.proofs.Tests.{or_not}
 use Rattle.cg_core_laws.proofs.SystemLaws.{SystemLaws, Alike}
@@ -24,7 +24,7 @@ abbrev pub own_state : (y : System) → y.State → Log y → ℕ → y.State
 own_state y o c t = state y o (only t c.entries ++ c.done)
 
 -- the newest entry of t is taken off, and what is asked of the rest holds then; its inverse fits
-abbrev pub LogTakenOff : (y : System) → Log y → ℕ → List (Entry y) → (Log y → Type 0) → Type 0
+abbrev pub LogTakenOff : (y : System) → Log y → ℕ → List (StackEntry y) → (Log y → Type 0) → Type 0
 LogTakenOff y c t [] Rest = Rest c
 LogTakenOff y c t (x ∷ l) Rest = FitsNow y x c.tree × Rest (pop y c t x)
 
@@ -36,7 +36,7 @@ LogUnwinds y c (t ∷ ts) = y.Sound c.tree × LogTakenOff y c t (only t c.entrie
 
 module _ (y : System) (laws : SystemLaws y) (o : y.State) where
   -- every order of these transactions
-  pub in_order : (ps : Opens) (a done : List (Entry y)) (os : List ℕ) → ((t : ℕ) → among t (numbers ps) ≡ true → Apart y t a) → Same y o (keep (closed ps) a) done → OnceEach os → ((u : ℕ) → among u os ≡ among u (numbers ps)) → Same y o a (blocks os a done)
+  pub in_order : (ps : Opens) (a done : List (StackEntry y)) (os : List ℕ) → ((t : ℕ) → among t (numbers ps) ≡ true → Apart y t a) → Same y o (keep (closed ps) a) done → OnceEach os → ((u : ℕ) → among u os ≡ among u (numbers ps)) → Same y o a (blocks os a done)
   in_order ps a done os apart h once same =
       let all = keep_all y (λ u. among u os || closed ps u) a (passes (λ u. among u os || closed ps u) a (λ u. or_not (among u os) (among u (numbers ps)) (same u))) in
       subst (λ l. Same y o l (blocks os a done)) all (canon y laws o (closed ps) a done os once (λ t m. let n : among t (numbers ps) ≡ true = sym (same t) ∙ m in (ap not n, apart t n)) h)
@@ -77,16 +77,16 @@ module _ (y : System) (laws : SystemLaws y) (o : y.State) where
       let q = own_blocks y laws o b (y.footprint b c.tree) (others y c t) c.entries (only t c.entries ++ c.done) p.0 (holder_none y (y.footprint b c.tree) c.entries (others y c t) e) (ap (y.footprint b) p.1) in
       subst (λ s. Alike y b s (own_state y o c t)) p.1 q
 
-  try_answer : (c : Log y) (t : ℕ) (b : y.Command) (r : Attempt y.Change) → (try_do y c t b r).1 ≡ answer_of r
+  try_answer : (c : Log y) (t : ℕ) (b : y.Command) (r : Attempt y.Change) → (try_do y c t b r).1 ≡ attempt_reply r
   try_answer c t b (Accept a d) = refl
   try_answer c t b (Refuse e) = refl
 
   -- the answer to a command is Busy, or that of the transaction's own tree
   pub do_answer : (c : Log y) (t : ℕ) (b : y.Command) (h : Option ℕ) → log_holder y (y.footprint b c.tree) c.entries (others y c t) ≡ h → Kept y o c → among t (numbers c.opens) ≡ true → (do_at y c t b h).1 ≡ command_reply h (y.effect b (own_state y o c t))
   do_answer c t b (Some u) e k m = refl
-  do_answer c t b None e k m = try_answer c t b (y.effect b c.tree) ∙ ap answer_of (own_answer c t b k m e).0
+  do_answer c t b None e k m = try_answer c t b (y.effect b c.tree) ∙ ap attempt_reply (own_answer c t b k m e).0
 
-  taken_off : (c : Log y) (t : ℕ) (l : List (Entry y)) (Rest : Log y → Type 0) → only t c.entries ≡ l → Kept y o c → among t (numbers c.opens) ≡ true → Rest c → ((x : Entry y) → Kept y o (pop y c t x) → Rest (pop y c t x)) → LogTakenOff y c t l Rest
+  taken_off : (c : Log y) (t : ℕ) (l : List (StackEntry y)) (Rest : Log y → Type 0) → only t c.entries ≡ l → Kept y o c → among t (numbers c.opens) ≡ true → Rest c → ((x : StackEntry y) → Kept y o (pop y c t x) → Rest (pop y c t x)) → LogTakenOff y c t l Rest
   taken_off c t [] Rest e k m stays goes = stays
   taken_off c t (x ∷ l) Rest e k m stays goes = let p = pop_kept y laws o c t x l k m e in (p.0, goes x p.1)
 
@@ -105,5 +105,5 @@ module _ (y : System) (laws : SystemLaws y) (o : y.State) where
   note_answer s r h p = noted_answer (is_recorded r p.1) s r h p
 
   -- it is kept by every list of steps of proper commands from the opening tree
-  pub after_steps : (lim : ℕ) (ps : List (ℕ × Request y)) → AreProper ps → Kept y o (log_steps y (log_opened y o lim) ps)
-  after_steps lim ps proper = run_kept y laws o ps (log_opened y o lim) proper (start_kept y laws o lim)
+  pub after_steps : (bound : ℕ) (ps : List (ℕ × Request y)) → AreProper ps → Kept y o (log_steps y (log_opened y o bound) ps)
+  after_steps bound ps proper = run_kept y laws o ps (log_opened y o bound) proper (start_kept y laws o bound)

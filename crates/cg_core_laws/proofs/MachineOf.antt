@@ -2,14 +2,14 @@
 use Rattle.std.specs.Prelude.{List, [], ◌∷◌}
 use Rattle.cg_model.specs.System.{System}
 use Rattle.cg_model.specs.Opens.{Opens}
-use Rattle.cg_model.specs.Machine.{Entry, Transaction, Machine}
+use Rattle.cg_model.specs.Machine.{StackEntry, Transaction, Machine}
 use Rattle.cg_core_laws.proofs.Trace.{only}
 use Rattle.cg_core_laws.proofs.Log.{Log}
 
 -- the open transactions with their stacks
-abbrev pub stacks_of : {y : System} → Opens → List (Entry y) → List (Transaction y)
+abbrev pub stacks_of : {y : System} → Opens → List (StackEntry y) → List (Transaction y)
 stacks_of [] log = []
 stacks_of (p ∷ ps) log = record { session = p.0; number = p.1; stack = only p.1 log } ∷ stacks_of ps log
 
 abbrev pub machine_of : {y : System} → Log y → Machine y
-machine_of c = record { tree = c.tree; transactions = stacks_of c.opens c.entries; begun = c.begun; commits = c.commits; history = c.history; limit = c.limit }
+machine_of c = record { tree = c.tree; transactions = stacks_of c.opens c.entries; begun = c.begun; commits = c.commits; history = c.history; bound = c.bound }

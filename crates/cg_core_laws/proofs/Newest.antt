@@ -4,9 +4,9 @@ use Rattle.std.proofs.lemmas.Bool.{eq-eqb}
 use Rattle.cg_model.specs.System.{System, Outcome}
 use Rattle.cg_model.specs.History.{History}
 use Rattle.cg_model.specs.Opens.{numbers, among, opens}
-use Rattle.cg_model.specs.Live.{Item, Ran, Marked, Items, joined_if}
+use Rattle.cg_model.specs.Live.{Item, Ran, AtSavepoint, Items, joined_if}
 use Rattle.cg_model.specs.Run.{run_items}
-use Rattle.cg_model.specs.Machine.{Entry, Did, Mark}
+use Rattle.cg_model.specs.Machine.{StackEntry, Did, Savepoint}
 use Rattle.cg_core_laws.specs.Reordered.{of_those, ClashesWithNone, NewestClashesWithNone}
 use Rattle.cg_core_laws.proofs.SystemLaws.{SystemLaws}
 use Rattle.cg_core_laws.proofs.Trace.{owner, Free, FreeOf, state, Runs, only, Apart}
@@ -23,16 +23,16 @@ not_joined false x l e = (refl, e)
 
 module _ (y : System) where
   -- the log is parted where its items are
-  record Parted (log : List (Entry y)) (newer : Items y) (x : Item y) (older : Items y) : Type 0 where
-    later : List (Entry y)
-    entry : Entry y
-    earlier : List (Entry y)
+  record Parted (log : List (StackEntry y)) (newer : Items y) (x : Item y) (older : Items y) : Type 0 where
+    later : List (StackEntry y)
+    entry : StackEntry y
+    earlier : List (StackEntry y)
     whole : log ≡ later ++ entry ∷ earlier
     later_is : as_items later ≡ newer
     entry_is : as_item entry ≡ x
     earlier_is : as_items earlier ≡ older
 
-  parted : (log : List (Entry y)) (newer : Items y) (x : Item y) (older : Items y) → as_items log ≡ newer ++ x ∷ older → Parted log newer x older
+  parted : (log : List (StackEntry y)) (newer : Items y) (x : Item y) (older : Items y) → as_items log ≡ newer ++ x ∷ older → Parted log newer x older
   parted [] [] x older e = absurd (cc e)
   parted [] (z ∷ newer) x older e = absurd (cc e)
   parted (w ∷ log) [] x older e = record { later = []; entry = w; earlier = log; whole = refl; later_is = refl; entry_is = cc e; earlier_is = cc e }
@@ -50,16 +50,16 @@ module _ (y : System) where
         earlier_is = p.earlier_is;
       }
 
-  free_found : (t : ℕ) (z x : Entry y) (later earlier : List (Entry y)) → owner x ≡ t → FreeOf y z (only t (later ++ x ∷ earlier)) → Free y z x
+  free_found : (t : ℕ) (z x : StackEntry y) (later earlier : List (StackEntry y)) → owner x ≡ t → FreeOf y z (only t (later ++ x ∷ earlier)) → Free y z x
   free_found t z x [] earlier own h = (subst (λ b. FreeOf y z (joined_if b x (only t earlier))) (eq-eqb (owner x) t own) h).0
   free_found t z x (w ∷ later) earlier own h = free_found t z x later earlier own (free_tail y z w (only t (later ++ x ∷ earlier)) (owner w == t) h)
 
 module _ (y : System) (laws : SystemLaws y) (o : y.State) where
-  module _ (t : ℕ) (th : History y) (c : y.Command) (a : Outcome) (d : y.Change) (f : y.Footprint) (earlier : List (Entry y)) where
-    abbrev taken : Entry y
+  module _ (t : ℕ) (th : History y) (c : y.Command) (a : Outcome) (d : y.Change) (f : y.Footprint) (earlier : List (StackEntry y)) where
+    abbrev taken : StackEntry y
     taken = Did t th c a d f
 
-    clash_free : (u : ℕ) (uh : History y) (b : y.Command) (q : Outcome) (e : y.Change) (g : y.Footprint) (later : List (Entry y)) → Runs y o (Did u uh b q e g ∷ (later ++ taken ∷ earlier)) → Free y (Did u uh b q e g) taken
+    clash_free : (u : ℕ) (uh : History y) (b : y.Command) (q : Outcome) (e : y.Change) (g : y.Footprint) (later : List (StackEntry y)) → Runs y o (Did u uh b q e g ∷ (later ++ taken ∷ earlier)) → Free y (Did u uh b q e g) taken
         → y.clashes (y.footprint c (run_items y o (as_items earlier))) (y.footprint b (run_items y o (as_items later ++ as_item taken ∷ as_items earlier))) ≡ false
     clash_free u uh b q e g later runs free =
         let before : Runs y o (taken ∷ earlier) = runs_below y laws o later (taken ∷ earlier) runs.1 in
@@ -68,22 +68,22 @@ module _ (y : System) (laws : SystemLaws y) (o : y.State) where
         let other : y.footprint b (run_items y o (as_items later ++ as_item taken ∷ as_items earlier)) ≡ g = ap (y.footprint b) all ∙ runs.0.2 in
         (λ i. y.clashes (own i) (other i)) ∙ laws.clash_sym f g ∙ free
 
-    none : (later : List (Entry y)) → Runs y o (later ++ taken ∷ earlier) → Apart y t (later ++ taken ∷ earlier) → of_those (λ u. u == t) (as_items later) ≡ [] → ClashesWithNone y o (y.footprint c (run_items y o (as_items earlier))) (as_items later) (as_item taken ∷ as_items earlier)
+    none : (later : List (StackEntry y)) → Runs y o (later ++ taken ∷ earlier) → Apart y t (later ++ taken ∷ earlier) → of_those (λ u. u == t) (as_items later) ≡ [] → ClashesWithNone y o (y.footprint c (run_items y o (as_items earlier))) (as_items later) (as_item taken ∷ as_items earlier)
     none [] runs apart newest = tt
     none (Did u uh b q e g ∷ later) runs apart newest =
         let (other, rest) = not_joined (u == t) (Ran u uh b q) (of_those (λ v. v == t) (as_items later)) newest in
         let free : Free y (Did u uh b q e g) taken = free_found y t (Did u uh b q e g) taken later earlier refl (apart.0 other) in
         (clash_free u uh b q e g later runs free, none later runs.1 apart.1 rest)
-    none (Mark u uh n ∷ later) runs apart newest = none later runs.1 apart.1 (not_joined (u == t) (Marked u uh n) (of_those (λ v. v == t) (as_items later)) newest).1
+    none (Savepoint u uh n ∷ later) runs apart newest = none later runs.1 apart.1 (not_joined (u == t) (AtSavepoint u uh n) (of_those (λ v. v == t) (as_items later)) newest).1
 
   -- what is to be shown of the item between, where the transactions that pass are open
   abbrev Shown : (ℕ → Type 0) → Items y → Items y → Item y → Type 0
   Shown IsOpen newer older (Ran t h c a) = IsOpen t → of_those (λ u. u == t) newer ≡ [] → ClashesWithNone y o (y.footprint c (run_items y o older)) newer (Ran t h c a ∷ older)
-  Shown IsOpen newer older (Marked t h n) = Unit {0}
+  Shown IsOpen newer older (AtSavepoint t h n) = Unit {0}
 
-  shown : (IsOpen : ℕ → Type 0) (later : List (Entry y)) (x : Entry y) (earlier : List (Entry y)) → Runs y o (later ++ x ∷ earlier) → ((t : ℕ) → IsOpen t → Apart y t (later ++ x ∷ earlier)) → Shown IsOpen (as_items later) (as_items earlier) (as_item x)
+  shown : (IsOpen : ℕ → Type 0) (later : List (StackEntry y)) (x : StackEntry y) (earlier : List (StackEntry y)) → Runs y o (later ++ x ∷ earlier) → ((t : ℕ) → IsOpen t → Apart y t (later ++ x ∷ earlier)) → Shown IsOpen (as_items later) (as_items earlier) (as_item x)
   shown IsOpen later (Did t th c a d f) earlier runs apart = λ is_open newest. none t th c a d f earlier later runs (apart t is_open) newest
-  shown IsOpen later (Mark t th n) earlier runs apart = tt
+  shown IsOpen later (Savepoint t th n) earlier runs apart = tt
 
   pub newest_clashes_with_none : (c : Log y) → Kept y o c → Tied y o c → NewestClashesWithNone y o (machine_of c)
   newest_clashes_with_none c k d newer older t h b a is_open e newest =

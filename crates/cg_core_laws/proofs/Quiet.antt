@@ -6,26 +6,26 @@ use Rattle.cg_model.specs.System.{System, Attempt, Refuse, Accept}
 use Rattle.cg_model.specs.History.{Request, Begin, Do, Save, Back, Undo, Commit, Abort, Answer, WentBack, Refused, is_recorded}
 use Rattle.cg_model.specs.Opens.{transaction_in}
 use Rattle.cg_model.specs.Reply.{has_savepoint, commands_above}
-use Rattle.cg_model.specs.Machine.{Entry, Did, Mark, has_mark}
+use Rattle.cg_model.specs.Machine.{StackEntry, Did, Savepoint, stack_has_savepoint}
 use Rattle.cg_core_laws.proofs.Trace.{only}
 use Rattle.cg_core_laws.proofs.Log.{Log, log_holder, pop, log_back_to, try_do, do_at, undo_at, others, is_full_log, log_step_in, log_step_out, log_step_at, log_noted, log_step}
 use Rattle.cg_core_laws.proofs.Tied.{as_items}
 
 module _ (y : System) where
-  pub mark_is : (n : Name) (l : List (Entry y)) → has_mark n l ≡ has_savepoint n (as_items l)
-  mark_is n [] = refl
-  mark_is n (Did t h c a d f ∷ l) = mark_is n l
-  mark_is n (Mark t h m ∷ l) = ap (λ b. same_name m n || b) (mark_is n l)
+  pub savepoint_is : (n : Name) (l : List (StackEntry y)) → stack_has_savepoint n l ≡ has_savepoint n (as_items l)
+  savepoint_is n [] = refl
+  savepoint_is n (Did t h c a d f ∷ l) = savepoint_is n l
+  savepoint_is n (Savepoint t h m ∷ l) = ap (λ b. same_name m n || b) (savepoint_is n l)
 
   back_cond : (b m : Bool) (k j : ℕ) (c : Log y) (p : Log y × Answer) → (b || m) ≡ true → (m ≡ true → p.1 ≡ WentBack j) → (cond b (c, WentBack k) p).1 ≡ WentBack (cond b k j)
   back_cond true m k j c p e i = refl
   back_cond false m k j c p e i = i e
 
-  pub back_answer : (t : ℕ) (n : Name) (l : List (Entry y)) (c : Log y) (k : ℕ) → has_mark n l ≡ true → (log_back_to y t n l c k).1 ≡ WentBack (commands_above n k (as_items l))
+  pub back_answer : (t : ℕ) (n : Name) (l : List (StackEntry y)) (c : Log y) (k : ℕ) → stack_has_savepoint n l ≡ true → (log_back_to y t n l c k).1 ≡ WentBack (commands_above n k (as_items l))
   back_answer t n [] c k e = absurd (cc e)
   back_answer t n (Did u h b a d f ∷ l) c k e = back_answer t n l (pop y c t (Did u h b a d f)) (k + 1) e
-  back_answer t n (Mark u h m ∷ l) c k e =
-      back_cond (same_name m n) (has_mark n l) k (commands_above n k (as_items l)) _ _ e (back_answer t n l (pop y c t (Mark u h m)) k)
+  back_answer t n (Savepoint u h m ∷ l) c k e =
+      back_cond (same_name m n) (stack_has_savepoint n l) k (commands_above n k (as_items l)) _ _ e (back_answer t n l (pop y c t (Savepoint u h m)) k)
 
   -- where the answer isn't recorded, the machine is as it was
   abbrev Quiet : Request y → Log y → Log y × Answer → Type 0
@@ -43,12 +43,12 @@ module _ (y : System) where
   quiet_do c t b (Some u) e = refl
   quiet_do c t b None e = quiet_try c t b (y.effect b c.tree) e
 
-  quiet_undo : (c : Log y) (t : ℕ) (l : List (Entry y)) → Quiet Undo c (undo_at y c t l)
+  quiet_undo : (c : Log y) (t : ℕ) (l : List (StackEntry y)) → Quiet Undo c (undo_at y c t l)
   quiet_undo c t [] e = refl
-  quiet_undo c t (Mark u h n ∷ l) e = refl
+  quiet_undo c t (Savepoint u h n ∷ l) e = refl
   quiet_undo c t (Did u h b a d f ∷ l) e = absurd (cc e)
 
-  quiet_back : (c : Log y) (t : ℕ) (n : Name) (b : Bool) → has_mark n (only t c.entries) ≡ b → Quiet (Back n) c (cond b (log_back_to y t n (only t c.entries) c 0) (c, Refused NoSavepoint))
+  quiet_back : (c : Log y) (t : ℕ) (n : Name) (b : Bool) → stack_has_savepoint n (only t c.entries) ≡ b → Quiet (Back n) c (cond b (log_back_to y t n (only t c.entries) c 0) (c, Refused NoSavepoint))
   quiet_back c t n true h e =
       let a = ap (λ (x : Answer). is_recorded {y = y} (Back n) x) (back_answer t n (only t c.entries) c 0 h) in absurd (cc (a, e))
   quiet_back c t n false h e = refl
@@ -57,8 +57,8 @@ module _ (y : System) where
   quiet_in c s t Begin e = refl
   quiet_in c s t (Do b) e = quiet_cond (Do b) c (is_full_log c) _ _ (λ i. refl) (quiet_do c t b (log_holder y (y.footprint b c.tree) c.entries (others y c t))) e
   quiet_in c s t (Save n) e =
-      quiet_cond (Save n) c (has_mark n (only t c.entries)) _ _ (λ i. refl) (quiet_cond (Save n) c (is_full_log c) _ _ (λ i. refl) (λ i. absurd (cc i))) e
-  quiet_in c s t (Back n) e = quiet_back c t n (has_mark n (only t c.entries)) refl e
+      quiet_cond (Save n) c (stack_has_savepoint n (only t c.entries)) _ _ (λ i. refl) (quiet_cond (Save n) c (is_full_log c) _ _ (λ i. refl) (λ i. absurd (cc i))) e
+  quiet_in c s t (Back n) e = quiet_back c t n (stack_has_savepoint n (only t c.entries)) refl e
   quiet_in c s t Undo e = quiet_undo c t (only t c.entries) e
   quiet_in c s t Commit e = absurd (cc e)
   quiet_in c s t Abort e = absurd (cc e)

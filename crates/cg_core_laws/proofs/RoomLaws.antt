@@ -10,7 +10,7 @@ use Rattle.cg_model.specs.Cgroups.{cgroups}
 use Rattle.cg_model.specs.Opens.{among, numbers, opens}
 use Rattle.cg_model.specs.Live.{Item, Items, live}
 use Rattle.cg_model.specs.Machine.{Machine}
-use Rattle.cg_model.specs.Room.{changes_group, inverse, holds, has_entry, RoomFor}
+use Rattle.cg_model.specs.Room.{changes_group, inverse, needs_group, has_entry, RoomFor}
 use Rattle.cg_core_laws.specs.Unwind.{with_items}
 use Rattle.cg_core_laws.specs.Headline.{IsSerial}
 use Rattle.cg_core_laws.specs.Room.{HasRoom, RoomyTakenOff, RoomyUnwinds, RoomKept, CommitSweeps}
@@ -18,18 +18,18 @@ use Rattle.cg_core_laws.proofs.GroupChanges.{there_undone, room_from}
 use Rattle.cg_core_laws.proofs.Stages.{Stage, stage_sound, newest, next_stage}
 use Rattle.cg_core_laws.proofs.Sweeping.{sweeps}
 
--- what one of these transactions holds, they hold
-held_by : (f : ℕ → Bool) (t : ℕ) (ts : List ℕ) → among t ts ≡ true → f t ≡ true → list_any f ts ≡ true
-held_by f t [] m e = m
-held_by f t (u ∷ us) m e = elim (or_cases _ _ m) [
+-- what one of these transactions needs, some of them needs
+needed_by : (f : ℕ → Bool) (t : ℕ) (ts : List ℕ) → among t ts ≡ true → f t ≡ true → list_any f ts ≡ true
+needed_by f t [] m e = m
+needed_by f t (u ∷ us) m e = elim (or_cases _ _ m) [
   | inl k ↦ or_left _ _ (subst (λ v. f v ≡ true) (eqb-true t u k) e)
-  | inr k ↦ or_right _ _ (held_by f t us k e)
+  | inr k ↦ or_right _ _ (needed_by f t us k e)
 ]
 
--- what they hold alike each by each, they hold alike
-held_alike : (f g : ℕ → Bool) → ((u : ℕ) → f u ≡ g u) → (ts : List ℕ) → list_any f ts ≡ list_any g ts
-held_alike f g same [] = refl
-held_alike f g same (t ∷ ts) = λ i. same t i || held_alike f g same ts i
+-- what each needs alike, they need alike
+needed_alike : (f g : ℕ → Bool) → ((u : ℕ) → f u ≡ g u) → (ts : List ℕ) → list_any f ts ≡ list_any g ts
+needed_alike f g same [] = refl
+needed_alike f g same (t ∷ ts) = λ i. same t i || needed_alike f g same ts i
 
 module _ (O : Tree) (ts : List ℕ) (stacks : ℕ → Items cgroups) (T : Tree) where
   abbrev entry : Path → Bool
@@ -39,12 +39,12 @@ module _ (O : Tree) (ts : List ℕ) (stacks : ℕ → Items cgroups) (T : Tree) 
     abbrev before : Tree
     before = undone (inverse O x) T
 
-    -- what the newest item doesn't change is held without it as before
-    holds_without : (p : Path) → changes_group p (inverse O x) ≡ false → (u : ℕ) → holds O p (stacks u) ≡ holds O p (with_items t l stacks u)
-    holds_without p e u = at (u == t) refl
+    -- what the newest item doesn't change is needed without it as before
+    needed_without : (p : Path) → changes_group p (inverse O x) ≡ false → (u : ℕ) → needs_group O p (stacks u) ≡ needs_group O p (with_items t l stacks u)
+    needed_without p e u = at (u == t) refl
       where
-        at : (b : Bool) → (u == t) ≡ b → holds O p (stacks u) ≡ holds O p (cond b l (stacks u))
-        at true k = ap (λ v. holds O p (stacks v)) (eqb-true u t k) ∙ ap (holds O p) stack ∙ ap (λ b. b || holds O p l) e
+        at : (b : Bool) → (u == t) ≡ b → needs_group O p (stacks u) ≡ needs_group O p (cond b l (stacks u))
+        at true k = ap (λ v. needs_group O p (stacks v)) (eqb-true u t k) ∙ ap (needs_group O p) stack ∙ ap (λ b. b || needs_group O p l) e
         at false k = refl
 
     -- taking the newest item off frees the entries of the groups that it changes at most
@@ -53,12 +53,12 @@ module _ (O : Tree) (ts : List ℕ) (stacks : ℕ → Items cgroups) (T : Tree) 
       where
         at : (b : Bool) → changes_group p (inverse O x) ≡ b → (has_entry O (with_items t l stacks) ts before p ≡ true) ⊎ (b ≡ true)
         at true e = inr refl
-        at false e = inl ((λ i. there_undone p (inverse O x) T e i || sym (held_alike _ _ (holds_without p e) ts) i) ∙ h)
+        at false e = inl ((λ i. there_undone p (inverse O x) T e i || sym (needed_alike _ _ (needed_without p e) ts) i) ∙ h)
 
     module _ (is_open : among t ts ≡ true) where
-      -- the groups that the newest item changes are held
+      -- the groups that the newest item changes are needed
       own_entry : (p : Path) → changes_group p (inverse O x) ≡ true → entry p ≡ true
-      own_entry p e = or_right _ _ (held_by (λ u. holds O p (stacks u)) t ts is_open (ap (holds O p) stack ∙ or_left _ _ e))
+      own_entry p e = or_right _ _ (needed_by (λ u. needs_group O p (stacks u)) t ts is_open (ap (needs_group O p) stack ∙ or_left _ _ e))
 
       -- the groups that are there before its command have entries
       entry_before : (p : Path) → is_some (group before p) ≡ true → entry p ≡ true

@@ -5,7 +5,7 @@ use Rattle.cg_name.specs.declared.refusal.Refusal.TheVariants.{Full, NoSavepoint
 use Rattle.cg_model.specs.System.{System, Attempt, Refuse, Accept}
 use Rattle.cg_model.specs.History.{Request, Begin, Do, Save, Back, Undo, Commit, Abort, Answer, Begun, Saved, WentBack, Committed, Aborted, Refused, History}
 use Rattle.cg_model.specs.Opens.{Opens, numbers, among, without, transaction_in, opens_after, opens}
-use Rattle.cg_model.specs.Live.{Items, Ran, Marked, live}
+use Rattle.cg_model.specs.Live.{Items, Ran, AtSavepoint, live}
 use Rattle.cg_model.specs.Run.{own_tree}
 use Rattle.cg_model.specs.Reply.{has_savepoint, commands_above, is_full, undo_reply, command_reply, reply_in, reply_at, Legal}
 use Rattle.cg_core_laws.specs.Headline.{OnceEach}
@@ -30,22 +30,22 @@ begun_command (Some u) e = refl
 begun_command None (Refuse r) = refl
 begun_command None (Accept a d) = refl
 
-module _ (y : System) (o : y.State) (limit : ℕ) where
+module _ (y : System) (o : y.State) (bound : ℕ) where
   begun_undo : (l : Items y) → is_begun (undo_reply l) ≡ false
   begun_undo [] = refl
   begun_undo (Ran t h c a ∷ l) = refl
-  begun_undo (Marked t h n ∷ l) = refl
+  begun_undo (AtSavepoint t h n ∷ l) = refl
 
-  begun_in : (h : History y) (t : ℕ) (r : Request y) → is_begun (reply_in y o limit h t r) ≡ false
+  begun_in : (h : History y) (t : ℕ) (r : Request y) → is_begun (reply_in y o bound h t r) ≡ false
   begun_in h t Begin = refl
-  begun_in h t (Do c) = begun_cond (is_full limit h) (Refused Full) _ refl (begun_command _ (y.effect c (own_tree y o t h)))
-  begun_in h t (Save n) = begun_cond (has_savepoint n (live t h)) (Refused NameTaken) _ refl (begun_cond (is_full limit h) (Refused Full) Saved refl refl)
+  begun_in h t (Do c) = begun_cond (is_full bound h) (Refused Full) _ refl (begun_command _ (y.effect c (own_tree y o t h)))
+  begun_in h t (Save n) = begun_cond (has_savepoint n (live t h)) (Refused NameTaken) _ refl (begun_cond (is_full bound h) (Refused Full) Saved refl refl)
   begun_in h t (Back n) = begun_cond (has_savepoint n (live t h)) (WentBack (commands_above n 0 (live t h))) (Refused NoSavepoint) refl refl
   begun_in h t Undo = begun_undo (live t h)
   begun_in h t Commit = refl
   begun_in h t Abort = refl
 
-  begun_alone : (h : History y) (r : Request y) (u : ℕ) (found : Option ℕ) → reply_at y o limit h found r ≡ Begun u → found ≡ None
+  begun_alone : (h : History y) (r : Request y) (u : ℕ) (found : Option ℕ) → reply_at y o bound h found r ≡ Begun u → found ≡ None
   begun_alone h r u None e = refl
   begun_alone h r u (Some t) e = absurd (true≢false (sym (ap is_begun e) ∙ begun_in h t r))
 
@@ -82,7 +82,7 @@ module _ (y : System) (o : y.State) (limit : ℕ) where
   once_after (Aborted u) s t ps h alone = once_without t ps h
   once_after _ s t ps h alone = h
 
-  pub once_each : (h : History y) → Legal y o limit h → OnceEach (sessions (opens h))
+  pub once_each : (h : History y) → Legal y o bound h → OnceEach (sessions (opens h))
   once_each [] legal = tt
   once_each (r ∷ h) (recorded, answered, named, defined, legal) =
       once_after r.answer r.session r.transaction (opens h) (once_each h legal) (λ u e. begun_alone h r.request u (transaction_in r.session (opens h)) (sym answered ∙ e))

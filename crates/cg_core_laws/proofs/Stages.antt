@@ -9,7 +9,7 @@ use Rattle.cg_model.specs.Change.{Change, undone, Fits}
 use Rattle.cg_model.specs.Command.{Effect}
 use Rattle.cg_model.specs.Cgroups.{cgroups}
 use Rattle.cg_model.specs.Opens.{among}
-use Rattle.cg_model.specs.Live.{Item, Ran, Marked, Items}
+use Rattle.cg_model.specs.Live.{Item, Ran, AtSavepoint, Items}
 use Rattle.cg_model.specs.Room.{changes_of, inverse}
 use Rattle.cg_core_laws.specs.Unwind.{with_items, TakenOff, Unwinds}
 use Rattle.cg_core_laws.proofs.GroupChanges.{AllTell, tells}
@@ -32,7 +32,7 @@ module _ (O : Tree) (stacks : ℕ → Items cgroups) (T : Tree) where
   taken_off u (Ran v h c a) l Rest (d, accepted, last, rest) =
       let tell : AllTell (undone d T) d = subst (λ (e : Effect). AllTell (undone d T) (changes_of e)) last.again (tells (undone d T) c) in
       subst (λ cs. IsNewest cs T × Rest (with_items u l stacks) (undone cs T)) (sym (ap changes_of accepted)) (record { tell = tell; fits = last.fits }, rest)
-  taken_off u (Marked v h n) l Rest rest = (record { tell = tt; fits = tt }, rest)
+  taken_off u (AtSavepoint v h n) l Rest rest = (record { tell = tt; fits = tt }, rest)
 
 module _ {O : Tree} {ts : List ℕ} {stacks : ℕ → Items cgroups} {T : Tree} (stage : Stage O ts stacks T) where
   pub stage_sound : Sound T

@@ -7,7 +7,7 @@ use Rattle.cg_model.specs.History.{Request, Begin, Do, Save, Back, Undo, Commit,
 use Rattle.cg_model.specs.Opens.{Opens, numbers, among, without, transaction_in}
 use Rattle.cg_model.specs.Live.{joined_if}
 use Rattle.cg_model.specs.Reply.{found_or}
-use Rattle.cg_model.specs.Machine.{Entry, Did, Mark, hits, has_mark}
+use Rattle.cg_model.specs.Machine.{StackEntry, Did, Savepoint, hits, stack_has_savepoint}
 use Rattle.cg_core_laws.specs.Headline.{AreProper}
 use Rattle.cg_core_laws.proofs.Tests.{or_first, or_second, false_if, or_cases, other_next, eq_sym}
 use Rattle.cg_core_laws.proofs.SystemLaws.{SystemLaws}
@@ -20,10 +20,10 @@ use Rattle.cg_core_laws.proofs.Open.{closed, among_without, still_open, closed_w
 use Rattle.cg_core_laws.proofs.Kept.{OwnersUpTo, Kept, stop_kept, pop_kept, pop_all_kept, back_kept}
 
 -- no hit, no clash
-clear_from : (y : System) (f : y.Footprint) (l : List (Entry y)) → hits y f l ≡ false → Clear y f l
+clear_from : (y : System) (f : y.Footprint) (l : List (StackEntry y)) → hits y f l ≡ false → Clear y f l
 clear_from y f [] h = tt
 clear_from y f (Did t th c a d g ∷ l) h = (or_first (y.clashes g f) (hits y f l) h, clear_from y f l (or_second (y.clashes g f) (hits y f l) h))
-clear_from y f (Mark t th n ∷ l) h = clear_from y f l h
+clear_from y f (Savepoint t th n ∷ l) h = clear_from y f l h
 
 none_found : (o : Option ℕ) (b : Bool) (v : ℕ) → found_or o b v ≡ None → (o ≡ None) × (b ≡ false)
 none_found (Some w) b v e = absurd (cc e)
@@ -31,7 +31,7 @@ none_found None true v e = absurd (cc e)
 none_found None false v e = (refl, refl)
 
 -- where no transaction is named, none holds what clashes
-pub holder_none : (y : System) (f : y.Footprint) (log : List (Entry y)) (os : List ℕ) → log_holder y f log os ≡ None → (u : ℕ) → among u os ≡ true → Clear y f (only u log)
+pub holder_none : (y : System) (f : y.Footprint) (log : List (StackEntry y)) (os : List ℕ) → log_holder y f log os ≡ None → (u : ℕ) → among u os ≡ true → Clear y f (only u log)
 holder_none y f log [] e u m = absurd (cc m)
 holder_none y f log (v ∷ os) e u m =
     let p = none_found (log_holder y f log os) (hits y f (only v log)) v e in
@@ -39,25 +39,25 @@ holder_none y f log (v ∷ os) e u m =
     (λ k. subst (λ w. Clear y f (only w log)) (sym (eqb-true u v k)) (clear_from y f (only v log) p.1))
     (λ k. holder_none y f log os p.0 u k)
 
-pub passes : {y : System} (p : ℕ → Bool) (a : List (Entry y)) → ((u : ℕ) → p u ≡ true) → Passes p a
+pub passes : {y : System} (p : ℕ → Bool) (a : List (StackEntry y)) → ((u : ℕ) → p u ≡ true) → Passes p a
 passes p [] h = tt
 passes p (x ∷ a) h = (h (owner x), passes p a h)
 
 -- a number above those of the owners
 module _ (y : System) (n : ℕ) where
-  pub none_of_next : (a : List (Entry y)) → OwnersUpTo n a → only (n + 1) a ≡ []
+  pub none_of_next : (a : List (StackEntry y)) → OwnersUpTo n a → only (n + 1) a ≡ []
   none_of_next [] h = refl
   none_of_next (x ∷ a) h = rw (other_next (owner x) n h.0) (none_of_next a h.1)
 
-  apart_next : (a : List (Entry y)) → OwnersUpTo n a → Apart y (n + 1) a
+  apart_next : (a : List (StackEntry y)) → OwnersUpTo n a → Apart y (n + 1) a
   apart_next [] h = tt
   apart_next (x ∷ a) h = ((λ k. subst (FreeOf y x) (sym (none_of_next a h.1)) tt), apart_next a h.1)
 
-  owners_next : (a : List (Entry y)) → OwnersUpTo n a → OwnersUpTo (n + 1) a
+  owners_next : (a : List (StackEntry y)) → OwnersUpTo n a → OwnersUpTo (n + 1) a
   owners_next [] h = tt
   owners_next (x ∷ a) h = (omega (arith, h.0), owners_next a h.1)
 
-  agree_next : (s : ℕ) (ps : Opens) (a : List (Entry y)) → OwnersUpTo n a → Agree (closed ((s, n + 1) ∷ ps)) (closed ps) a
+  agree_next : (s : ℕ) (ps : Opens) (a : List (StackEntry y)) → OwnersUpTo n a → Agree (closed ((s, n + 1) ∷ ps)) (closed ps) a
   agree_next s ps [] h = tt
   agree_next s ps (x ∷ a) h = (rw (other_next (owner x) n h.0), agree_next s ps a h.1)
 
@@ -77,7 +77,7 @@ module _ (y : System) (laws : SystemLaws y) (o : y.State) where
     once = (false_if (among (c.begun + 1) (numbers c.opens)) (λ e. let q = k.range (c.begun + 1) e in omega arith), k.once);
   }
 
-  push_kept : (c : Log y) (x : Entry y) → Kept y o c → among (owner x) (numbers c.opens) ≡ true → Accepts y c.tree x → ((u : ℕ) → among u (numbers c.opens) ≡ true → (owner x == u) ≡ false → FreeOf y x (only u c.entries)) → Kept y o (record c { tree = moved y x c.tree; entries = x ∷ c.entries })
+  push_kept : (c : Log y) (x : StackEntry y) → Kept y o c → among (owner x) (numbers c.opens) ≡ true → Accepts y c.tree x → ((u : ℕ) → among u (numbers c.opens) ≡ true → (owner x == u) ≡ false → FreeOf y x (only u c.entries)) → Kept y o (record c { tree = moved y x c.tree; entries = x ∷ c.entries })
   push_kept c x k m accepts free = record {
     runs = (subst (λ s. Accepts y s x) k.tree accepts, k.runs);
     tree = ap (moved y x) k.tree;
@@ -122,9 +122,9 @@ module _ (y : System) (laws : SystemLaws y) (o : y.State) where
       let p = pop_all_kept y laws o t (only t c.entries) c k m refl in
       ended_kept (pop_all y t (only t c.entries) c) t p.0 (subst (λ ps. among t (numbers ps) ≡ true) (sym p.2) m) p.1
 
-  undo_kept : (c : Log y) (t : ℕ) (l : List (Entry y)) → Kept y o c → among t (numbers c.opens) ≡ true → only t c.entries ≡ l → Kept y o (undo_at y c t l).0
+  undo_kept : (c : Log y) (t : ℕ) (l : List (StackEntry y)) → Kept y o c → among t (numbers c.opens) ≡ true → only t c.entries ≡ l → Kept y o (undo_at y c t l).0
   undo_kept c t [] k m e = k
-  undo_kept c t (Mark u uh n ∷ l) k m e = k
+  undo_kept c t (Savepoint u uh n ∷ l) k m e = k
   undo_kept c t (Did u uh b a d f ∷ l) k m e = (pop_kept y laws o c t (Did u uh b a d f) l k m e).1
 
   not_own : (c : Log y) (t u : ℕ) → among u (numbers c.opens) ≡ true → (t == u) ≡ false → among u (others y c t) ≡ true
@@ -139,20 +139,20 @@ module _ (y : System) (laws : SystemLaws y) (o : y.State) where
   do_kept c t b (Some u) proper e k m = k
   do_kept c t b None proper e k m = try_kept c t b (y.effect b c.tree) proper refl k m (holder_none y (y.footprint b c.tree) c.entries (others y c t) e)
 
-  mark_free : (t : ℕ) (th : History y) (n : Name) (l : List (Entry y)) → FreeOf y (Mark t th n) l
-  mark_free t th n [] = tt
-  mark_free t th n (Did u uh b a d f ∷ l) = (tt, mark_free t th n l)
-  mark_free t th n (Mark u uh i ∷ l) = (tt, mark_free t th n l)
+  savepoint_free : (t : ℕ) (th : History y) (n : Name) (l : List (StackEntry y)) → FreeOf y (Savepoint t th n) l
+  savepoint_free t th n [] = tt
+  savepoint_free t th n (Did u uh b a d f ∷ l) = (tt, savepoint_free t th n l)
+  savepoint_free t th n (Savepoint u uh i ∷ l) = (tt, savepoint_free t th n l)
 
   in_kept : (c : Log y) (s t : ℕ) (r : Request y) → IsProperRequest r → Kept y o c → among t (numbers c.opens) ≡ true → Kept y o (log_step_in y c s t r).0
   in_kept c s t Begin proper k m = k
   in_kept c s t (Do b) proper k m =
       stop_kept y laws o (is_full_log c) _ _ k (do_kept c t b (log_holder y (y.footprint b c.tree) c.entries (others y c t)) proper refl k m)
   in_kept c s t (Save n) proper k m =
-      stop_kept y laws o (has_mark n (only t c.entries)) _ _ k
-      (stop_kept y laws o (is_full_log c) _ _ k (push_kept c (Mark t c.history n) k m tt (λ u i f. mark_free t c.history n (only u c.entries))))
+      stop_kept y laws o (stack_has_savepoint n (only t c.entries)) _ _ k
+      (stop_kept y laws o (is_full_log c) _ _ k (push_kept c (Savepoint t c.history n) k m tt (λ u i f. savepoint_free t c.history n (only u c.entries))))
   in_kept c s t (Back n) proper k m =
-      stop_kept y laws o (has_mark n (only t c.entries)) _ _ (back_kept y laws o t n (only t c.entries) c 0 k m refl) k
+      stop_kept y laws o (stack_has_savepoint n (only t c.entries)) _ _ (back_kept y laws o t n (only t c.entries) c 0 k m refl) k
   in_kept c s t Undo proper k m = undo_kept c t (only t c.entries) k m refl
   in_kept c s t Commit proper k m = commit_kept c s t k m
   in_kept c s t Abort proper k m = abort_kept c s t k m
@@ -183,8 +183,8 @@ module _ (y : System) (laws : SystemLaws y) (o : y.State) where
   run_kept [] c proper k = k
   run_kept (p ∷ ps) c proper k = run_kept ps (log_step y c p.0 p.1).0 proper.1 (step_kept c p.0 p.1 proper.0 k)
 
-  pub start_kept : (lim : ℕ) → Kept y o (log_opened y o lim)
-  start_kept lim = record {
+  pub start_kept : (bound : ℕ) → Kept y o (log_opened y o bound)
+  start_kept bound = record {
     runs = tt;
     tree = refl;
     apart = λ u m. tt;

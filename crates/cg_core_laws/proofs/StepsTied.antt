@@ -8,14 +8,14 @@ use Rattle.cg_model.specs.History.{Request, Begin, Do, Save, Back, Undo, Commit,
 use Rattle.cg_model.specs.Opens.{without, transaction_in, opens_after, begins_after, commits_after}
 use Rattle.cg_model.specs.Live.{Items, below, live_after, live, survivors, committed_after}
 use Rattle.cg_model.specs.Reply.{commands_above}
-use Rattle.cg_model.specs.Machine.{Entry, Did, Mark, has_mark}
+use Rattle.cg_model.specs.Machine.{StackEntry, Did, Savepoint, stack_has_savepoint}
 use Rattle.cg_core_laws.proofs.SystemLaws.{SystemLaws}
 use Rattle.cg_core_laws.proofs.Trace.{only}
 use Rattle.cg_core_laws.proofs.Log.{Log, log_opened, log_holder, pop, pop_all, log_back_to, try_do, do_at, undo_at, others, is_full_log, log_step_in, log_step_out, log_step_at, log_noted, log_step}
 use Rattle.cg_core_laws.proofs.Cuts.{cut_own}
 use Rattle.cg_core_laws.proofs.Kept.{Kept}
 use Rattle.cg_core_laws.proofs.Unchanged.{unchanged_all, unchanged_back}
-use Rattle.cg_core_laws.proofs.Tied.{as_items, EntriesTrue, Tied, Midway, as_items_append, midway_start, midway_pop, midway_end, push_end}
+use Rattle.cg_core_laws.proofs.Tied.{as_items, StackEntriesTrue, Tied, Midway, as_items_append, midway_start, midway_pop, midway_end, push_end}
 use Rattle.cg_core_laws.proofs.Quiet.{back_answer}
 use Rattle.cg_core_laws.proofs.Replies.{tree_is}
 
@@ -24,7 +24,7 @@ module _ (y : System) (laws : SystemLaws y) (o : y.State) where
   record_of s t r a = record { session = s; transaction = t; request = r; answer = a }
 
   -- one more record, where each part is what the record makes of it
-  tie : (c c' : Log y) (s t : ℕ) (r : Request y) (a : Answer) → Tied y o c → c'.history ≡ c.history → ((u : ℕ) → as_items (only u c'.entries) ≡ live u (record_of s t r a ∷ c.history)) × (as_items c'.entries ≡ survivors (record_of s t r a ∷ c.history)) → EntriesTrue y o c'.entries → c'.opens ≡ opens_after a s t c.opens → c'.begun ≡ begins_after a c.begun → c'.commits ≡ commits_after a c.commits → as_items c'.done ≡ committed_after a (live t c.history) (as_items c.done) → Tied y o (record c' { history = record_of s t r a ∷ c'.history })
+  tie : (c c' : Log y) (s t : ℕ) (r : Request y) (a : Answer) → Tied y o c → c'.history ≡ c.history → ((u : ℕ) → as_items (only u c'.entries) ≡ live u (record_of s t r a ∷ c.history)) × (as_items c'.entries ≡ survivors (record_of s t r a ∷ c.history)) → StackEntriesTrue y o c'.entries → c'.opens ≡ opens_after a s t c.opens → c'.begun ≡ begins_after a c.begun → c'.commits ≡ commits_after a c.commits → as_items c'.done ≡ committed_after a (live t c.history) (as_items c.done) → Tied y o (record c' { history = record_of s t r a ∷ c'.history })
   tie c c' s t r a d history both entries_true opens begun commits done =
       let new : Tied y o (record c' { history = record_of s t r a ∷ c.history }) = record {
         lives = both.0;
@@ -65,21 +65,21 @@ module _ (y : System) (laws : SystemLaws y) (o : y.State) where
   do_tied c s t b (Some u) k d = refused_tied c s t b (Busy (record { 0 = u })) true d
   do_tied c s t b None k d = try_tied c s t b (y.effect b c.tree) refl k d
 
-  save_tied : (c : Log y) (s t : ℕ) (n : Name) → Tied y o c → TiedStep s (Save n) t (record c { entries = Mark t c.history n ∷ c.entries }, Saved)
+  save_tied : (c : Log y) (s t : ℕ) (n : Name) → Tied y o c → TiedStep s (Save n) t (record c { entries = Savepoint t c.history n ∷ c.entries }, Saved)
   save_tied c s t n d =
-      tie c (record c { entries = Mark t c.history n ∷ c.entries }) s t (Save n) Saved d refl (push_end y o (record_of s t (Save n) Saved) c (Mark t c.history n) d refl refl refl (λ l. refl)) d.entries_true refl refl refl refl
+      tie c (record c { entries = Savepoint t c.history n ∷ c.entries }) s t (Save n) Saved d refl (push_end y o (record_of s t (Save n) Saved) c (Savepoint t c.history n) d refl refl refl (λ l. refl)) d.entries_true refl refl refl refl
 
-  midway_as : (c : Log y) (t : ℕ) (l : List (Entry y)) → Tied y o c → only t c.entries ≡ l → Midway y o t c.history c.entries (as_items l)
+  midway_as : (c : Log y) (t : ℕ) (l : List (StackEntry y)) → Tied y o c → only t c.entries ≡ l → Midway y o t c.history c.entries (as_items l)
   midway_as c t l d e = subst (Midway y o t c.history c.entries) (sym (d.lives t) ∙ ap as_items e) (midway_start y o c t d)
 
-  undo_tied : (c : Log y) (s t : ℕ) (l : List (Entry y)) → Tied y o c → only t c.entries ≡ l → TiedStep s Undo t (undo_at y c t l)
+  undo_tied : (c : Log y) (s t : ℕ) (l : List (StackEntry y)) → Tied y o c → only t c.entries ≡ l → TiedStep s Undo t (undo_at y c t l)
   undo_tied c s t [] d m = d
-  undo_tied c s t (Mark u h n ∷ l) d m = d
+  undo_tied c s t (Savepoint u h n ∷ l) d m = d
   undo_tied c s t (Did u h b a x f ∷ l) d m =
       tie_in c (pop y c t (Did u h b a x f)) s t Undo (Gave Done) (as_items l) d refl (midway_pop y o t c.history c.entries (Did u h b a x f) l (as_items l) (midway_as c t _ d m) m) (ap (drop 1) (sym (d.lives t) ∙ ap as_items m)) refl refl refl refl
 
   -- all pops
-  all_midway : (t : ℕ) (h : History y) (l : List (Entry y)) (c : Log y) → Midway y o t h c.entries (as_items l) → only t c.entries ≡ l → Midway y o t h (pop_all y t l c).entries []
+  all_midway : (t : ℕ) (h : History y) (l : List (StackEntry y)) (c : Log y) → Midway y o t h c.entries (as_items l) → only t c.entries ≡ l → Midway y o t h (pop_all y t l c).entries []
   all_midway t h [] c m e = m
   all_midway t h (x ∷ l) c m e = all_midway t h l (pop y c t x) (midway_pop y o t h c.entries x l (as_items l) m e) (cut_own y t x c.entries l e)
 
@@ -87,18 +87,18 @@ module _ (y : System) (laws : SystemLaws y) (o : y.State) where
   back_midway_cond t k h true m c p l r e i j = i
   back_midway_cond t k h false m c p l r e i j = j e
 
-  back_midway : (t : ℕ) (n : Name) (h : History y) (l : List (Entry y)) (c : Log y) (k : ℕ) → Midway y o t h c.entries (as_items l) → only t c.entries ≡ l → has_mark n l ≡ true → Midway y o t h (log_back_to y t n l c k).0.entries (below n (as_items l))
+  back_midway : (t : ℕ) (n : Name) (h : History y) (l : List (StackEntry y)) (c : Log y) (k : ℕ) → Midway y o t h c.entries (as_items l) → only t c.entries ≡ l → stack_has_savepoint n l ≡ true → Midway y o t h (log_back_to y t n l c k).0.entries (below n (as_items l))
   back_midway t n h [] c k m e w = absurd (cc w)
   back_midway t n h (Did u uh b a d f ∷ l) c k m e w =
-      let x : Entry y = Did u uh b a d f in
+      let x : StackEntry y = Did u uh b a d f in
       back_midway t n h l (pop y c t x) (k + 1) (midway_pop y o t h c.entries x l (as_items l) m e) (cut_own y t x c.entries l e) w
-  back_midway t n h (Mark u uh j ∷ l) c k m e w =
-      let x : Entry y = Mark u uh j in
+  back_midway t n h (Savepoint u uh j ∷ l) c k m e w =
+      let x : StackEntry y = Savepoint u uh j in
       let i = midway_pop y o t h c.entries x l (as_items l) m e in
-      back_midway_cond t k h (same_name j n) (has_mark n l) (pop y c t x) _ (as_items l) (below n (as_items l)) w i
+      back_midway_cond t k h (same_name j n) (stack_has_savepoint n l) (pop y c t x) _ (as_items l) (below n (as_items l)) w i
       (λ v. back_midway t n h l (pop y c t x) k i (cut_own y t x c.entries l e) v)
 
-  back_tied : (c : Log y) (s t : ℕ) (n : Name) (b : Bool) → has_mark n (only t c.entries) ≡ b → Tied y o c → TiedStep s (Back n) t (cond b (log_back_to y t n (only t c.entries) c 0) (c, Refused NoSavepoint))
+  back_tied : (c : Log y) (s t : ℕ) (n : Name) (b : Bool) → stack_has_savepoint n (only t c.entries) ≡ b → Tied y o c → TiedStep s (Back n) t (cond b (log_back_to y t n (only t c.entries) c 0) (c, Refused NoSavepoint))
   back_tied c s t n false h d = d
   back_tied c s t n true h d =
       let p = log_back_to y t n (only t c.entries) c 0 in
@@ -117,8 +117,8 @@ module _ (y : System) (laws : SystemLaws y) (o : y.State) where
   in_tied c s t Begin k d = d
   in_tied c s t (Do b) k d = cond_tied s t (Do b) (is_full_log c) (c, Refused Full) _ d (do_tied c s t b (log_holder y (y.footprint b c.tree) c.entries (others y c t)) k d)
   in_tied c s t (Save n) k d =
-      cond_tied s t (Save n) (has_mark n (only t c.entries)) (c, Refused NameTaken) _ d (cond_tied s t (Save n) (is_full_log c) (c, Refused Full) _ d (save_tied c s t n d))
-  in_tied c s t (Back n) k d = back_tied c s t n (has_mark n (only t c.entries)) refl d
+      cond_tied s t (Save n) (stack_has_savepoint n (only t c.entries)) (c, Refused NameTaken) _ d (cond_tied s t (Save n) (is_full_log c) (c, Refused Full) _ d (save_tied c s t n d))
+  in_tied c s t (Back n) k d = back_tied c s t n (stack_has_savepoint n (only t c.entries)) refl d
   in_tied c s t Undo k d = undo_tied c s t (only t c.entries) d refl
   in_tied c s t Commit k d =
       tie_in c (log_step_in y c s t Commit).0 s t Commit (Committed (c.commits + 1)) (live t c.history) d refl (midway_start y o c t d) refl refl refl refl (as_items_append y o (only t c.entries) c.done ∙ ap (λ l. l ++ as_items c.done) (d.lives t))
@@ -148,5 +148,5 @@ module _ (y : System) (laws : SystemLaws y) (o : y.State) where
   pub step_tied : (c : Log y) (s : ℕ) (r : Request y) → Kept y o c → Tied y o c → Tied y o (log_step y c s r).0
   step_tied c s r k d = at_tied c s r (transaction_in s c.opens) k d
 
-  pub start_tied : (limit : ℕ) → Tied y o (log_opened y o limit)
-  start_tied limit = record { lives = λ u. refl; stands = refl; opens = refl; begun = refl; commits = refl; done = refl; entries_true = tt }
+  pub start_tied : (bound : ℕ) → Tied y o (log_opened y o bound)
+  start_tied bound = record { lives = λ u. refl; stands = refl; opens = refl; begun = refl; commits = refl; done = refl; entries_true = tt }

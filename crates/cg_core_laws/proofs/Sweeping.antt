@@ -1,4 +1,4 @@
--- At every stage what is neither a group nor held may be swept, lower paths first; also where each stack is cut to a part
+-- At every stage what is neither a group nor needed may be swept, lower paths first; also where each stack is cut to a part
 -- that is newer than the rest.
 use Rattle.std.proofs.Common.{◌≡◌, ℕ, Bool, true, false, not, List, [], ◌∷◌, ◌++◌, inl, inr, ◌⊎◌, refl, sym, ap, subst, Option, Some, None}
 use Rattle.std.specs.Option.{is_some}
@@ -10,11 +10,11 @@ use Rattle.cg_model.specs.Tree.{Tree, group}
 use Rattle.cg_model.specs.Cgroups.{cgroups}
 use Rattle.cg_model.specs.Opens.{among}
 use Rattle.cg_model.specs.Live.{Items}
-use Rattle.cg_model.specs.Room.{holds, is_held, has_entry, MaySweep, swept}
+use Rattle.cg_model.specs.Room.{needs_group, is_needed, has_entry, MaySweep, swept}
 use Rattle.cg_core_laws.specs.Room.{is_listed, MaySweepTheRest}
 use Rattle.cg_model_laws.proofs.Paths.{same_path-is, same_path-from}
 use Rattle.cg_core_laws.proofs.Stages.{Stage, stage_sound}
-use Rattle.cg_core_laws.proofs.Holding.{IsAbsent, absent_below, holds_above}
+use Rattle.cg_core_laws.proofs.Holding.{IsAbsent, absent_below, needs_above}
 
 not_above_itself : (p : Path) → is_above p p ≡ false
 not_above_itself [] = refl
@@ -32,29 +32,29 @@ listed P q (p ∷ ps) h e = elim (or_cases _ _ e) [
   | inr later ↦ listed P q ps h.1 later
 ]
 
--- where each of these transactions that holds the one path holds the other, some that hold the one hold the other
-held_with : (f g : ℕ → Bool) (ts us : List ℕ) → ((u : ℕ) → among u ts ≡ true → f u ≡ true → g u ≡ true) → ((u : ℕ) → among u us ≡ true → among u ts ≡ true) → list_any f us ≡ true → list_any g us ≡ true
-held_with f g ts [] h within e = e
-held_with f g ts (u ∷ us) h within e = elim (or_cases _ _ e) [
+-- where each of these transactions that needs the one path needs the other, some that need the one need the other
+needed_with : (f g : ℕ → Bool) (ts us : List ℕ) → ((u : ℕ) → among u ts ≡ true → f u ≡ true → g u ≡ true) → ((u : ℕ) → among u us ≡ true → among u ts ≡ true) → list_any f us ≡ true → list_any g us ≡ true
+needed_with f g ts [] h within e = e
+needed_with f g ts (u ∷ us) h within e = elim (or_cases _ _ e) [
   | inl here ↦ or_left _ _ (h u (within u (or_left _ _ (eq-eqb u u refl))) here)
-  | inr later ↦ or_right _ _ (held_with f g ts us h (λ v m. within v (or_right _ _ m)) later)
+  | inr later ↦ or_right _ _ (needed_with f g ts us h (λ v m. within v (or_right _ _ m)) later)
 ]
 
 module _ {O : Tree} {ts : List ℕ} {stacks : ℕ → Items cgroups} {T : Tree} (stage : Stage O ts stacks T) (newer : ℕ → Items cgroups) (whole : (u : ℕ) → (older : Items cgroups) × (stacks u ≡ newer u ++ older)) where
   abbrev entry : Path → Bool
   entry p = has_entry O newer ts T p
 
-  -- where a path is held, so are the absent ones above it
-  held_above : (p q : Path) → is_above p q ≡ true → IsAbsent T p → is_held O newer ts q ≡ true → is_held O newer ts p ≡ true
-  held_above p q above absent =
-      held_with (λ u. holds O q (newer u)) (λ u. holds O p (newer u)) ts ts
-      (λ u is_open h. let (older, e) = whole u in holds_above u is_open p q above (newer u) older stage e absent h) (λ u m. m)
+  -- where a path is needed, so are the absent ones above it
+  needed_above : (p q : Path) → is_above p q ≡ true → IsAbsent T p → is_needed O newer ts q ≡ true → is_needed O newer ts p ≡ true
+  needed_above p q above absent =
+      needed_with (λ u. needs_group O q (newer u)) (λ u. needs_group O p (newer u)) ts ts
+      (λ u is_open h. let (older, e) = whole u in needs_above u is_open p q above (newer u) older stage e absent h) (λ u m. m)
 
   -- below a path without an entry no path has one
   none_below : (p q : Path) → is_above p q ≡ true → entry p ≡ false → entry q ≡ false
   none_below p q above e =
       let (absent, free) = or_parts _ _ e in
-      or_from _ _ (absent_below T (stage_sound stage) p q above absent) (false_from_ne_true _ (λ held. both_ways _ free (held_above p q above absent held)))
+      or_from _ _ (absent_below T (stage_sound stage) p q above absent) (false_from_ne_true _ (λ needed. both_ways _ free (needed_above p q above absent needed)))
 
   -- the first of those that are left may be swept
   may_sweep : (E : Path → Bool) (p : Path) (ps : List Path) → ((q : Path) → E q ≡ true → (entry q ≡ true) ⊎ (is_listed q (p ∷ ps) ≡ true)) → entry p ≡ false → AllByRecursion (λ q. is_above p q ≡ false) ps → MaySweep T E p

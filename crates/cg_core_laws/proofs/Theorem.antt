@@ -1,5 +1,5 @@
 -- What holds of any system that keeps the laws, after any list of proper requests of any sessions from a sound state,
--- whatever the limit.
+-- whatever the bound.
 use Rattle.std.proofs.Common.{◌≡◌, ℕ, ◌≤◌, List, Some, subst}
 use Rattle.cg_model.specs.System.{System}
 use Rattle.cg_model.specs.History.{Request}
@@ -9,7 +9,7 @@ use Rattle.cg_core_laws.specs.Headline.{AreProper, IsSerial, IsFaithful, GoesBac
 use Rattle.cg_core_laws.specs.Stacks.{IsOfHistory}
 use Rattle.cg_core_laws.proofs.SystemLaws.{SystemLaws}
 use Rattle.cg_core_laws.proofs.Log.{Log, log_opened, log_steps}
-use Rattle.cg_core_laws.proofs.Unchanged.{limit_steps}
+use Rattle.cg_core_laws.proofs.Unchanged.{bound_steps}
 use Rattle.cg_core_laws.proofs.Least.{falling}
 use Rattle.cg_core_laws.proofs.Room.{HasRoom, rooms}
 use Rattle.cg_core_laws.proofs.Invariant.{Invariant, invariant}
@@ -19,25 +19,25 @@ use Rattle.cg_core_laws.proofs.OfHistory as tied
 use Rattle.cg_core_laws.proofs.Faithful.{serial_from, faithful_from}
 use Rattle.cg_core_laws.proofs.GoingBack.{goes_back, others_stay, commits_stay}
 
-module _ (y : System) (laws : SystemLaws y) (o : y.State) (sound : y.Sound o) (limit : ℕ) (rs : List (ℕ × Request y)) (proper : AreProper rs) where
+module _ (y : System) (laws : SystemLaws y) (o : y.State) (sound : y.Sound o) (bound : ℕ) (rs : List (ℕ × Request y)) (proper : AreProper rs) where
   -- the machine, and that with a log
   abbrev after : Machine y
-  after = steps y (opened y o limit) rs
+  after = steps y (opened y o bound) rs
 
   abbrev log_after : Log y
-  log_after = log_steps y (log_opened y o limit) rs
+  log_after = log_steps y (log_opened y o bound) rs
 
   -- what the invariant gives of a machine with a log
   pub by_log : (P : Machine y → Type 0) → ((c : Log y) → Invariant y o c → P (machine_of c)) → P after
-  by_log P h = subst P (steps_are y laws o limit rs proper) (h log_after (invariant y laws o limit rs proper))
+  by_log P h = subst P (steps_are y laws o bound rs proper) (h log_after (invariant y laws o bound rs proper))
 
   pub serial : IsSerial y o after
   serial = by_log (IsSerial y o) (serial_from y laws o sound)
 
   pub faithful : IsFaithful y o after
   faithful =
-      let room : 2 ≤ log_after.limit → HasRoom log_after = λ le. rooms y laws o limit rs proper (subst (λ n. 2 ≤ n) (limit_steps y rs (log_opened y o limit)) le) in
-      subst (IsFaithful y o) (steps_are y laws o limit rs proper) (faithful_from y laws o log_after (invariant y laws o limit rs proper) (falling y o limit rs) room)
+      let room : 2 ≤ log_after.bound → HasRoom log_after = λ le. rooms y laws o bound rs proper (subst (λ n. 2 ≤ n) (bound_steps y rs (log_opened y o bound)) le) in
+      subst (IsFaithful y o) (steps_are y laws o bound rs proper) (faithful_from y laws o log_after (invariant y laws o bound rs proper) (falling y o bound rs) room)
 
   pub of_history : IsOfHistory y o after
   of_history = by_log (IsOfHistory y o) (λ c i. tied.of_history y o c i.tied)

@@ -7,7 +7,7 @@ use Rattle.cg_model.specs.History.{Request, Back, Undo, Commit, Abort, Gave, Wen
 use Rattle.cg_model.specs.Opens.{numbers, among, without, transaction_in, opens, commits}
 use Rattle.cg_model.specs.Live.{Ran, Items, below, live, survivors, committed, stacked}
 use Rattle.cg_model.specs.Run.{run_items, Accepted, tree_of, committed_through}
-use Rattle.cg_model.specs.Reply.{clashes_with, holder, has_savepoint, commands_above, places, reply, Legal}
+use Rattle.cg_model.specs.Reply.{clashes_with, holder, has_savepoint, commands_above, slots, reply, Legal}
 use Rattle.cg_model.specs.Machine.{Machine, step}
 use Rattle.cg_core_laws.specs.Unwind.{Unwinds}
 
@@ -46,18 +46,18 @@ pub record IsSerial (y : System) (o : y.State) (m : Machine y) : Type 0 where
 
 -- the history, and the answers to come
 pub record IsFaithful (y : System) (o : y.State) (m : Machine y) : Type 0 where
-  pub legal : Legal y o m.limit m.history
+  pub legal : Legal y o m.bound m.history
   -- each answer is the reply that the history gives
-  pub replies : (s : ℕ) (r : Request y) → (step y m s r).1 ≡ reply y o m.limit m.history s r
+  pub replies : (s : ℕ) (r : Request y) → (step y m s r).1 ≡ reply y o m.bound m.history s r
   -- one record exactly where the answer is recorded, and else nothing changes
   pub recorded : (s : ℕ) (r : Request y) → is_recorded r (step y m s r).1 ≡ true → (step y m s r).0.history ≡ record { session = s; transaction = named_in (transaction_in s (opens m.history)) (step y m s r).1; request = r; answer = (step y m s r).1 } ∷ m.history
   pub unrecorded : (s : ℕ) (r : Request y) → is_recorded r (step y m s r).1 ≡ false → (step y m s r).0 ≡ m
   -- the transaction that Busy names is the least other open one whose footprint clashes, and Busy is not answered without one
   pub busy : (t : ℕ) (f : y.Footprint) → IsLeastHolder y o f m.history (numbers (without t (opens m.history))) (holder y o f m.history (numbers (without t (opens m.history))))
-  -- the records and the reserved places are within the limit, so that whatever ends or goes back has its place
-  pub room : 2 ≤ m.limit → places m.history ≤ m.limit
+  -- the records and the reserved slots are within the bound, so that whatever ends or goes back has its slot
+  pub room : 2 ≤ m.bound → slots m.history ≤ m.bound
 
--- going back: it is never refused, whatever the limit, and takes off exactly its own items
+-- going back: it is never refused, whatever the bound, and takes off exactly its own items
 pub record GoesBack (y : System) (m : Machine y) (s t : ℕ) : Type 0 where
   pub undo : (h : History y) (c : y.Command) (a : Outcome) (l : Items y) → live t m.history ≡ Ran t h c a ∷ l → ((step y m s Undo).1 ≡ Gave Done) × (live t (step y m s Undo).0.history ≡ l)
   pub back : (n : Name) → has_savepoint n (live t m.history) ≡ true → ((step y m s (Back n)).1 ≡ WentBack (commands_above n 0 (live t m.history))) × (live t (step y m s (Back n)).0.history ≡ below n (live t m.history))

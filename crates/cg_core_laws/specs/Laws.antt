@@ -21,9 +21,9 @@ use Rattle.cg_core_laws.specs.Ends.{EndsAll}
 use Rattle.cg_core_laws.specs.Reordered.{DropsOut, NewestClashesWithNone, PulledToTheFront}
 use Rattle.cg_core_laws.specs.Headline.{AreProper, IsSerial, IsFaithful, GoesBack, OthersStay, CommitsStay}
 
--- what holds after every list of steps of any sessions, interleaved in any way, from any sound tree, whatever the limit
+-- what holds after every list of steps of any sessions, interleaved in any way, from any sound tree, whatever the bound
 abbrev pub AfterAnySteps : (Tree → Machine cgroups → Type 0) → Type 0
-AfterAnySteps P = (opening : Tree) (limit : ℕ) (requests : List (ℕ × Request cgroups)) → Sound opening → AreProper requests → P opening (steps cgroups (opened cgroups opening limit) requests)
+AfterAnySteps P = (opening : Tree) (bound : ℕ) (requests : List (ℕ × Request cgroups)) → Sound opening → AreProper requests → P opening (steps cgroups (opened cgroups opening bound) requests)
 
 abbrev pub Serial : Type 0
 Serial = AfterAnySteps (λ opening m. IsSerial cgroups opening m)
@@ -34,9 +34,9 @@ Faithful = AfterAnySteps (λ opening m. IsFaithful cgroups opening m)
 abbrev pub OfHistory : Type 0
 OfHistory = AfterAnySteps (λ opening m. IsOfHistory cgroups opening m)
 
--- the limit stays that of the opening
-abbrev pub LimitKept : Type 0
-LimitKept = (opening : Tree) (limit : ℕ) (requests : List (ℕ × Request cgroups)) → AreProper requests → (steps cgroups (opened cgroups opening limit) requests).limit ≡ limit
+-- the bound stays that of the opening
+abbrev pub BoundKept : Type 0
+BoundKept = (opening : Tree) (bound : ℕ) (requests : List (ℕ × Request cgroups)) → AreProper requests → (steps cgroups (opened cgroups opening bound) requests).bound ≡ bound
 
 abbrev pub GoingBack : Type 0
 GoingBack = AfterAnySteps (λ opening m. (s t : ℕ) → transaction_in s (opens m.history) ≡ Some t → GoesBack cgroups m s t)
@@ -56,7 +56,7 @@ pub record IsLeastInTheWay (opening : Tree) (m : Machine cgroups) (t : ℕ) (c :
 -- Busy is answered exactly where a transaction is in the way and no earlier refusal applies: the session has a transaction,
 -- and the history isn't full
 abbrev pub BusyExactly : Type 0
-BusyExactly = AfterAnySteps (λ opening m. (s t : ℕ) → transaction_in s (opens m.history) ≡ Some t → is_full m.limit m.history ≡ false → (c : Command) (u : ℕ)
+BusyExactly = AfterAnySteps (λ opening m. (s t : ℕ) → transaction_in s (opens m.history) ≡ Some t → is_full m.bound m.history ≡ false → (c : Command) (u : ℕ)
     → ((step cgroups m s (Do c)).1 ≡ Refused (Busy (record { 0 = u }))) ↔ IsLeastInTheWay opening m t c u)
 
 -- no key that a live command changed touches a key that a live command of another open transaction changed

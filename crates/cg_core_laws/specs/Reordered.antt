@@ -3,7 +3,7 @@ use Rattle.std.specs.Prelude.{◌≡◌, ℕ, ◌==◌, ◌&&◌, not, Bool, tru
 use Rattle.cg_model.specs.System.{System, Outcome, Accept}
 use Rattle.cg_model.specs.History.{History}
 use Rattle.cg_model.specs.Opens.{numbers, among, opens}
-use Rattle.cg_model.specs.Live.{Item, Ran, Marked, Items, joined_if, survivors, committed, stacked}
+use Rattle.cg_model.specs.Live.{Item, Ran, AtSavepoint, Items, joined_if, survivors, committed, stacked}
 use Rattle.cg_model.specs.Run.{run_items, Accepted}
 use Rattle.cg_model.specs.Machine.{Machine}
 use Rattle.cg_core_laws.specs.Headline.{OnceEach, AreOpen}
@@ -11,7 +11,7 @@ use Rattle.cg_core_laws.specs.Headline.{OnceEach, AreOpen}
 -- the transaction whose item it is
 abbrev pub transaction_of : {y : System} → Item y → ℕ
 transaction_of (Ran t h c a) = t
-transaction_of (Marked t h n) = t
+transaction_of (AtSavepoint t h n) = t
 
 -- the items of the transactions that pass
 abbrev pub of_those : {y : System} → (ℕ → Bool) → Items y → Items y
@@ -24,7 +24,7 @@ of_those p (x ∷ l) = joined_if (p (transaction_of x)) x (of_those p l)
 abbrev pub ClashesWithNone : (y : System) → y.State → y.Footprint → Items y → Items y → Type 0
 ClashesWithNone y o f [] older = Unit {0}
 ClashesWithNone y o f (Ran t h c a ∷ newer) older = (y.clashes f (y.footprint c (run_items y o (newer ++ older))) ≡ false) × ClashesWithNone y o f newer older
-ClashesWithNone y o f (Marked t h n ∷ newer) older = ClashesWithNone y o f newer older
+ClashesWithNone y o f (AtSavepoint t h n ∷ newer) older = ClashesWithNone y o f newer older
 
 -- without an item whose change is d, between the newer ones and the older
 pub record IsTakenOut (y : System) (o : y.State) (newer : Items y) (x : Item y) (older : Items y) (d : y.Change) : Type 0 where

@@ -20,7 +20,7 @@ abbrev pub LowerFirst : List Path → Type 0
 LowerFirst [] = Unit {0}
 LowerFirst (p ∷ ps) = AllByRecursion (λ q. is_above p q ≡ false) ps × LowerFirst ps
 
--- what is neither a group nor held may be swept, lower paths first, however many such entries there are
+-- what is neither a group nor needed may be swept, lower paths first, however many such entries there are
 abbrev pub MaySweepTheRest : Tree → (ℕ → Items cgroups) → List ℕ → Tree → Type 0
 MaySweepTheRest O stacks ts T = (E : Path → Bool) (ps : List Path)
     → ((p : Path) → E p ≡ true → (has_entry O stacks ts T p ≡ true) ⊎ (is_listed p ps ≡ true))
@@ -29,7 +29,7 @@ MaySweepTheRest O stacks ts T = (E : Path → Bool) (ps : List Path)
     → Sweeps T E ps
 
 -- the newest inverse of each open transaction has room; taking it off frees the entries of its own groups at most; and what
--- is neither a group nor held may be swept
+-- is neither a group nor needed may be swept
 pub record HasRoom (O : Tree) (stacks : ℕ → Items cgroups) (ts : List ℕ) (T : Tree) : Type 0 where
   pub turn : (t : ℕ) (x : Item cgroups) (l : Items cgroups) → among t ts ≡ true → stacks t ≡ x ∷ l → RoomFor (has_entry O stacks ts T) (inverse O x)
   pub freed : (t : ℕ) (x : Item cgroups) (l : Items cgroups) → among t ts ≡ true → stacks t ≡ x ∷ l → (p : Path) → has_entry O stacks ts T p ≡ true
@@ -50,7 +50,7 @@ RoomyUnwinds O ts stacks T (u ∷ us) = HasRoom O stacks ts T × RoomyTakenOff O
 abbrev pub RoomKept : Tree → Machine cgroups → Type 0
 RoomKept O m = (us : List ℕ) → AreOpen us m.history → RoomyUnwinds O (numbers (opens m.history)) (λ t. live t m.history) m.tree us
 
--- a commit drains its stack from the oldest item: what the remaining items and the other transactions don't hold may be
+-- a commit drains its stack from the oldest item: what the remaining items and the other transactions don't need may be
 -- swept at every stage
 abbrev pub CommitSweeps : Tree → Machine cgroups → Type 0
 CommitSweeps O m = (t : ℕ) (newer older : Items cgroups) → among t (numbers (opens m.history)) ≡ true → live t m.history ≡ newer ++ older

@@ -1,7 +1,7 @@
 -- Unwinding open transactions by their newest items, in any interleaving.
 use Rattle.std.specs.Prelude.{◌≡◌, ℕ, ◌==◌, cond, List, [], ◌∷◌}
 use Rattle.cg_model.specs.System.{System, Outcome, Accept}
-use Rattle.cg_model.specs.Live.{Ran, Marked, Items}
+use Rattle.cg_model.specs.Live.{Ran, AtSavepoint, Items}
 use Rattle.cg_model.specs.Run.{tree_of}
 
 -- the stacks of transactions, where t's is l
@@ -20,7 +20,7 @@ pub record IsLast (y : System) (c : y.Command) (a : Outcome) (d : y.Change) (s :
 abbrev pub TakenOff : (y : System) → y.State → (ℕ → Items y) → y.State → ℕ → Items y → ((ℕ → Items y) → y.State → Type 0) → Type 0
 TakenOff y o stacks s t [] Rest = Rest stacks s
 TakenOff y o stacks s t (Ran u h c a ∷ l) Rest = (d : y.Change) × (y.effect c (tree_of y o h) ≡ Accept a d) × IsLast y c a d s × Rest (with_items t l stacks) (y.undone d s)
-TakenOff y o stacks s t (Marked u h n ∷ l) Rest = Rest (with_items t l stacks) s
+TakenOff y o stacks s t (AtSavepoint u h n ∷ l) Rest = Rest (with_items t l stacks) s
 
 -- the transactions of a list are unwound in this order, each time by the newest item: every state is sound, and every
 -- inverse fits when its turn comes

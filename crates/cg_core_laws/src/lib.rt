@@ -3,7 +3,7 @@
 #![tactic(auto)]
 
 ghost use Rattle.cg_core_laws.specs.Scripts.{CommittedScripts, CommitTrees, TreesOfScripts};
-ghost use Rattle.cg_core_laws.specs.Laws.{AnswersAreSteps, BusyExactly, CommitsKept, Drop, Faithful, Front, GoingBack, KeysOfOthersApart, LimitKept, NewestDrop, OfHistory, OthersUntouched, Roomy, SchedulesEnd, Serial, Sweeping};
+ghost use Rattle.cg_core_laws.specs.Laws.{AnswersAreSteps, BoundKept, BusyExactly, CommitsKept, Drop, Faithful, Front, GoingBack, KeysOfOthersApart, NewestDrop, OfHistory, OthersUntouched, Roomy, SchedulesEnd, Serial, Sweeping};
 
 /// The tree is the opening tree changed by the surviving commands alone; every inverse fits when its turn comes, in
 /// whatever interleaving open transactions are unwound; and the committed transactions in commit order, then each open one
@@ -26,16 +26,16 @@ pub fn open_transactions_are_pulled_to_the_front()
 {}
 
 /// The history is legal, every answer is the one that the history gives, Busy names the least transaction in the way, and
-/// the places that are kept for going back always suffice.
+/// the slots that are reserved for going back always suffice.
 pub fn the_machine_is_faithful_to_its_history()
     ensures { Faithful }
 {}
 
 /// The open transactions, their stacks and the counts are those that the history gives, with the inverse and the footprint
-/// that each command had when it was accepted; and the limit is the opening's.
+/// that each command had when it was accepted; and the bound is the opening's.
 pub fn the_machine_is_that_of_its_history()
     ensures history { OfHistory }
-    ensures limit { LimitKept }
+    ensures bound { BoundKept }
 {}
 
 /// Undo, Back, Abort and Commit are never refused where they have something to do, and take off exactly their own items.

@@ -2,15 +2,15 @@
 -- own choice).
 use Rattle.std.specs.Prelude.{◌≡◌, List, [], ◌∷◌, Option}
 use Rattle.cg_model.specs.Tree.{Tree}
-use Rattle.cg_model.specs.Key.{Key, Held, value_at, put}
+use Rattle.cg_model.specs.Key.{Key, ValueOf, value_at, put}
 
 -- a key, what it held before, and what it holds after
 pub record Change : Type 0 where
   pub key : Key
-  pub before : Option (Held key)
-  pub left : Option (Held key)
+  pub before : Option (ValueOf key)
+  pub left : Option (ValueOf key)
 
-abbrev pub change : (k : Key) → Option (Held k) → Option (Held k) → Change
+abbrev pub change : (k : Key) → Option (ValueOf k) → Option (ValueOf k) → Change
 change k b l = record { key = k; before = b; left = l }
 
 -- the tree after changes

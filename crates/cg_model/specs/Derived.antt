@@ -22,18 +22,18 @@ abbrev pub is_in : Path → Option Path → Bool
 is_in p None = false
 is_in p (Some q) = same_path p q
 
--- a process is in p or in a group below it
-abbrev pub is_below : Path → Option Path → Bool
-is_below p None = false
-is_below p (Some q) = is_prefix p q
+-- a process is in the subtree of p: in p or in a group below it
+abbrev pub is_in_subtree : Path → Option Path → Bool
+is_in_subtree p None = false
+is_in_subtree p (Some q) = is_prefix p q
 
 -- the PIDs of p's own processes, ascending (Core Interface Files: cgroup.procs)
 unfoldable pub processes : Tree → Path → List ℕ
 processes T p = keys (retain T.places (λ k. is_in p (place_of T k)))
 
 -- the PIDs of the processes of p and of all groups below it
-unfoldable pub processes_below : Tree → Path → List ℕ
-processes_below T p = keys (retain T.places (λ k. is_below p (place_of T k)))
+unfoldable pub processes_in_subtree : Tree → Path → List ℕ
+processes_in_subtree T p = keys (retain T.places (λ k. is_in_subtree p (place_of T k)))
 
 -- the controllers that a group has: the root the machine's, another what its parent passes on; none for an absent group
 -- (Controlling Controllers: Top-down Constraint; Core Interface Files: cgroup.controllers)
@@ -59,7 +59,7 @@ is_frozen T p = list_any has_freeze (down_to T p)
 
 -- the group or one below it has a process (Un-populated Notification; Core Interface Files: cgroup.events)
 abbrev pub is_populated : Tree → Path → Bool
-is_populated T p = is_nonempty (processes_below T p)
+is_populated T p = is_nonempty (processes_in_subtree T p)
 
 -- the CPUs of one group, from those of its parent: what it asks for, or all of them where nothing of that is there
 -- (Cpuset Interface Files: cpuset.cpus)

@@ -48,13 +48,14 @@ is_limited (Some s) = is_finite s.max_descendants
 abbrev pub count_of : Path → Option Settings → List Mark
 count_of p s = cond (is_limited s) (Count p ∷ []) []
 
-abbrev pub joined : List (List Mark) → List Mark
-joined [] = []
-joined (f ∷ fs) = f ++ joined fs
+-- the marks of lists, one list after another
+abbrev pub joined_marks : List (List Mark) → List Mark
+joined_marks [] = []
+joined_marks (f ∷ fs) = f ++ joined_marks fs
 
 -- those of all groups above p
 abbrev pub counts : Tree → Path → List Mark
-counts T p = joined (along (λ a. count_of a (group T a)) p)
+counts T p = joined_marks (along (λ a. count_of a (group T a)) p)
 
 abbrev pub old_place : Option Path → List Mark
 old_place None = []

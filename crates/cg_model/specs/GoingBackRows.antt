@@ -1,4 +1,4 @@
--- Worked runs of going back: undo, savepoints, reserved places, and the entries that stay for it.
+-- Worked runs of going back: undo, savepoints, reserved slots, and the entries that stay for it.
 use Rattle.std.specs.Prelude.{◌≡◌, true, false, [], ◌∷◌, ◌++◌, codes}
 use Rattle.cg_name.specs.declared.controller.Controller.TheVariants as controllers
 use Rattle.cg_name.specs.declared.refusal.Refusal.TheVariants.{Full, InUse, NoFile, NoSavepoint, NameTaken, NothingToUndo}
@@ -43,7 +43,7 @@ RemadeGroup =
     ++ by A (Begin ∷ Do (Remove /a/b) ∷ Do (Create /a/b) ∷ Do (Show /a/b files.Cpus) ∷ Abort ∷ Begin ∷ Do (Show /a/b files.Cpus) ∷ Commit ∷ []))).0
     ≡ Begun 1 ∷ done ∷ done ∷ done ∷ done ∷ done ∷ Committed 1 ∷ Begun 2 ∷ done ∷ done ∷ text (codes "\n") ∷ Aborted 2 ∷ Begun 3 ∷ text (codes "2\n") ∷ Committed 2 ∷ []
 
--- a history of four places: one command fits beside Begin, its undoing and the end
+-- a history of four slots: one command fits beside Begin, its undoing and the end
 abbrev pub FullAtFour : Type 0
 FullAtFour =
     play_within 4 w0 ((A, Begin) ∷ (A, Do (Create /a)) ∷ (A, Do (Create /b)) ∷ (A, Undo) ∷ (A, Commit) ∷ (B, Begin) ∷ [])

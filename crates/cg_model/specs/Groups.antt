@@ -25,21 +25,23 @@ abbrev pub exceeds : Limit → ℕ → Bool
 exceeds Max d = false
 exceeds (UpTo most) d = nat_lt most.number d
 
-abbrev pub is_full : Option Settings → ℕ → Bool
-is_full None n = false
-is_full (Some s) n = reaches s.max_descendants n
+-- a group has as many descendants as it may have
+abbrev pub reaches_descendants : Option Settings → ℕ → Bool
+reaches_descendants None n = false
+reaches_descendants (Some s) n = reaches s.max_descendants n
 
-abbrev pub is_too_deep : Option Settings → ℕ → Bool
-is_too_deep None d = false
-is_too_deep (Some s) d = exceeds s.max_depth d
+-- d levels below a group are more than it allows
+abbrev pub exceeds_depth : Option Settings → ℕ → Bool
+exceeds_depth None d = false
+exceeds_depth (Some s) d = exceeds s.max_depth d
 
 -- some group above p has as many descendants as it may have
 abbrev pub too_many : Tree → Path → Bool
-too_many T p = list_any (λ b. b) (along (λ a. is_full (group T a) (descendants T a)) p)
+too_many T p = list_any (λ b. b) (along (λ a. reaches_descendants (group T a) (descendants T a)) p)
 
 -- p is deeper below some group than that group allows
 abbrev pub too_deep : Tree → Path → Bool
-too_deep T p = list_any (λ b. b) (along (λ a. is_too_deep (group T a) (length p - length a)) p)
+too_deep T p = list_any (λ b. b) (along (λ a. exceeds_depth (group T a) (length p - length a)) p)
 
 -- by the path, its parent's settings, its own, and the two limits; of several limits, those on descendants come first (this
 -- project's own choice)

@@ -41,13 +41,13 @@ pub data Key : Type 0 where
   Online : Key
 
 -- what a key holds, where it holds something
-abbrev pub Held : Key → Type 0
-Held (Group p) = Settings
-Held (Place k) = Path
-Held (Part p f) = Setting f
-Held Online = FiniteSet
+abbrev pub ValueOf : Key → Type 0
+ValueOf (Group p) = Settings
+ValueOf (Place k) = Path
+ValueOf (Part p f) = Setting f
+ValueOf Online = FiniteSet
 
-abbrev pub value_at : Tree → (k : Key) → Option (Held k)
+abbrev pub value_at : Tree → (k : Key) → Option (ValueOf k)
 value_at T (Group p) = group T p
 value_at T (Place k) = place_of T k
 value_at T (Part p f) = option_map (setting f) (group T p)
@@ -69,7 +69,7 @@ online_replaced None s = s
 online_replaced (Some v) s = v
 
 -- the tree with a key holding a value; a setting of an absent group and the place of an unknown PID stay absent
-abbrev pub put : (k : Key) → Option (Held k) → Tree → Tree
+abbrev pub put : (k : Key) → Option (ValueOf k) → Tree → Tree
 put (Group p) v T = record T { groups = set_at T.groups p v }
 put (Place k) v T = record T { places = set_at T.places k (replaced (place_of T k) v) }
 put (Part p f) v T = record T { groups = set_at T.groups p (part_replaced f v (group T p)) }

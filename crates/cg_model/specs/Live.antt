@@ -7,7 +7,7 @@ use Rattle.cg_model.specs.History.{Request, Do, Save, Back, Undo, Abort, Answer,
 -- an accepted command with its outcome, or a savepoint; each with its transaction and the records before it
 pub data Item (y : System) : Type 0 where
   Ran : (transaction : ℕ) (before : History y) (command : y.Command) (outcome : Outcome) → Item y
-  Marked : (transaction : ℕ) (before : History y) (name : Name) → Item y
+  AtSavepoint : (transaction : ℕ) (before : History y) (name : Name) → Item y
 
 -- a stack, the newest first
 abbrev pub Items : System → Type 0
@@ -17,12 +17,12 @@ Items y = List (Item y)
 abbrev pub below : {y : System} → Name → Items y → Items y
 below n [] = []
 below n (Ran t h c a ∷ l) = below n l
-below n (Marked t h m ∷ l) = cond (same_name m n) l (below n l)
+below n (AtSavepoint t h m ∷ l) = cond (same_name m n) l (below n l)
 
 -- a transaction's stack after one more of its records
 abbrev pub live_after : {y : System} → Request y → Answer → ℕ → History y → Items y → Items y
 live_after (Do c) (Gave a) t h l = Ran t h c a ∷ l
-live_after (Save n) Saved t h l = Marked t h n ∷ l
+live_after (Save n) Saved t h l = AtSavepoint t h n ∷ l
 live_after Undo (Gave a) t h l = drop 1 l
 live_after (Back n) (WentBack k) t h l = below n l
 live_after Abort (Aborted u) t h l = []
@@ -33,21 +33,21 @@ abbrev pub live : {y : System} → ℕ → History y → Items y
 live t [] = []
 live t (r ∷ h) = cond (r.transaction == t) (live_after r.request r.answer r.transaction h (live t h)) (live t h)
 
--- the place of an item in the history
-abbrev pub place : {y : System} → Item y → ℕ
-place (Ran t h c a) = length h
-place (Marked t h n) = length h
+-- the position of an item in the history: how many records stand before it
+abbrev pub position : {y : System} → Item y → ℕ
+position (Ran t h c a) = length h
+position (AtSavepoint t h n) = length h
 
--- the record at a place is on the stack
+-- the record at a position is on the stack
 abbrev pub stands : {y : System} → ℕ → Items y → Bool
 stands p [] = false
-stands p (x ∷ l) = (place x == p) || stands p l
+stands p (x ∷ l) = (position x == p) || stands p l
 
 -- the item that a record put on a stack
 abbrev pub item_of : {y : System} → Request y → Answer → ℕ → History y → Item y
 item_of (Do c) (Gave a) t h = Ran t h c a
-item_of (Save n) a t h = Marked t h n
-item_of _ _ t h = Marked t h []
+item_of (Save n) a t h = AtSavepoint t h n
+item_of _ _ t h = AtSavepoint t h []
 
 -- x on top of l where the test passes
 abbrev pub joined_if : {A : Type 0} → Bool → A → List A → List A

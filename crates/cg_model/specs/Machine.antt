@@ -8,15 +8,15 @@ use Rattle.cg_model.specs.History.{Request, Begin, Do, Save, Back, Undo, Commit,
 use Rattle.cg_model.specs.Reply.{found_or}
 
 -- a command that was accepted after these records, with its outcome, its inverse and its footprint; or a savepoint
-pub data Entry (y : System) : Type 0 where
-  Did : (transaction : ℕ) (before : History y) (command : y.Command) (outcome : Outcome) (inverse : y.Change) (footprint : y.Footprint) → Entry y
-  Mark : (transaction : ℕ) (before : History y) (name : Name) → Entry y
+pub data StackEntry (y : System) : Type 0 where
+  Did : (transaction : ℕ) (before : History y) (command : y.Command) (outcome : Outcome) (inverse : y.Change) (footprint : y.Footprint) → StackEntry y
+  Savepoint : (transaction : ℕ) (before : History y) (name : Name) → StackEntry y
 
--- an open transaction; the newest entry stands first
+-- an open transaction; the newest stack entry stands first
 pub record Transaction (y : System) : Type 0 where
   pub session : ℕ
   pub number : ℕ
-  pub stack : List (Entry y)
+  pub stack : List (StackEntry y)
 
 pub record Machine (y : System) : Type 0 where
   pub tree : y.State
@@ -25,18 +25,18 @@ pub record Machine (y : System) : Type 0 where
   pub begun : ℕ
   pub commits : ℕ
   pub history : History y
-  pub limit : ℕ
+  pub bound : ℕ
 
 abbrev pub opened : (y : System) → y.State → ℕ → Machine y
-opened y o limit = record { tree = o; transactions = []; begun = 0; commits = 0; history = []; limit = limit }
+opened y o bound = record { tree = o; transactions = []; begun = 0; commits = 0; history = []; bound = bound }
 
 -- the number and the stack of a session's open transaction
-abbrev pub found : {y : System} → ℕ → List (Transaction y) → Option (ℕ × List (Entry y))
+abbrev pub found : {y : System} → ℕ → List (Transaction y) → Option (ℕ × List (StackEntry y))
 found s [] = None
 found s (x ∷ xs) = cond (x.session == s) (Some (x.number, x.stack)) (found s xs)
 
 -- t has this stack now
-abbrev pub with_stack : {y : System} → ℕ → List (Entry y) → List (Transaction y) → List (Transaction y)
+abbrev pub with_stack : {y : System} → ℕ → List (StackEntry y) → List (Transaction y) → List (Transaction y)
 with_stack t l [] = []
 with_stack t l (x ∷ xs) = record x { stack = cond (x.number == t) l x.stack } ∷ with_stack t l xs
 
@@ -45,67 +45,70 @@ dropped t [] = []
 dropped t (x ∷ xs) = cond (x.number == t) (dropped t xs) (x ∷ dropped t xs)
 
 -- the footprint clashes with one of these
-abbrev pub hits : (y : System) → y.Footprint → List (Entry y) → Bool
+abbrev pub hits : (y : System) → y.Footprint → List (StackEntry y) → Bool
 hits y f [] = false
 hits y f (Did t h c a d g ∷ l) = y.clashes g f || hits y f l
-hits y f (Mark t h n ∷ l) = hits y f l
+hits y f (Savepoint t h n ∷ l) = hits y f l
 
 -- the oldest of these transactions that holds what clashes
 abbrev pub stack_holder : (y : System) → y.Footprint → List (Transaction y) → Option ℕ
 stack_holder y f [] = None
 stack_holder y f (x ∷ xs) = found_or (stack_holder y f xs) (hits y f x.stack) x.number
 
-abbrev pub has_mark : {y : System} → Name → List (Entry y) → Bool
-has_mark n [] = false
-has_mark n (Did t h c a d g ∷ l) = has_mark n l
-has_mark n (Mark t h m ∷ l) = same_name m n || has_mark n l
+-- a savepoint on the stack has this name
+abbrev pub stack_has_savepoint : {y : System} → Name → List (StackEntry y) → Bool
+stack_has_savepoint n [] = false
+stack_has_savepoint n (Did t h c a d g ∷ l) = stack_has_savepoint n l
+stack_has_savepoint n (Savepoint t h m ∷ l) = same_name m n || stack_has_savepoint n l
 
-abbrev pub entries : {y : System} → List (Transaction y) → ℕ
-entries [] = 0
-entries (x ∷ xs) = length x.stack + entries xs
+-- how many entries the stacks have
+abbrev pub stack_entries : {y : System} → List (Transaction y) → ℕ
+stack_entries [] = 0
+stack_entries (x ∷ xs) = length x.stack + stack_entries xs
 
--- two more places would exceed the limit: the records, one for each open transaction, one for each entry
+-- two more slots would exceed the bound, where one below 2 counts as 2: the records, one for each open transaction, one for
+-- each stack entry
 abbrev pub is_full_machine : {y : System} → Machine y → Bool
-is_full_machine m = nat_lt (m.limit - 2) (length m.history + (length m.transactions + entries m.transactions))
+is_full_machine m = nat_lt (m.bound - 2) (length m.history + (length m.transactions + stack_entries m.transactions))
 
 -- every inverse undone, the newest first
-abbrev pub unwound : (y : System) → List (Entry y) → y.State → y.State
+abbrev pub unwound : (y : System) → List (StackEntry y) → y.State → y.State
 unwound y [] s = s
 unwound y (Did t h c a d f ∷ l) s = unwound y l (y.undone d s)
-unwound y (Mark t h n ∷ l) s = unwound y l s
+unwound y (Savepoint t h n ∷ l) s = unwound y l s
 
 -- down to the savepoint, which goes too: the stack and the tree that are left, and the answer; k commands were taken off before
-abbrev pub back_to : (y : System) → Name → List (Entry y) → y.State → ℕ → List (Entry y) × y.State × Answer
+abbrev pub back_to : (y : System) → Name → List (StackEntry y) → y.State → ℕ → List (StackEntry y) × y.State × Answer
 back_to y n [] s k = ([], s, Refused NoSavepoint)
 back_to y n (Did t h c a d f ∷ l) s k = back_to y n l (y.undone d s) (k + 1)
-back_to y n (Mark t h m ∷ l) s k = cond (same_name m n) (l, s, WentBack k) (back_to y n l s k)
+back_to y n (Savepoint t h m ∷ l) s k = cond (same_name m n) (l, s, WentBack k) (back_to y n l s k)
 
-abbrev pub went_back : (y : System) → Machine y → ℕ → List (Entry y) × y.State × Answer → Machine y × Answer
+abbrev pub went_back : (y : System) → Machine y → ℕ → List (StackEntry y) × y.State × Answer → Machine y × Answer
 went_back y m t r = (record m { tree = r.1; transactions = with_stack t r.0 m.transactions }, r.2)
 
-abbrev pub accepted : (y : System) → Machine y → ℕ → List (Entry y) → y.Command → Attempt y.Change → Machine y × Answer
+abbrev pub accepted : (y : System) → Machine y → ℕ → List (StackEntry y) → y.Command → Attempt y.Change → Machine y × Answer
 accepted y m t l c (Refuse r) = (m, Refused r)
 accepted y m t l c (Accept a d) =
     (record m { tree = y.done d m.tree; transactions = with_stack t (Did t m.history c a d (y.footprint c m.tree) ∷ l) m.transactions }, Gave a)
 
-abbrev pub done_unless_held : (y : System) → Machine y → ℕ → List (Entry y) → y.Command → Option ℕ → Machine y × Answer
+abbrev pub done_unless_held : (y : System) → Machine y → ℕ → List (StackEntry y) → y.Command → Option ℕ → Machine y × Answer
 done_unless_held y m t l c (Some u) = (m, Refused (Busy (record { 0 = u })))
 done_unless_held y m t l c None = accepted y m t l c (y.effect c m.tree)
 
-abbrev pub newest_undone : (y : System) → Machine y → ℕ → List (Entry y) → Machine y × Answer
+abbrev pub newest_undone : (y : System) → Machine y → ℕ → List (StackEntry y) → Machine y × Answer
 newest_undone y m t [] = (m, Refused NothingToUndo)
-newest_undone y m t (Mark u h n ∷ l) = (m, Refused NothingToUndo)
+newest_undone y m t (Savepoint u h n ∷ l) = (m, Refused NothingToUndo)
 newest_undone y m t (Did u h c a d f ∷ l) = (record m { tree = y.undone d m.tree; transactions = with_stack t l m.transactions }, Gave Done)
 
 -- a request of the session with the open transaction t, whose stack is l
-abbrev pub step_in : (y : System) → Machine y → ℕ → List (Entry y) → Request y → Machine y × Answer
+abbrev pub step_in : (y : System) → Machine y → ℕ → List (StackEntry y) → Request y → Machine y × Answer
 step_in y m t l Begin = (m, Refused AlreadyOpen)
 step_in y m t l (Do c) =
     cond (is_full_machine m) (m, Refused Full) (done_unless_held y m t l c (stack_holder y (y.footprint c m.tree) (dropped t m.transactions)))
 step_in y m t l (Save n) =
-    cond (has_mark n l) (m, Refused NameTaken)
-    (cond (is_full_machine m) (m, Refused Full) (record m { transactions = with_stack t (Mark t m.history n ∷ l) m.transactions }, Saved))
-step_in y m t l (Back n) = cond (has_mark n l) (went_back y m t (back_to y n l m.tree 0)) (m, Refused NoSavepoint)
+    cond (stack_has_savepoint n l) (m, Refused NameTaken)
+    (cond (is_full_machine m) (m, Refused Full) (record m { transactions = with_stack t (Savepoint t m.history n ∷ l) m.transactions }, Saved))
+step_in y m t l (Back n) = cond (stack_has_savepoint n l) (went_back y m t (back_to y n l m.tree 0)) (m, Refused NoSavepoint)
 step_in y m t l Undo = newest_undone y m t l
 step_in y m t l Commit = (record m { transactions = dropped t m.transactions; commits = m.commits + 1 }, Committed (m.commits + 1))
 step_in y m t l Abort = (record m { tree = unwound y l m.tree; transactions = dropped t m.transactions }, Aborted t)
@@ -117,13 +120,14 @@ step_out y m s Begin =
     (record m { transactions = record { session = s; number = m.begun + 1; stack = [] } ∷ m.transactions; begun = m.begun + 1 }, Begun (m.begun + 1))
 step_out y m s _ = (m, Refused NoTransaction)
 
-abbrev pub step_at : (y : System) → Machine y → ℕ → Request y → Option (ℕ × List (Entry y)) → Machine y × Answer
+abbrev pub step_at : (y : System) → Machine y → ℕ → Request y → Option (ℕ × List (StackEntry y)) → Machine y × Answer
 step_at y m s r (Some p) = step_in y m p.0 p.1 r
 step_at y m s r None = step_out y m s r
 
-abbrev pub number_of : {y : System} → Option (ℕ × List (Entry y)) → Option ℕ
-number_of None = None
-number_of (Some p) = Some p.0
+-- the number alone
+abbrev pub found_number : {y : System} → Option (ℕ × List (StackEntry y)) → Option ℕ
+found_number None = None
+found_number (Some p) = Some p.0
 
 -- with its record, where there is one
 abbrev pub noted : {y : System} → Bool → ℕ → Request y → Option ℕ → Machine y × Answer → Machine y × Answer
@@ -135,7 +139,7 @@ with_record s r t p = noted (is_recorded r p.1) s r t p
 
 -- one request of a session: the machine after it, and the answer
 abbrev pub step : (y : System) → Machine y → ℕ → Request y → Machine y × Answer
-step y m s r = with_record s r (number_of (found s m.transactions)) (step_at y m s r (found s m.transactions))
+step y m s r = with_record s r (found_number (found s m.transactions)) (step_at y m s r (found s m.transactions))
 
 -- a list of requests of any sessions, the first one first
 abbrev pub steps : (y : System) → Machine y → List (ℕ × Request y) → Machine y

@@ -5,12 +5,12 @@ use Rattle.std.specs.List.{AllByRecursion, list_any}
 use Rattle.cg_name.specs.Path.{Path, same_path, is_above}
 use Rattle.cg_model.specs.System.{Refuse, Accept}
 use Rattle.cg_model.specs.Tree.{Tree, group, place_of}
-use Rattle.cg_model.specs.Key.{Key, Held, Group, Place}
+use Rattle.cg_model.specs.Key.{Key, ValueOf, Group, Place}
 use Rattle.cg_model.specs.Change.{Change}
 use Rattle.cg_model.specs.Command.{Effect}
 use Rattle.cg_model.specs.Effect.{effect}
 use Rattle.cg_model.specs.Cgroups.{cgroups}
-use Rattle.cg_model.specs.Live.{Item, Ran, Marked, Items}
+use Rattle.cg_model.specs.Live.{Item, Ran, AtSavepoint, Items}
 use Rattle.cg_model.specs.Run.{tree_of}
 
 abbrev pub is_group_key : Path → Key → Bool
@@ -28,22 +28,22 @@ changes_of (Accept o cs) = cs
 -- the inverse of an item: the changes that its command made when it was accepted; a savepoint has none
 abbrev pub inverse : Tree → Item cgroups → List Change
 inverse O (Ran t h c a) = changes_of (effect c (tree_of cgroups O h))
-inverse O (Marked t h n) = []
+inverse O (AtSavepoint t h n) = []
 
--- an inverse on the stack has the key of the group at p
-abbrev pub holds : Tree → Path → Items cgroups → Bool
-holds O p l = list_any (λ x. changes_group p (inverse O x)) l
+-- an inverse on the stack has the key of the group at p: going back may put that group back
+abbrev pub needs_group : Tree → Path → Items cgroups → Bool
+needs_group O p l = list_any (λ x. changes_group p (inverse O x)) l
 
--- some of the open transactions ts, with these stacks, holds the path
-abbrev pub is_held : Tree → (ℕ → Items cgroups) → List ℕ → Path → Bool
-is_held O stacks ts p = list_any (λ t. holds O p (stacks t)) ts
+-- some of the open transactions ts, with these stacks, needs the group at p
+abbrev pub is_needed : Tree → (ℕ → Items cgroups) → List ℕ → Path → Bool
+is_needed O stacks ts p = list_any (λ t. needs_group O p (stacks t)) ts
 
--- a path has an entry where it is a group, or else, dead, where it is held
+-- a path has an entry where it is a group, or else, dead, where it is needed
 abbrev pub has_entry : Tree → (ℕ → Items cgroups) → List ℕ → Tree → Path → Bool
-has_entry O stacks ts T p = is_some (group T p) || is_held O stacks ts p
+has_entry O stacks ts T p = is_some (group T p) || is_needed O stacks ts p
 
 -- a group that is put back needs an entry of its path, and so does the group that a process is put back into
-abbrev pub room_for : (Path → Bool) → (k : Key) → Option (Held k) → Type 0
+abbrev pub room_for : (Path → Bool) → (k : Key) → Option (ValueOf k) → Type 0
 room_for E (Group p) (Some s) = E p ≡ true
 room_for E (Place k) (Some q) = E q ≡ true
 room_for E _ _ = Unit {0}

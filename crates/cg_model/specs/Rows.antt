@@ -16,7 +16,7 @@ use Rattle.cg_text.specs.declared.limit.Limit.{Limit}
 use Rattle.cg_text.specs.declared.limit.Limit.TheVariants.{UpTo}
 use Rattle.cg_text.specs.declared.settings.Settings.{Settings}
 use Rattle.cg_model.specs.Tree.{Tree}
-use Rattle.cg_model.specs.Derived.{children, descendants, processes, processes_below}
+use Rattle.cg_model.specs.Derived.{children, descendants, processes, processes_in_subtree}
 use Rattle.cg_model.specs.Effect.{effect}
 use Rattle.cg_model.specs.Footprint.{footprint}
 use Rattle.cg_model.specs.Cgroups.{cgroups}
@@ -33,26 +33,26 @@ Asked = List (ℕ × Request cgroups)
 
 -- the answers to requests, and the tree at the end
 unfoldable pub played : Machine cgroups → Asked → List Answer × Tree
-unfolding get insert empty checked retain entries keys len set_at domain members in_common with_member such_that_below children descendants processes processes_below same_name same_path digits effect footprint
+unfolding get insert empty checked retain entries keys len set_at domain members in_common with_member such_that_below children descendants processes processes_in_subtree same_name same_path digits effect footprint
 played m asked = let r = answers cgroups m asked in (r.0, r.1.tree)
 
--- with the greatest limit on the history
+-- with the greatest bound of the history
 unfoldable pub play : Tree → Asked → List Answer × Tree
 unfolding played
 play T asked = played (opened cgroups T 1048576) asked
 
 unfoldable pub play_within : ℕ → Tree → Asked → List Answer × Tree
 unfolding played
-play_within limit T asked = played (opened cgroups T limit) asked
+play_within bound T asked = played (opened cgroups T bound) asked
 
 -- a whole schedule, with the aborts at its end
 unfoldable pub play_to_end : Tree → Asked → List Answer × Tree
-unfolding get insert empty checked retain entries keys len set_at domain members in_common with_member such_that_below children descendants processes processes_below same_name same_path digits effect footprint
+unfolding get insert empty checked retain entries keys len set_at domain members in_common with_member such_that_below children descendants processes processes_in_subtree same_name same_path digits effect footprint
 play_to_end T asked = let r = output cgroups (opened cgroups T 1048576) asked in (r.0, r.1.tree)
 
 -- whether a path has an entry after requests
 unfoldable pub entry_after : Machine cgroups → Asked → Tree → Path → Bool
-unfolding get insert empty checked retain entries keys len set_at domain members in_common with_member such_that_below children descendants processes processes_below same_name same_path digits effect footprint
+unfolding get insert empty checked retain entries keys len set_at domain members in_common with_member such_that_below children descendants processes processes_in_subtree same_name same_path digits effect footprint
 entry_after m [] O p = has_entry O (λ t. live t m.history) (numbers (opens m.history)) m.tree p
 entry_after m (q ∷ qs) O p = entry_after (step cgroups m q.0 q.1).0 qs O p
 

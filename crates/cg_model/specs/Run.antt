@@ -3,7 +3,7 @@ use Rattle.std.specs.Prelude.{◌≡◌, ℕ, nat_le, true, cond, [], ◌∷◌,
 use Rattle.cg_model.specs.System.{System, Attempt, Refuse, Accept}
 use Rattle.cg_model.specs.History.{History}
 use Rattle.cg_model.specs.Opens.{numbers, among, opens, commits}
-use Rattle.cg_model.specs.Live.{Ran, Marked, Items, live, survivors, committed}
+use Rattle.cg_model.specs.Live.{Ran, AtSavepoint, Items, live, survivors, committed}
 
 abbrev pub state_after : (y : System) → Attempt y.Change → y.State → y.State
 state_after y (Refuse r) s = s
@@ -13,13 +13,13 @@ state_after y (Accept a d) s = y.done d s
 abbrev pub run_items : (y : System) → y.State → Items y → y.State
 run_items y o [] = o
 run_items y o (Ran t h c a ∷ l) = state_after y (y.effect c (run_items y o l)) (run_items y o l)
-run_items y o (Marked t h n ∷ l) = run_items y o l
+run_items y o (AtSavepoint t h n ∷ l) = run_items y o l
 
 -- each is accepted in its turn, with its recorded outcome: the run is defined
 abbrev pub Accepted : (y : System) → y.State → Items y → Type 0
 Accepted y o [] = Unit {0}
 Accepted y o (Ran t h c a ∷ l) = ((d : y.Change) × (y.effect c (run_items y o l) ≡ Accept a d)) × Accepted y o l
-Accepted y o (Marked t h n ∷ l) = Accepted y o l
+Accepted y o (AtSavepoint t h n ∷ l) = Accepted y o l
 
 -- the tree of a history: the opening tree changed by the surviving commands alone
 abbrev pub tree_of : (y : System) → y.State → History y → y.State

@@ -32,7 +32,7 @@ pub fn worked_runs_of_sessions()
     ensures aborts_at_the_end { AbortsAtTheEnd }
 {}
 
-/// Worked runs of going back: undo, savepoints, reserved places, and the entries that stay for it.
+/// Worked runs of going back: undo, savepoints, reserved slots, and the entries that stay for it.
 pub fn worked_runs_of_going_back()
     ensures cpuset_off_and_back { CpusetOffAndBack }
     ensures savepoints { Savepoints }

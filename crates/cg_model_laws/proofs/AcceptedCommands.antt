@@ -4,7 +4,7 @@ use Rattle.std.specs.List.{AllByRecursion}
 use Rattle.cg_name.specs.Path.{Path}
 use Rattle.cg_text.specs.declared.settings.Settings.{Settings}
 use Rattle.cg_model.specs.Tree.{Tree, group, place_of}
-use Rattle.cg_model.specs.Key.{Key, Group, Place, Part, Online, Held, put}
+use Rattle.cg_model.specs.Key.{Key, Group, Place, Part, Online, ValueOf, put}
 use Rattle.cg_model.specs.Change.{Change, done}
 use Rattle.cg_model.specs.System.{Outcome, Accept}
 use Rattle.cg_model.specs.Command.{Command, Create, Remove, Migrate}
@@ -41,7 +41,7 @@ pub same_machine : (cs : List Change) (T : Tree) → (done cs T).controllers ≡
 same_machine [] T = refl
 same_machine (c ∷ cs) T = same_machine cs (put c.key c.left T) ∙ one c.key c.left
   where
-    one : (k : Key) (v : Option (Held k)) → (put k v T).controllers ≡ T.controllers
+    one : (k : Key) (v : Option (ValueOf k)) → (put k v T).controllers ≡ T.controllers
     one (Group p) v = refl
     one (Place k) v = refl
     one (Part p f) v = refl

@@ -4,7 +4,7 @@ use Rattle.std.proofs.lemmas.Bool.{both_ways, false_from_ne_true}
 use Rattle.std.specs.List.{AllByRecursion}
 use Rattle.cg_name.specs.Path.{Path, same_path, comparable}
 use Rattle.cg_model.specs.Tree.{Tree}
-use Rattle.cg_model.specs.Key.{same_field, Key, Group, Place, Part, Online, Held, put, touch}
+use Rattle.cg_model.specs.Key.{same_field, Key, Group, Place, Part, Online, ValueOf, put, touch}
 use Rattle.cg_model.specs.Change.{Change, done}
 use Rattle.cg_model.specs.Footprint.{Mark, X, Pid, clash}
 use Rattle.cg_model_laws.proofs.Lists.{all_map}
@@ -21,7 +21,7 @@ main_mark (Place k) = Pid k
 main_mark (Part p f) = X p
 main_mark Online = X []
 
-main_covered : (f : List Mark) (T : Tree) (k : Key) (b l : Option (Held k)) → AllByRecursion (Under f) (marks_of T k b l) → Under f (main_mark k)
+main_covered : (f : List Mark) (T : Tree) (k : Key) (b l : Option (ValueOf k)) → AllByRecursion (Under f) (marks_of T k b l) → Under f (main_mark k)
 main_covered f T (Group p) b l h = h.0
 main_covered f T (Place k) b l h = h.0
 main_covered f T (Part p g) b l h = h.0
@@ -48,7 +48,7 @@ untouched_by g U [] k h a = tt
 untouched_by g U (c ∷ cs) k h a =
     (untouched k c.key (clash-swapped (main_mark k) (main_mark c.key) ∙ main_covered g U c.key c.before c.left h.0.covered (main_mark k) a), untouched_by g (put c.key c.left U) cs k h.3 a)
 
-done-put : (k : Key) (v : Option (Held k)) (ds : List Change) (T : Tree) → AllByRecursion (λ d. touch k d.key ≡ false) ds → done ds (put k v T) ≡ put k v (done ds T)
+done-put : (k : Key) (v : Option (ValueOf k)) (ds : List Change) (T : Tree) → AllByRecursion (λ d. touch k d.key ≡ false) ds → done ds (put k v T) ≡ put k v (done ds T)
 done-put k v [] T h = refl
 done-put k v (d ∷ ds) T h = ap (done ds) (put_swap k d.key v d.left T h.0) ∙ done-put k v ds (put d.key d.left T) h.1
 

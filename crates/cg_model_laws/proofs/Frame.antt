@@ -11,7 +11,7 @@ use Rattle.cg_name.specs.Path.{Path, same_path, is_prefix, is_above, comparable}
 use Rattle.cg_text.specs.declared.settings.Settings.{Settings}
 use Rattle.cg_model.specs.Tree.{Tree, group, place_of}
 use Rattle.cg_model.specs.Derived.{descendants}
-use Rattle.cg_model.specs.Key.{Field, Setting, Key, Group, Place, Part, Online, Held, value_at, put, replaced, part_replaced}
+use Rattle.cg_model.specs.Key.{Field, Setting, Key, Group, Place, Part, Online, ValueOf, value_at, put, replaced, part_replaced}
 use Rattle.cg_model.specs.Footprint.{Mark, X, S, N, Pid, Count, clash, is_limited, count_of, counts, old_place}
 use Rattle.cg_model_laws.specs.Covers.{within, SameAround, Agree, IsCounted}
 use Rattle.cg_model_laws.proofs.Paths.{same_path-itself, path_cases, prefix_itself, comparable-swapped}
@@ -19,7 +19,7 @@ use Rattle.cg_model_laws.proofs.Keys.{with_group, with_place, group_apart, place
 use Rattle.cg_model_laws.proofs.Lists.{all_left, all_right}
 use Rattle.cg_model_laws.proofs.Marks.{Apart, all_along}
 
-abbrev pub marks_of : Tree → (k : Key) → Option (Held k) → Option (Held k) → List Mark
+abbrev pub marks_of : Tree → (k : Key) → Option (ValueOf k) → Option (ValueOf k) → List Mark
 marks_of T (Group p) b l = X p ∷ counts T p
 marks_of T (Place k) b l = Pid k ∷ old_place b ++ old_place l
 marks_of T (Part p f) b l = X p ∷ []
@@ -102,7 +102,7 @@ module _ (T : Tree) where
   around_move : (k : ℕ) (l : Option Path) (q : Path) (m : Mark) → ((s : Path) → clash (N s) m ≡ is_prefix q s) → Apart (old_place (place_of T k) ++ old_place l) m → SameAround q T (with_place T k (replaced (place_of T k) l))
   around_move k l q m is h = around_place k l q (outside q m is (place_of T k) (all_left _ _ _ h)) (outside q m is l (all_right _ (old_place (place_of T k)) _ h))
 
-  pub frame_put : (k : Key) (l : Option (Held k)) (m : Mark) → Apart (marks_of T k (value_at T k) l) m → CountedAt k T m → Agree m T (put k l T)
+  pub frame_put : (k : Key) (l : Option (ValueOf k)) (m : Mark) → Apart (marks_of T k (value_at T k) l) m → CountedAt k T m → Agree m T (put k l T)
   unfolding descendants
   frame_put (Group p) l (X q) h c = around_group p l q h.0
   frame_put (Group p) l (S q) h c = around_group p l q h.0

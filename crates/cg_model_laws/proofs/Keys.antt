@@ -10,7 +10,7 @@ use Rattle.cg_name.specs.Order.{path_cmp_total, path_cmp_exact}
 use Rattle.cg_name.specs.Path.{Path}
 use Rattle.cg_text.specs.declared.settings.Settings.{Settings}
 use Rattle.cg_model.specs.Tree.{Tree, group, place_of}
-use Rattle.cg_model.specs.Key.{Field, Setting, setting, Key, Group, Place, Part, Online, Held, value_at, replaced, part_replaced, put, same_field, touch}
+use Rattle.cg_model.specs.Key.{Field, Setting, setting, Key, Group, Place, Part, Online, ValueOf, value_at, replaced, part_replaced, put, same_field, touch}
 use Rattle.cg_model_laws.specs.Laws.{CanHold}
 use Rattle.cg_model_laws.proofs.Fields.{part_swap, part_other, part_back, part_there}
 use Rattle.cg_model_laws.proofs.Paths.{same_path-from, paths_differ, path_cases}
@@ -64,7 +64,7 @@ place_back (Some x) (Some v) = refl
 -- ---- puts
 
 -- the value before undoes a put
-pub put_back : (k : Key) (v : Option (Held k)) (T : Tree) → put k (value_at T k) (put k v T) ≡ T
+pub put_back : (k : Key) (v : Option (ValueOf k)) (T : Tree) → put k (value_at T k) (put k v T) ≡ T
 put_back (Group p) v T = ap (λ m. record T { groups = m }) (remade_back path_cmp_total path_cmp_exact T.groups p (λ _. v) (λ _. group T p) refl)
 put_back (Place k) v T = ap (λ m. record T { places = m }) (remade_back nat_cmp_total nat_cmp-IsAntisymmetric T.places k (λ o. replaced o v) (λ o. replaced o (place_of T k)) (place_back (place_of T k) v))
 put_back (Part p f) v T = ap (λ m. record T { groups = m }) (remade_back path_cmp_total path_cmp_exact T.groups p (part_replaced f v) (part_replaced f (option_map (setting f) (group T p))) (part_back f v (group T p)))
@@ -77,7 +77,7 @@ replaced_there (Some x) None h k = absurd (true≢false (sym k))
 replaced_there (Some x) (Some v) h k = refl
 
 -- a key holds what is put there, where it can
-pub put_there : (k : Key) (v : Option (Held k)) (T : Tree) → CanHold T k v → value_at (put k v T) k ≡ v
+pub put_there : (k : Key) (v : Option (ValueOf k)) (T : Tree) → CanHold T k v → value_at (put k v T) k ≡ v
 put_there (Group p) v T h = group_here T p v
 put_there (Place k) v T h = place_here T k _ ∙ replaced_there (place_of T k) v h.0 h.1
 put_there (Part p f) v T h = ap (option_map (setting f)) (group_here T p _) ∙ part_there f v (group T p) h.0 h.1
@@ -106,7 +106,7 @@ numbers_differ : (k l : ℕ) → (k == l) ≡ false → k ≢ l
 numbers_differ k l e is = true≢false (sym (eq-eqb k l is) ∙ e)
 
 -- a put leaves what doesn't touch its key
-pub put_apart : (k l : Key) (w : Option (Held l)) (T : Tree) → touch k l ≡ false → value_at (put l w T) k ≡ value_at T k
+pub put_apart : (k l : Key) (w : Option (ValueOf l)) (T : Tree) → touch k l ≡ false → value_at (put l w T) k ≡ value_at T k
 put_apart (Group p) (Group q) w T e = group_apart T q w p (paths_differ p q e)
 put_apart (Group p) (Part q g) w T e = group_apart T q _ p (paths_differ p q e)
 put_apart (Part p f) (Group q) w T e = ap (option_map (setting f)) (group_apart T q w p (paths_differ p q e))
@@ -125,7 +125,7 @@ groups_swap : (p q : Path) (h g : Option Settings → Option Settings) (T : Tree
 groups_swap p q h g T ne = ap (λ m. record T { groups = m }) (remade_swap path_cmp_total path_cmp_exact T.groups p q h g ne)
 
 -- puts of keys that don't touch change places
-pub put_swap : (k l : Key) (v : Option (Held k)) (w : Option (Held l)) (T : Tree) → touch k l ≡ false → put l w (put k v T) ≡ put k v (put l w T)
+pub put_swap : (k l : Key) (v : Option (ValueOf k)) (w : Option (ValueOf l)) (T : Tree) → touch k l ≡ false → put l w (put k v T) ≡ put k v (put l w T)
 put_swap (Group p) (Group q) v w T e = groups_swap p q (λ _. v) (λ _. w) T (paths_differ p q e)
 put_swap (Group p) (Part q g) v w T e = groups_swap p q (λ _. v) (part_replaced g w) T (paths_differ p q e)
 put_swap (Part p f) (Group q) v w T e = groups_swap p q (part_replaced f v) (λ _. w) T (paths_differ p q e)

@@ -4,7 +4,7 @@ use Rattle.std.proofs.lemmas.Bool.{and_left, both_ways, false_from_ne_true}
 use Rattle.std.specs.List.{AllByRecursion, list_any}
 use Rattle.cg_name.specs.Path.{Path, same_path, is_prefix, comparable}
 use Rattle.cg_model.specs.Tree.{Tree}
-use Rattle.cg_model.specs.Key.{Key, Group, Place, Part, Online, Held, value_at, put, touch}
+use Rattle.cg_model.specs.Key.{Key, Group, Place, Part, Online, ValueOf, value_at, put, touch}
 use Rattle.cg_model.specs.Change.{Change, done, undone, Fits}
 use Rattle.cg_model.specs.Footprint.{Mark, X, Pid, clash}
 use Rattle.cg_model_laws.specs.Covers.{Agree, AgreeOn, IsCounted, may_change}
@@ -25,7 +25,7 @@ IsNoGroup (Group p) = ⊥
 IsNoGroup k = Unit {0}
 
 -- the value before is the present one, the key takes the value left, a mark of f lets it change, and f covers the change
-pub record IsLawfulPut (f : List Mark) (T : Tree) (k : Key) (b l : Option (Held k)) : Type 0 where
+pub record IsLawfulPut (f : List Mark) (T : Tree) (k : Key) (b l : Option (ValueOf k)) : Type 0 where
   pub was : value_at T k ≡ b
   pub is : value_at (put k l T) k ≡ l
   pub marked : list_any (λ m. may_change m k) f ≡ true
@@ -70,7 +70,7 @@ mark_of (Place k) = Pid k
 mark_of (Part p f) = X p
 mark_of Online = X []
 
-under_mark : (f : List Mark) (T : Tree) (k : Key) (b l : Option (Held k)) → IsLawfulPut f T k b l → Under f (mark_of k)
+under_mark : (f : List Mark) (T : Tree) (k : Key) (b l : Option (ValueOf k)) → IsLawfulPut f T k b l → Under f (mark_of k)
 under_mark f T (Group p) b l h = h.covered.0
 under_mark f T (Place k) b l h = h.covered.0
 under_mark f T (Part p g) b l h = h.covered.0

@@ -9,19 +9,19 @@ use Rattle.cg_model.specs.Tree.{Tree, group}
 use Rattle.cg_model.specs.Derived.{descendants}
 use Rattle.cg_model.specs.Key as keys
 use Rattle.cg_model.specs.Command.{Command, Create, Remove, Migrate, Subtree, Freeze, Cpus, Show, Online, MaxDescendants, MaxDepth}
-use Rattle.cg_model.specs.Groups.{reaches, is_full, is_too_deep, too_many, too_deep, create_effect, remove_effect}
+use Rattle.cg_model.specs.Groups.{reaches, reaches_descendants, exceeds_depth, too_many, too_deep, create_effect, remove_effect}
 use Rattle.cg_model.specs.Control.{subtree_effect}
 use Rattle.cg_model.specs.Writes.{migrate_effect, freeze_effect, cpus_effect, limit_effect, online_effect, show_effect}
 use Rattle.cg_model.specs.File.{file_seen}
 use Rattle.cg_model.specs.Effect.{effect}
-use Rattle.cg_model.specs.Footprint.{X, N, Pid, Count, is_finite, count_of, joined, counts, old_place, footprint}
+use Rattle.cg_model.specs.Footprint.{X, N, Pid, Count, is_finite, count_of, joined_marks, counts, old_place, footprint}
 use Rattle.cg_model_laws.specs.Covers.{SameAround, Agree, AgreeOn}
 use Rattle.cg_model_laws.proofs.Paths.{along_same}
 use Rattle.cg_model_laws.proofs.Marks.{all_along}
 use Rattle.cg_model_laws.proofs.Seen.{group_same, group_above, parent_same, children_same, processes_same, populated_same, frozen_same, effective_same, available_same}
 
 module _ (T U : Tree) where
-  full_same : (a : Path) (s : Option Settings) → AgreeOn (count_of a s) T U → is_full s (descendants T a) ≡ is_full s (descendants U a)
+  full_same : (a : Path) (s : Option Settings) → AgreeOn (count_of a s) T U → reaches_descendants s (descendants T a) ≡ reaches_descendants s (descendants U a)
   full_same a None h = refl
   full_same a (Some s) h =
       elim s.max_descendants as (λ l. AgreeOn (cond (is_finite l) (Count a ∷ []) []) T U → reaches l (descendants T a) ≡ reaches l (descendants U a)) [
@@ -30,10 +30,10 @@ module _ (T U : Tree) where
       ] h
 
   many_same : (p : Path) → SameAround p T U → AgreeOn (counts T p) T U → too_many T p ≡ too_many U p
-  many_same p same h = ap (list_any (λ b. b)) (along_same _ _ p (λ a e. full_same a (group T a) (all_along (λ m. Agree m T U) _ p a e h) ∙ ap (λ s. is_full s (descendants U a)) (group_above same a e)))
+  many_same p same h = ap (list_any (λ b. b)) (along_same _ _ p (λ a e. full_same a (group T a) (all_along (λ m. Agree m T U) _ p a e h) ∙ ap (λ s. reaches_descendants s (descendants U a)) (group_above same a e)))
 
   deep_same : (p : Path) → SameAround p T U → too_deep T p ≡ too_deep U p
-  deep_same p same = ap (list_any (λ b. b)) (along_same _ _ p (λ a e. ap (λ s. is_too_deep s (length p - length a)) (group_above same a e)))
+  deep_same p same = ap (list_any (λ b. b)) (along_same _ _ p (λ a e. ap (λ s. exceeds_depth s (length p - length a)) (group_above same a e)))
 
   pub effect_same : T.controllers ≡ U.controllers → (c : Command) → AgreeOn (footprint c T) T U → effect c T ≡ effect c U
   unfolding effect footprint
@@ -49,7 +49,7 @@ module _ (T U : Tree) where
   effect_same machine (MaxDepth p v) h = λ i. limit_effect p keys.MaxDepth v (group_same h.0 i)
 
   counts_same : (p : Path) → SameAround p T U → counts T p ≡ counts U p
-  counts_same p same = ap joined (along_same _ _ p (λ a e. ap (count_of a) (group_above same a e)))
+  counts_same p same = ap joined_marks (along_same _ _ p (λ a e. ap (count_of a) (group_above same a e)))
 
   pub footprint_same : (c : Command) → AgreeOn (footprint c T) T U → footprint c T ≡ footprint c U
   unfolding footprint

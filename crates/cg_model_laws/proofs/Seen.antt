@@ -8,7 +8,7 @@ use Rattle.cg_maps.proofs.Maps as maps
 use Rattle.cg_name.specs.Order.{path_cmp_total, path_cmp_exact}
 use Rattle.cg_name.specs.Path.{Path, is_root, same_path, is_prefix, is_above, is_parent}
 use Rattle.cg_model.specs.Tree.{Tree, group, place_of, above, last_of, parent_group}
-use Rattle.cg_model.specs.Derived.{children, is_in, is_below, processes, processes_below, available, has_freeze, down_to, is_frozen, is_populated, narrowed_along, effective_cpus}
+use Rattle.cg_model.specs.Derived.{children, is_in, is_in_subtree, processes, processes_in_subtree, available, has_freeze, down_to, is_frozen, is_populated, narrowed_along, effective_cpus}
 use Rattle.cg_model_laws.specs.Covers.{within, SameAround}
 use Rattle.cg_model_laws.proofs.Paths.{same_path-is, prefix_itself, above-prefix, parent-prefix, comparable_down, comparable_up, along_same}
 
@@ -33,11 +33,11 @@ module _ {p : Path} {T U : Tree} (same : SameAround p T U) where
   unfolding children
   children_same = ap entries (maps.same_retained path_cmp_total path_cmp_exact T.groups U.groups (is_parent p) (is_parent p) (λ q. kept_child q (is_parent p q) refl))
 
-  pub processes_below_same : processes_below T p ≡ processes_below U p
-  unfolding processes_below
-  processes_below_same = ap keys (maps.same_retained nat_cmp_total nat_cmp-IsAntisymmetric T.places U.places _ _ (λ k. below (place_of T k) ∙ same.places k ∙ sym (below (place_of U k))))
+  pub processes_in_subtree_same : processes_in_subtree T p ≡ processes_in_subtree U p
+  unfolding processes_in_subtree
+  processes_in_subtree_same = ap keys (maps.same_retained nat_cmp_total nat_cmp-IsAntisymmetric T.places U.places _ _ (λ k. below (place_of T k) ∙ same.places k ∙ sym (below (place_of U k))))
     where
-      below : (o : Option Path) → cond (is_below p o) o None ≡ within p o
+      below : (o : Option Path) → cond (is_in_subtree p o) o None ≡ within p o
       below None = refl
       below (Some q) = refl
 
@@ -55,7 +55,7 @@ module _ {p : Path} {T U : Tree} (same : SameAround p T U) where
       own (Some q) = inside q (is_prefix p q) (same_path p q) refl refl
 
   pub populated_same : is_populated T p ≡ is_populated U p
-  populated_same = ap is_nonempty processes_below_same
+  populated_same = ap is_nonempty processes_in_subtree_same
 
   down_same : down_to T p ≡ down_to U p
   down_same = λ i. drop 1 (above_same i ++ group_same i ∷ [])

@@ -6,7 +6,7 @@ use Rattle.cg_maps.specs.FiniteSet.{FiniteSet}
 use Rattle.cg_name.specs.Path.{Path}
 use Rattle.cg_text.specs.declared.settings.Settings.{Settings}
 use Rattle.cg_model.specs.Tree.{Tree, group, place_of}
-use Rattle.cg_model.specs.Key.{Field, Setting, setting, Key, Group, Place, Part, Online, Held, part_replaced, replaced}
+use Rattle.cg_model.specs.Key.{Field, Setting, setting, Key, Group, Place, Part, Online, ValueOf, part_replaced, replaced}
 use Rattle.cg_model.specs.Change.{change}
 use Rattle.cg_model.specs.Footprint.{Mark, X, N, Pid, counts, old_place}
 use Rattle.cg_model_laws.proofs.Lists.{all_map}
@@ -24,7 +24,7 @@ each_under [] = tt
 each_under (m ∷ f) = (λ n a. a.0, behind m f f (each_under f))
 
 -- one change alone
-pub lawful_alone : (T : Tree) (f : List Mark) (k : Key) (b l : Option (Held k)) → IsLawfulPut f T k b l → IsLawful f T (change k b l ∷ [])
+pub lawful_alone : (T : Tree) (f : List Mark) (k : Key) (b l : Option (ValueOf k)) → IsLawfulPut f T k b l → IsLawful f T (change k b l ∷ [])
 lawful_alone T f k b l h = (h, tt, tt, tt)
 
 module _ (T : Tree) where

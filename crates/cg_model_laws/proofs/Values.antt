@@ -12,7 +12,7 @@ use Rattle.cg_name.specs.declared.controller.Controller.TheVariants.{Cpuset}
 use Rattle.cg_name.specs.Path.{Path, is_root, is_prefix, is_parent, along}
 use Rattle.cg_text.specs.declared.settings.Settings.{Settings}
 use Rattle.cg_model.specs.Tree.{Tree, group, place_of, parent_group}
-use Rattle.cg_model.specs.Derived.{is_below, processes_below, available, with_cpuset, has_freeze, down_to, is_frozen, is_populated, narrowed, narrowed_along, effective_cpus, below_root}
+use Rattle.cg_model.specs.Derived.{is_in_subtree, processes_in_subtree, available, with_cpuset, has_freeze, down_to, is_frozen, is_populated, narrowed, narrowed_along, effective_cpus, below_root}
 use Rattle.cg_model.specs.Sound.{Sound}
 use Rattle.cg_model_laws.specs.Values.{ParentGroups, ValuesBelowRoot, PopulatedBelow, FrozenAbove, NoValues, EffectiveOfRoot, EffectiveOfChild, EffectiveNeedsCpuset}
 use Rattle.cg_model_laws.proofs.Paths.{never, same_name-itself, same_name-is}
@@ -37,9 +37,9 @@ in_turn p q = ((λ a. q.0 (p.0 a)), (λ c. p.1 (q.1 c)))
 
 module _ (T : Tree) (p : Path) where
   abbrev is_member : ℕ → Bool
-  is_member k = is_below p (place_of T k)
+  is_member k = is_in_subtree p (place_of T k)
 
-  below_is : (o : Option Path) (q : Path) → cond (is_below p o) o None ≡ Some q → (o ≡ Some q) × (is_prefix p q ≡ true)
+  below_is : (o : Option Path) (q : Path) → cond (is_in_subtree p o) o None ≡ Some q → (o ≡ Some q) × (is_prefix p q ≡ true)
   below_is None q e = absurd (none-some q e)
   below_is (Some r) q e =
       elim (is_prefix p r) as (λ b. is_prefix p r ≡ b → cond b (Some r) None ≡ Some q → (Some r ≡ Some q) × (is_prefix p q ≡ true)) [
@@ -48,7 +48,7 @@ module _ (T : Tree) (p : Path) where
       ] refl e
 
   populated_is : (is_populated T p ≡ true) ↔ ((k : ℕ) × (q : Path) × (place_of T k ≡ Some q) × (is_prefix p q ≡ true))
-  unfolding processes_below
+  unfolding processes_in_subtree
   populated_is = (
     λ e.
         let (k, q, h) = maps.some_key nat_cmp_total (retain T.places is_member) e in
@@ -57,7 +57,7 @@ module _ (T : Tree) (p : Path) where
     λ (k, q, at, below). true_from_ne_false _ (λ none. none-some q (
         sym (maps.none_in_keys (retain T.places is_member) k none)
         ∙ maps.get-retain nat_cmp_total nat_cmp-IsAntisymmetric T.places is_member k
-        ∙ ap (λ o. cond (is_below p o) o None) at
+        ∙ ap (λ o. cond (is_in_subtree p o) o None) at
         ∙ ap (λ b. cond b (Some q) None) below
         )),
   )

@@ -5,7 +5,7 @@ use Rattle.cg_name.specs.Path.{Path}
 use Rattle.cg_name.specs.declared.refusal.Refusal.{Refusal}
 use Rattle.cg_model.specs.Tree.{Tree, group, place_of}
 use Rattle.cg_model.specs.Sound.{Sound}
-use Rattle.cg_model.specs.Key.{Field, Setting, Key, Group, Place, Part, Held, value_at, put, touch}
+use Rattle.cg_model.specs.Key.{Field, Setting, Key, Group, Place, Part, ValueOf, value_at, put, touch}
 use Rattle.cg_model.specs.Change.{Change, done, undone, Fits}
 use Rattle.cg_model.specs.System.{Outcome, Refuse, Accept}
 use Rattle.cg_model.specs.Command.{Command, IsProper}
@@ -15,17 +15,17 @@ use Rattle.cg_model.specs.Footprint.{Mark, clashes, footprint}
 use Rattle.cg_model_laws.specs.Covers.{AgreeOn, IsCounted, may_change}
 
 -- a group's settings may come and go; any other key takes a value where it holds one
-abbrev pub CanHold : Tree → (k : Key) → Option (Held k) → Type 0
+abbrev pub CanHold : Tree → (k : Key) → Option (ValueOf k) → Type 0
 CanHold T (Group p) v = Unit {0}
 CanHold T k v = (is_some (value_at T k) ≡ true) × (is_some v ≡ true)
 
 -- a key holds what is put there, where it can
 abbrev pub PutIsHeld : Type 0
-PutIsHeld = (T : Tree) (k : Key) (v : Option (Held k)) → CanHold T k v → value_at (put k v T) k ≡ v
+PutIsHeld = (T : Tree) (k : Key) (v : Option (ValueOf k)) → CanHold T k v → value_at (put k v T) k ≡ v
 
 -- a key holds what it held where the key that is put doesn't touch it
 abbrev pub OthersKeep : Type 0
-OthersKeep = (T : Tree) (k l : Key) (v : Option (Held k)) → touch l k ≡ false → value_at (put k v T) l ≡ value_at T l
+OthersKeep = (T : Tree) (k l : Key) (v : Option (ValueOf k)) → touch l k ≡ false → value_at (put k v T) l ≡ value_at T l
 
 -- a setting of an absent group, and the place of an unknown PID, can't be put
 abbrev pub AbsentStays : Type 0

@@ -9,6 +9,6 @@ use Rattle.cg_core_laws.proofs.commands_drop_out_of_runs.Goals as goal
 pub returns : goal.returns
 returns c = record {
   runs = drops_out cgroups laws;
-  newest = λ opening limit requests sound proper.
-      by_log cgroups laws opening sound limit requests proper (NewestClashesWithNone cgroups opening) (λ c i. newest_clashes_with_none cgroups laws opening c i.kept i.tied);
+  newest = λ opening bound requests sound proper.
+      by_log cgroups laws opening sound bound requests proper (NewestClashesWithNone cgroups opening) (λ c i. newest_clashes_with_none cgroups laws opening c i.kept i.tied);
 }

@@ -5,4 +5,4 @@ use Rattle.cg_core_laws.proofs.RoomLaws.{commit_sweeps}
 use Rattle.cg_core_laws.proofs.commits_may_sweep.Goals as goal
 
 pub returns : goal.returns
-returns c opening limit requests sound proper = commit_sweeps opening _ (serial cgroups laws opening sound limit requests proper)
+returns c opening bound requests sound proper = commit_sweeps opening _ (serial cgroups laws opening sound bound requests proper)

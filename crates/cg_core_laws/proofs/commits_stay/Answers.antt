@@ -4,4 +4,4 @@ use Rattle.cg_core_laws.proofs.Theorem.{commits_kept}
 use Rattle.cg_core_laws.proofs.commits_stay.Goals as goal
 
 pub returns : goal.returns
-returns c opening limit requests sound proper = commits_kept cgroups laws opening sound limit requests proper
+returns c opening bound requests sound proper = commits_kept cgroups laws opening sound bound requests proper

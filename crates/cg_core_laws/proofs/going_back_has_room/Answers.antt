@@ -5,4 +5,4 @@ use Rattle.cg_core_laws.proofs.RoomLaws.{room_kept}
 use Rattle.cg_core_laws.proofs.going_back_has_room.Goals as goal
 
 pub returns : goal.returns
-returns c opening limit requests sound proper = room_kept opening _ (serial cgroups laws opening sound limit requests proper)
+returns c opening bound requests sound proper = room_kept opening _ (serial cgroups laws opening sound bound requests proper)

@@ -6,5 +6,5 @@ use Rattle.cg_core_laws.proofs.KeysOfOthers.{keys_of_others_apart}
 use Rattle.cg_core_laws.proofs.live_commands_change_keys_apart.Goals as goal
 
 pub returns : goal.returns
-returns c opening limit requests sound proper =
-    by_log cgroups laws opening sound limit requests proper (LiveKeysApart opening) (λ c i. keys_of_others_apart opening laws c i.kept i.tied)
+returns c opening bound requests sound proper =
+    by_log cgroups laws opening sound bound requests proper (LiveKeysApart opening) (λ c i. keys_of_others_apart opening laws c i.kept i.tied)

@@ -6,5 +6,5 @@ use Rattle.cg_core_laws.proofs.Front.{pulled_to_the_front}
 use Rattle.cg_core_laws.proofs.open_transactions_are_pulled_to_the_front.Goals as goal
 
 pub returns : goal.returns
-returns c opening limit requests sound proper =
-    by_log cgroups laws opening sound limit requests proper (PulledToTheFront cgroups opening) (λ c i. pulled_to_the_front cgroups laws opening c i.kept i.tied)
+returns c opening bound requests sound proper =
+    by_log cgroups laws opening sound bound requests proper (PulledToTheFront cgroups opening) (λ c i. pulled_to_the_front cgroups laws opening c i.kept i.tied)

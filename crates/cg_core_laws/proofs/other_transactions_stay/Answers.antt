@@ -4,4 +4,4 @@ use Rattle.cg_core_laws.proofs.Theorem.{others_untouched}
 use Rattle.cg_core_laws.proofs.other_transactions_stay.Goals as goal
 
 pub returns : goal.returns
-returns c opening limit requests sound proper = others_untouched cgroups laws opening sound limit requests proper
+returns c opening bound requests sound proper = others_untouched cgroups laws opening sound bound requests proper

@@ -6,5 +6,5 @@ use Rattle.cg_core_laws.proofs.schedules_end_with_nothing_open.Goals as goal
 pub returns : goal.returns
 returns c = record {
   steps = answers_are_steps cgroups;
-  end = λ opening limit requests sound proper. ends_all cgroups laws opening sound limit requests proper;
+  end = λ opening bound requests sound proper. ends_all cgroups laws opening sound bound requests proper;
 }

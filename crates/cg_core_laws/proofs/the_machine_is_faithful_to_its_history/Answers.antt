@@ -4,4 +4,4 @@ use Rattle.cg_core_laws.proofs.Theorem.{faithful}
 use Rattle.cg_core_laws.proofs.the_machine_is_faithful_to_its_history.Goals as goal
 
 pub returns : goal.returns
-returns c opening limit requests sound proper = faithful cgroups laws opening sound limit requests proper
+returns c opening bound requests sound proper = faithful cgroups laws opening sound bound requests proper

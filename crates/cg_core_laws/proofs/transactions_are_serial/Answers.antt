@@ -4,4 +4,4 @@ use Rattle.cg_core_laws.proofs.Theorem.{serial}
 use Rattle.cg_core_laws.proofs.transactions_are_serial.Goals as goal
 
 pub returns : goal.returns
-returns c opening limit requests sound proper = serial cgroups laws opening sound limit requests proper
+returns c opening bound requests sound proper = serial cgroups laws opening sound bound requests proper

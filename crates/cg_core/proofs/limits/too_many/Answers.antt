@@ -2,18 +2,18 @@ use Rattle.std.proofs.Common.{◌≡◌, ◌-◌, Bool, false, length, take, IfS
 use Rattle.cg_name.specs.Path.{Path, is_root}
 use Rattle.cg_model.specs.Tree.{group}
 use Rattle.cg_model.specs.Derived.{descendants}
-use Rattle.cg_model.specs.Groups.{is_full}
+use Rattle.cg_model.specs.Groups.{reaches_descendants}
 use Rattle.cg_core.proofs.Creating.{any_above, any_parent, any_root, shorter, or_found, or_missed, root_from_none, below_from_some}
 use Rattle.cg_core.proofs.limits.too_many.Goals as goal
 
 pub loop-at-init : goal.loop-at-init
 loop-at-init c =
-    let f : Path → Bool = (λ a. is_full (group c.args.tree.now a) (descendants c.args.tree.now a)) in
+    let f : Path → Bool = (λ a. reaches_descendants (group c.args.tree.now a) (descendants c.args.tree.now a)) in
     ap (any_above f) (sym c.in_ok-at.ensures.value)
 
 pub returns-then-is_full : goal.returns-then-is_full
 returns-then-is_full c =
-    let f : Path → Bool = (λ a. is_full (group c.args.tree.now a) (descendants c.args.tree.now a)) in
+    let f : Path → Bool = (λ a. reaches_descendants (group c.args.tree.now a) (descendants c.args.tree.now a)) in
     let below : is_root c.loop-at.at ≡ false = below_from_some c.in_ok-above.field-0 (is_root c.loop-at.at) _ c.in_ok-above.ensures.root c.in-Some.is in
     let parent = subst (λ o. IfSome o (λ q. q ≡ take (length c.loop-at.at - 1) c.loop-at.at)) c.in-Some.is c.in_ok-above.ensures.value in
     or_found (any_above f c.loop-at.at) (any_above f c.in-Some.above) (f c.in-Some.above) (any_parent f c.loop-at.at c.in-Some.above below parent) (sym c.is_full.ensures ∙ c.if-is_full.true) ∙ sym c.loop-at.invariant
@@ -26,12 +26,12 @@ loop-at-smaller c =
 
 pub loop-at-preserved : goal.loop-at-preserved
 loop-at-preserved c =
-    let f : Path → Bool = (λ a. is_full (group c.args.tree.now a) (descendants c.args.tree.now a)) in
+    let f : Path → Bool = (λ a. reaches_descendants (group c.args.tree.now a) (descendants c.args.tree.now a)) in
     let below : is_root c.loop-at.at ≡ false = below_from_some c.in_ok-above.field-0 (is_root c.loop-at.at) _ c.in_ok-above.ensures.root c.in-Some.is in
     let parent = subst (λ o. IfSome o (λ q. q ≡ take (length c.loop-at.at - 1) c.loop-at.at)) c.in-Some.is c.in_ok-above.ensures.value in
     c.loop-at.invariant ∙ or_missed (any_above f c.loop-at.at) (any_above f c.in-Some.above) (f c.in-Some.above) (any_parent f c.loop-at.at c.in-Some.above below parent) (sym c.is_full.ensures ∙ c.if-is_full.false)
 
 pub returns : goal.returns
 returns c =
-    let f : Path → Bool = (λ a. is_full (group c.args.tree.now a) (descendants c.args.tree.now a)) in
+    let f : Path → Bool = (λ a. reaches_descendants (group c.args.tree.now a) (descendants c.args.tree.now a)) in
     sym (c.loop-at.invariant ∙ any_root f c.loop-at.at (root_from_none c.in_ok-above.field-0 (is_root c.loop-at.at) c.in_ok-above.ensures.root c.in_default.is))
