@@ -1,8 +1,8 @@
 use Rattle.cg_model.specs.Cgroups.{cgroups}
 use Rattle.cg_model.specs.Machine.{opened, steps}
-use Rattle.cg_core_laws.proofs.BusyExact.{busy_exactly}
-use Rattle.cg_core_laws.proofs.CgroupsLaws.{laws}
-use Rattle.cg_core_laws.proofs.Theorem.{serial, faithful}
+use Rattle.cg_core_laws.proofs.ControlGroups.BusyExactly.{busy_exactly}
+use Rattle.cg_core_laws.proofs.ControlGroups.LawsOfGroups.{laws}
+use Rattle.cg_core_laws.proofs.Interleaving.Theorem.{serial, faithful}
 use Rattle.cg_core_laws.proofs.busy_names_the_least_in_the_way.Goals as goal
 
 pub returns : goal.returns

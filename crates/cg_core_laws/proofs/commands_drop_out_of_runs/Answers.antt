@@ -1,9 +1,9 @@
 use Rattle.cg_model.specs.Cgroups.{cgroups}
-use Rattle.cg_core_laws.proofs.CgroupsLaws.{laws}
+use Rattle.cg_core_laws.proofs.ControlGroups.LawsOfGroups.{laws}
 use Rattle.cg_core_laws.specs.Reordered.{NewestClashesWithNone}
-use Rattle.cg_core_laws.proofs.Theorem.{by_log}
-use Rattle.cg_core_laws.proofs.Drop.{drops_out}
-use Rattle.cg_core_laws.proofs.Newest.{newest_clashes_with_none}
+use Rattle.cg_core_laws.proofs.Interleaving.Theorem.{by_log}
+use Rattle.cg_core_laws.proofs.Interleaving.DroppingOut.{drops_out}
+use Rattle.cg_core_laws.proofs.Interleaving.NewestClashesWithNone.{newest_clashes_with_none}
 use Rattle.cg_core_laws.proofs.commands_drop_out_of_runs.Goals as goal
 
 pub returns : goal.returns

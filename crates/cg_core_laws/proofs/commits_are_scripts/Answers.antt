@@ -1,5 +1,5 @@
 use Rattle.cg_model.specs.Cgroups.{cgroups}
-use Rattle.cg_core_laws.proofs.Scripts.{are_scripts}
+use Rattle.cg_core_laws.proofs.Interleaving.CommittedScripts.{are_scripts}
 use Rattle.cg_core_laws.proofs.commits_are_scripts.Goals as goal
 
 pub returns : goal.returns

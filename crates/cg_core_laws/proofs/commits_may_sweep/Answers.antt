@@ -1,7 +1,7 @@
 use Rattle.cg_model.specs.Cgroups.{cgroups}
-use Rattle.cg_core_laws.proofs.CgroupsLaws.{laws}
-use Rattle.cg_core_laws.proofs.Theorem.{serial}
-use Rattle.cg_core_laws.proofs.RoomLaws.{commit_sweeps}
+use Rattle.cg_core_laws.proofs.ControlGroups.LawsOfGroups.{laws}
+use Rattle.cg_core_laws.proofs.Interleaving.Theorem.{serial}
+use Rattle.cg_core_laws.proofs.ControlGroups.RoomForGoingBack.{commit_sweeps}
 use Rattle.cg_core_laws.proofs.commits_may_sweep.Goals as goal
 
 pub returns : goal.returns

@@ -1,6 +1,6 @@
 use Rattle.cg_model.specs.Cgroups.{cgroups}
-use Rattle.cg_core_laws.proofs.CgroupsLaws.{laws}
-use Rattle.cg_core_laws.proofs.Theorem.{going_back}
+use Rattle.cg_core_laws.proofs.ControlGroups.LawsOfGroups.{laws}
+use Rattle.cg_core_laws.proofs.Interleaving.Theorem.{going_back}
 use Rattle.cg_core_laws.proofs.going_back_succeeds_exactly.Goals as goal
 
 pub returns : goal.returns

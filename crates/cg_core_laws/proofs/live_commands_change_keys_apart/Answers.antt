@@ -1,8 +1,8 @@
 use Rattle.cg_model.specs.Cgroups.{cgroups}
 use Rattle.cg_core_laws.specs.Laws.{LiveKeysApart}
-use Rattle.cg_core_laws.proofs.CgroupsLaws.{laws}
-use Rattle.cg_core_laws.proofs.Theorem.{by_log}
-use Rattle.cg_core_laws.proofs.KeysOfOthers.{keys_of_others_apart}
+use Rattle.cg_core_laws.proofs.ControlGroups.LawsOfGroups.{laws}
+use Rattle.cg_core_laws.proofs.Interleaving.Theorem.{by_log}
+use Rattle.cg_core_laws.proofs.ControlGroups.LiveKeysApart.{keys_of_others_apart}
 use Rattle.cg_core_laws.proofs.live_commands_change_keys_apart.Goals as goal
 
 pub returns : goal.returns

@@ -1,8 +1,8 @@
 use Rattle.cg_model.specs.Cgroups.{cgroups}
 use Rattle.cg_core_laws.specs.Reordered.{PulledToTheFront}
-use Rattle.cg_core_laws.proofs.CgroupsLaws.{laws}
-use Rattle.cg_core_laws.proofs.Theorem.{by_log}
-use Rattle.cg_core_laws.proofs.Front.{pulled_to_the_front}
+use Rattle.cg_core_laws.proofs.ControlGroups.LawsOfGroups.{laws}
+use Rattle.cg_core_laws.proofs.Interleaving.Theorem.{by_log}
+use Rattle.cg_core_laws.proofs.Interleaving.PullingToTheFront.{pulled_to_the_front}
 use Rattle.cg_core_laws.proofs.open_transactions_are_pulled_to_the_front.Goals as goal
 
 pub returns : goal.returns

@@ -1,6 +1,6 @@
 use Rattle.cg_model.specs.Cgroups.{cgroups}
-use Rattle.cg_core_laws.proofs.CgroupsLaws.{laws}
-use Rattle.cg_core_laws.proofs.Theorem.{others_untouched}
+use Rattle.cg_core_laws.proofs.ControlGroups.LawsOfGroups.{laws}
+use Rattle.cg_core_laws.proofs.Interleaving.Theorem.{others_untouched}
 use Rattle.cg_core_laws.proofs.other_transactions_stay.Goals as goal
 
 pub returns : goal.returns

@@ -1,6 +1,6 @@
 use Rattle.cg_model.specs.Cgroups.{cgroups}
-use Rattle.cg_core_laws.proofs.CgroupsLaws.{laws}
-use Rattle.cg_core_laws.proofs.Ends.{answers_are_steps, ends_all}
+use Rattle.cg_core_laws.proofs.ControlGroups.LawsOfGroups.{laws}
+use Rattle.cg_core_laws.proofs.Interleaving.AbortsAtTheEnd.{answers_are_steps, ends_all}
 use Rattle.cg_core_laws.proofs.schedules_end_with_nothing_open.Goals as goal
 
 pub returns : goal.returns

@@ -1,6 +1,6 @@
 use Rattle.cg_model.specs.Cgroups.{cgroups}
-use Rattle.cg_core_laws.proofs.CgroupsLaws.{laws}
-use Rattle.cg_core_laws.proofs.Theorem.{faithful}
+use Rattle.cg_core_laws.proofs.ControlGroups.LawsOfGroups.{laws}
+use Rattle.cg_core_laws.proofs.Interleaving.Theorem.{faithful}
 use Rattle.cg_core_laws.proofs.the_machine_is_faithful_to_its_history.Goals as goal
 
 pub returns : goal.returns

@@ -1,7 +1,7 @@
 use Rattle.cg_model.specs.Cgroups.{cgroups}
-use Rattle.cg_core_laws.proofs.CgroupsLaws.{laws}
-use Rattle.cg_core_laws.proofs.Theorem.{of_history}
-use Rattle.cg_core_laws.proofs.OfHistory.{bound_kept}
+use Rattle.cg_core_laws.proofs.ControlGroups.LawsOfGroups.{laws}
+use Rattle.cg_core_laws.proofs.Interleaving.Theorem.{of_history}
+use Rattle.cg_core_laws.proofs.Interleaving.MachineOfHistory.{bound_kept}
 use Rattle.cg_core_laws.proofs.the_machine_is_that_of_its_history.Goals as goal
 
 pub returns : goal.returns

@@ -1,0 +1,17 @@
+-- The tree of control groups as a system of commands, and what holds of its keys, its answers and its entries alone.
+-- it keeps the laws that the theory asks
+pub mod LawsOfGroups
+-- Busy is answered exactly where a transaction is in the way and no earlier refusal applies
+pub mod BusyExactly
+-- live commands of different open transactions change keys that don't touch
+pub mod LiveKeysApart
+-- which groups a list of changes makes or takes away
+mod GroupChanges
+-- stages of unwinding: the tree is sound, and taking an item off leads to the next stage
+mod UnwindingStages
+-- below a path that is absent there is no group, and what is needed below it is needed with it
+mod NeededAbove
+-- what is neither a group nor needed may be swept
+mod Sweeping
+-- going back has room at every turn
+pub mod RoomForGoingBack
