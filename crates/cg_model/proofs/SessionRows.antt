@@ -1,48 +1,48 @@
 -- The worked runs of several sessions compute.
 use Rattle.std.proofs.Common.{refl}
-use Rattle.cg_model.specs.Rows.{play, play_to_end, play_within, w0, w0_with, cpus_below, cpus_of}
+use Rattle.cg_model.specs.Rows.{play, play_to_end}
 use Rattle.cg_model.specs.SessionRows as rows
 
 pub abort_beside_commit : rows.AbortBesideCommit
-unfolding play play_within w0 w0_with cpus_below cpus_of
+unfolding play
 abort_beside_commit = refl
 
 pub locked_until_commit : rows.LockedUntilCommit
-unfolding play play_within w0 w0_with cpus_below cpus_of
+unfolding play
 locked_until_commit = refl
 
 pub migrate_pins_both_ends : rows.MigratePinsBothEnds
-unfolding play play_within w0 w0_with cpus_below cpus_of
+unfolding play
 migrate_pins_both_ends = refl
 
 pub unseen_removal : rows.UnseenRemoval
-unfolding play play_within w0 w0_with cpus_below cpus_of
+unfolding play
 unseen_removal = refl
 
 pub commit_order : rows.CommitOrder
-unfolding play play_within w0 w0_with cpus_below cpus_of
+unfolding play
 commit_order = refl
 
 pub counts_are_locked : rows.CountsAreLocked
-unfolding play play_within w0 w0_with cpus_below cpus_of
+unfolding play
 counts_are_locked = refl
 
 pub readers_share : rows.ReadersShare
-unfolding play play_within w0 w0_with cpus_below cpus_of
+unfolding play
 readers_share = refl
 
 pub readers_are_protected : rows.ReadersAreProtected
-unfolding play play_within w0 w0_with cpus_below cpus_of
+unfolding play
 readers_are_protected = refl
 
 pub processes_are_locked : rows.ProcessesAreLocked
-unfolding play play_within w0 w0_with cpus_below cpus_of
+unfolding play
 processes_are_locked = refl
 
 pub online_locks_all : rows.OnlineLocksAll
-unfolding play play_within w0 w0_with cpus_below cpus_of
+unfolding play
 online_locks_all = refl
 
 pub aborts_at_the_end : rows.AbortsAtTheEnd
-unfolding play_to_end w0 w0_with
+unfolding play_to_end
 aborts_at_the_end = refl

@@ -27,39 +27,6 @@ use Rattle.cg_model.specs.Machine.{Machine, opened, step}
 use Rattle.cg_model.specs.Output.{answers, output}
 use Rattle.cg_model.specs.Room.{has_entry}
 
--- requests of sessions by number
-abbrev pub Asked : Type 0
-Asked = List (ℕ × Request cgroups)
-
--- the answers to requests, and the tree at the end
-unfoldable pub played : Machine cgroups → Asked → List Answer × Tree
-unfolding get insert empty checked retain entries keys len set_at domain members in_common with_member such_that_below children descendants processes processes_in_subtree same_name same_path digits effect footprint
-played m asked = let r = answers cgroups m asked in (r.0, r.1.tree)
-
--- with the greatest bound of the history
-unfoldable pub play : Tree → Asked → List Answer × Tree
-unfolding played
-play T asked = played (opened cgroups T 1048576) asked
-
-unfoldable pub play_within : ℕ → Tree → Asked → List Answer × Tree
-unfolding played
-play_within bound T asked = played (opened cgroups T bound) asked
-
--- a whole schedule, with the aborts at its end
-unfoldable pub play_to_end : Tree → Asked → List Answer × Tree
-unfolding get insert empty checked retain entries keys len set_at domain members in_common with_member such_that_below children descendants processes processes_in_subtree same_name same_path digits effect footprint
-play_to_end T asked = let r = output cgroups (opened cgroups T 1048576) asked in (r.0, r.1.tree)
-
--- whether a path has an entry after requests
-unfoldable pub entry_after : Machine cgroups → Asked → Tree → Path → Bool
-unfolding get insert empty checked retain entries keys len set_at domain members in_common with_member such_that_below children descendants processes processes_in_subtree same_name same_path digits effect footprint
-entry_after m [] O p = has_entry O (λ t. live t m.history) (numbers (opens m.history)) m.tree p
-entry_after m (q ∷ qs) O p = entry_after (step cgroups m q.0 q.1).0 qs O p
-
-unfoldable pub has_entry_after : Tree → Asked → Path → Bool
-unfolding entry_after
-has_entry_after O asked p = entry_after (opened cgroups O 1048576) asked O p
-
 -- the CPUs from first on, so many of them
 unfoldable pub cpus_below : ℕ → FiniteSet
 unfolding such_that_below with_member set_at insert empty checked
@@ -91,6 +58,39 @@ w0 = record {
 unfoldable pub w0_with : List (Path × Settings) → List (ℕ × Path) → Tree
 unfolding w0 groups_of places_of
 w0_with gs ps = record w0 { groups = groups_of gs; places = places_of ps }
+
+-- requests of sessions by number
+abbrev pub Asked : Type 0
+Asked = List (ℕ × Request cgroups)
+
+-- a machine whose history has the greatest bound
+abbrev ample : Tree → Machine cgroups
+ample T = opened cgroups T 1048576
+
+-- the answers to requests, and the tree at the end; what runs are written with computes here and wherever this does
+unfoldable pub played : List Answer × Machine cgroups → List Answer × Tree
+unfolding get insert empty checked retain entries keys len set_at domain members in_common with_member such_that_below children descendants processes processes_in_subtree same_name same_path digits effect footprint cpus_below cpus_of w0 w0_with
+played r = (r.0, r.1.tree)
+
+unfoldable pub play : Tree → Asked → List Answer × Tree
+unfolding played
+play T asked = played (answers cgroups (ample T) asked)
+
+unfoldable pub play_within : ℕ → Tree → Asked → List Answer × Tree
+unfolding played
+play_within bound T asked = played (answers cgroups (opened cgroups T bound) asked)
+
+-- a whole schedule, with the aborts at its end
+unfoldable pub play_to_end : Tree → Asked → List Answer × Tree
+unfolding played
+play_to_end T asked = played (output cgroups (ample T) asked)
+
+-- whether a path has an entry after requests
+unfoldable pub has_entry_after : Tree → Asked → Path → Bool
+unfolding played
+has_entry_after O asked p =
+    let m = (answers cgroups (ample O) asked).1 in
+    has_entry O (λ t. live t m.history) (numbers (opens m.history)) m.tree p
 
 abbrev pub /a : Path
 /a = codes "a" ∷ []
