@@ -35,13 +35,17 @@ abbrev pub exceeds_depth : Option Settings → ℕ → Bool
 exceeds_depth None d = false
 exceeds_depth (Some s) d = exceeds s.max_depth d
 
+-- the test passes at some path above p
+abbrev pub any_above : (Path → Bool) → Path → Bool
+any_above f p = list_any (λ b. b) (along f p)
+
 -- some group above p has as many descendants as it may have
 abbrev pub too_many : Tree → Path → Bool
-too_many T p = list_any (λ b. b) (along (λ a. reaches_descendants (group T a) (descendants T a)) p)
+too_many T p = any_above (λ a. reaches_descendants (group T a) (descendants T a)) p
 
 -- p is deeper below some group than that group allows
 abbrev pub too_deep : Tree → Path → Bool
-too_deep T p = list_any (λ b. b) (along (λ a. exceeds_depth (group T a) (length p - length a)) p)
+too_deep T p = any_above (λ a. exceeds_depth (group T a) (length p - length a)) p
 
 -- by the path, its parent's settings, its own, and the two limits; of several limits, those on descendants come first (this
 -- project's own choice)

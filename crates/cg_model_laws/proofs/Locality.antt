@@ -1,15 +1,15 @@
 -- Locality: trees that agree on the footprint of a command give the same effect and the same footprint.
-use Rattle.std.proofs.Common.{◌≡◌, cond, [], ◌∷◌, length, ◌-◌, refl, ap, ◌∙◌, Option, Some, None}
+use Rattle.std.proofs.Common.{◌≡◌, Bool, true, cond, [], ◌∷◌, length, ◌-◌, refl, ap, ◌∙◌, Option, Some, None}
 use Rattle.std.specs.List.{list_any}
 use Rattle.cg_maps.specs.FiniteMap.{is_nonempty}
-use Rattle.cg_name.specs.Path.{Path}
+use Rattle.cg_name.specs.Path.{Path, is_above}
 use Rattle.cg_text.specs.declared.limit.Limit.TheVariants.{Max, UpTo}
 use Rattle.cg_text.specs.declared.settings.Settings.{Settings}
 use Rattle.cg_model.specs.Tree.{Tree, group}
 use Rattle.cg_model.specs.Derived.{descendants}
 use Rattle.cg_model.specs.Key as keys
 use Rattle.cg_model.specs.Command.{Command, Create, Remove, Migrate, Subtree, Freeze, Cpus, Show, Online, MaxDescendants, MaxDepth}
-use Rattle.cg_model.specs.Groups.{reaches, reaches_descendants, exceeds_depth, too_many, too_deep, create_effect, remove_effect}
+use Rattle.cg_model.specs.Groups.{reaches, reaches_descendants, exceeds_depth, any_above, too_many, too_deep, create_effect, remove_effect}
 use Rattle.cg_model.specs.Control.{subtree_effect}
 use Rattle.cg_model.specs.Writes.{migrate_effect, freeze_effect, cpus_effect, limit_effect, online_effect, show_effect}
 use Rattle.cg_model.specs.File.{file_seen}
@@ -19,6 +19,10 @@ use Rattle.cg_model_laws.specs.Covers.{SameAround, Agree, AgreeOn}
 use Rattle.cg_model_laws.proofs.Paths.{along_same}
 use Rattle.cg_model_laws.proofs.Marks.{all_along}
 use Rattle.cg_model_laws.proofs.Seen.{group_same, group_above, parent_same, children_same, processes_same, populated_same, frozen_same, effective_same, available_same}
+
+-- tests that say the same of each path above p
+any_same : (f g : Path → Bool) (p : Path) → ((a : Path) → is_above a p ≡ true → f a ≡ g a) → any_above f p ≡ any_above g p
+any_same f g p h = ap (list_any (λ b. b)) (along_same f g p h)
 
 module _ (T U : Tree) where
   full_same : (a : Path) (s : Option Settings) → AgreeOn (count_of a s) T U → reaches_descendants s (descendants T a) ≡ reaches_descendants s (descendants U a)
@@ -30,10 +34,10 @@ module _ (T U : Tree) where
       ] h
 
   many_same : (p : Path) → SameAround p T U → AgreeOn (counts T p) T U → too_many T p ≡ too_many U p
-  many_same p same h = ap (list_any (λ b. b)) (along_same _ _ p (λ a e. full_same a (group T a) (all_along (λ m. Agree m T U) _ p a e h) ∙ ap (λ s. reaches_descendants s (descendants U a)) (group_above same a e)))
+  many_same p same h = any_same _ _ p (λ a e. full_same a (group T a) (all_along (λ m. Agree m T U) _ p a e h) ∙ ap (λ s. reaches_descendants s (descendants U a)) (group_above same a e))
 
   deep_same : (p : Path) → SameAround p T U → too_deep T p ≡ too_deep U p
-  deep_same p same = ap (list_any (λ b. b)) (along_same _ _ p (λ a e. ap (λ s. exceeds_depth s (length p - length a)) (group_above same a e)))
+  deep_same p same = any_same _ _ p (λ a e. ap (λ s. exceeds_depth s (length p - length a)) (group_above same a e))
 
   pub effect_same : T.controllers ≡ U.controllers → (c : Command) → AgreeOn (footprint c T) T U → effect c T ≡ effect c U
   unfolding effect footprint
