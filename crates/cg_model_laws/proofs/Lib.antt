@@ -10,7 +10,8 @@ mod Frame
 pub mod Lawful
 mod Commuting
 mod IfAccepted
-pub mod Plans
+mod Plans
+pub mod EachCommand
 pub mod Parents
 mod Values
 mod SinglePuts

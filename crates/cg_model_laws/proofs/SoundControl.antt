@@ -1,5 +1,5 @@
 -- Writing cgroup.subtree_control keeps a tree sound: the children's CPUs are emptied one by one, and then the control is put.
-use Rattle.std.proofs.Common.{◌≡◌, ℕ, Bool, true, false, not, ◌&&◌, ◌||◌, List, [], ◌∷◌, inl, inr, refl, sym, ap, subst, ◌∙◌, Option, Some, None}
+use Rattle.std.proofs.Common.{◌≡◌, ℕ, Bool, true, false, not, ◌&&◌, ◌||◌, List, [], ◌∷◌, inl, inr, refl, sym, ap, subst, ◌∙◌, Some}
 use Rattle.std.specs.List.{AllByRecursion, list_any}
 use Rattle.std.proofs.lemmas.Bool.{cond_both, false_from_ne_true, true_from_ne_false}
 use Rattle.std.proofs.lemmas.Option.{same_Some}
@@ -18,13 +18,11 @@ use Rattle.cg_model.specs.Derived.{children, processes, available}
 use Rattle.cg_model.specs.Sound.{Sound}
 use Rattle.cg_model.specs.Key.{Control, Cpus, with_setting, Part, put, part_replaced}
 use Rattle.cg_model.specs.Change.{Change, change, done}
-use Rattle.cg_model.specs.Control.{planned, not_available, used_below, in_use, emptied, loses_cpuset, control_change, controlled, subtree_effect}
+use Rattle.cg_model.specs.Control.{planned, not_available, used_below, in_use, emptied, loses_cpuset, control_change, controlled}
 use Rattle.cg_model_laws.proofs.Paths.{never, same_path-itself, same_path-is, path_cases}
 use Rattle.cg_model_laws.proofs.Keys.{group_here, group_apart}
 use Rattle.cg_model_laws.proofs.Parents.{not_its_parent, not_parents_of_each_other, parent_exists, child_facts, children_differ, child_passes, no_process, available_below, available_root}
 use Rattle.cg_model_laws.proofs.ControllerSets.{has-such_that, none_passes}
-use Rattle.cg_model_laws.proofs.IfAccepted.{IfAccepted}
-use Rattle.cg_model_laws.proofs.Plans.{planned_both}
 use Rattle.cg_model_laws.proofs.SoundPuts.{no_members_is_empty, own_root, own_child, put_part, put_control, same_control}
 
 -- while the CPUs of p's children are emptied: T is the tree before, U the tree by now, and es are the children still to come
@@ -169,7 +167,7 @@ module _ (T : Tree) (sound : Sound T) where
         (λ kept. control_put T (children T p) none_emptied (λ q x b g n. stays s.control.cpuset t.cpuset ((own_child T sound p s e q x b g).cpus n) kept))
 
   -- where no refusal applies
-  unrefused_sound : (p : Path) (ops : ControlOps) (s : Settings) (a : Controllers) → group T p ≡ Some s → available T p ≡ Some a
+  pub unrefused_sound : (p : Path) (ops : ControlOps) (s : Settings) (a : Controllers) → group T p ≡ Some s → available T p ≡ Some a
       → not_available a s.control ops ≡ [] → in_use s.control ops (used_below (children T p)) ≡ []
       → (not (is_root p) && is_nonempty (processes T p) && not (is_no_controllers (planned s.control ops))) ≡ false
       → Sound (done (controlled p s.control (planned s.control ops) (children T p)) T)
@@ -188,11 +186,3 @@ module _ (T : Tree) (sound : Sound T) where
       let by_child : has (used_below (children T p)) c ≡ true = has-such_that taken c ∙ child_passes T p q y (λ f. has f.1.control c) b g h in
       has-such_that after c ∙ used_planned (old c) (plus c) (minus c) (has (used_below (children T p)) c) own by_child (none_passes used none_used c))
       (λ k g. not_refused (is_root p) _ _ no_internal (true_from_ne_false (is_nonempty (processes T p)) (λ none. no_process T p k none g)))
-
-  pub subtree_sound : (p : Path) (ops : ControlOps) (own : Option Settings) (offered : Option Controllers) → group T p ≡ own → available T p ≡ offered
-      → IfAccepted (subtree_effect p ops own offered (children T p) (is_nonempty (processes T p))) (λ cs. Sound (done cs T))
-  subtree_sound p ops None offered e v = tt
-  subtree_sound p ops (Some s) None e v = tt
-  subtree_sound p ops (Some s) (Some a) e v =
-      planned_both (λ f. IfAccepted f (λ cs. Sound (done cs T))) p s.control (children T p) a ops (used_below (children T p)) (is_nonempty (processes T p)) (is_root p)
-      (λ c. tt) (λ c. tt) tt (unrefused_sound p ops s a e v)

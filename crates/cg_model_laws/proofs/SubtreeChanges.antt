@@ -7,15 +7,14 @@ use Rattle.cg_maps.specs.FiniteMap.{empty}
 use Rattle.cg_maps.specs.FiniteSet.{is_empty_set}
 use Rattle.cg_maps.proofs.Maps as maps
 use Rattle.cg_name.specs.Order.{path_cmp_total}
-use Rattle.cg_name.specs.Path.{Path, is_root, same_path, is_prefix, is_parent, comparable}
-use Rattle.cg_text.specs.declared.control_ops.ControlOps.{ControlOps}
+use Rattle.cg_name.specs.Path.{Path, same_path, is_prefix, is_parent, comparable}
 use Rattle.cg_text.specs.declared.controllers.Controllers.{Controllers}
 use Rattle.cg_text.specs.declared.settings.Settings.{Settings}
 use Rattle.cg_model.specs.Tree.{Tree, group}
 use Rattle.cg_model.specs.Derived.{children}
 use Rattle.cg_model.specs.Key.{Field, Control, Cpus, Setting, setting, Part, value_at, put, part_replaced, touch}
 use Rattle.cg_model.specs.Change.{Change, change}
-use Rattle.cg_model.specs.Control.{planned, used_below, emptied, loses_cpuset, control_change, controlled, subtree_effect}
+use Rattle.cg_model.specs.Control.{emptied, loses_cpuset, control_change, controlled}
 use Rattle.cg_model.specs.Footprint.{X, S, N, Pid, Count}
 use Rattle.cg_model_laws.proofs.Lists.{all_map, all_with}
 use Rattle.cg_model_laws.proofs.Paths.{same_path-apart, prefix_itself, prefix_trans, prefixes_of_one, parent-prefix, comparable_down}
@@ -23,8 +22,6 @@ use Rattle.cg_model_laws.proofs.Fields.{setting_there}
 use Rattle.cg_model_laws.proofs.Keys.{group_here, put_apart}
 use Rattle.cg_model_laws.proofs.Marks.{same_path-swapped}
 use Rattle.cg_model_laws.proofs.Lawful.{Under, IsNoGroup, IsLawful}
-use Rattle.cg_model_laws.proofs.IfAccepted.{IfAccepted}
-use Rattle.cg_model_laws.proofs.Plans.{planned_both}
 use Rattle.cg_model_laws.proofs.Parents.{child_facts, children_differ}
 
 -- the mark of a group covers that of a group below it
@@ -91,7 +88,7 @@ all_lawful p s t (e ∷ es) T h v d c =
     flipped : (a b : Path) → touch (Part a Cpus) (Part b Cpus) ≡ false → touch (Part b Cpus) (Part a Cpus) ≡ false
     flipped a b t = ap (λ x. x && true) (same_path-swapped b a) ∙ t
 
-control_lawful : (T : Tree) (p : Path) (s : Settings) (t : Controllers) → group T p ≡ Some s → IsLawful (X p ∷ []) T (controlled p s.control t (children T p))
+pub control_lawful : (T : Tree) (p : Path) (s : Settings) (t : Controllers) → group T p ≡ Some s → IsLawful (X p ∷ []) T (controlled p s.control t (children T p))
 control_lawful T p s t e =
     let es : List (Path × Settings) = children T p in
     let facts : AllByRecursion (λ e. (is_parent p e.0 ≡ true) × (group T e.0 ≡ Some e.1)) es = child_facts T p in
@@ -99,10 +96,3 @@ control_lawful T p s t e =
       | true ↦ all_lawful p s.control t es T (all_map (λ e h. h.0) es facts) (all_map (λ e h. ap (option_map (setting Cpus)) h.1) es facts) (children_differ T p) (ap (option_map (setting Control)) e)
       | false ↦ all_lawful p s.control t [] T tt tt tt (ap (option_map (setting Control)) e)
     ]
-
-pub subtree_lawful : (T : Tree) (p : Path) (ops : ControlOps) (s : Option Settings) (a : Option Controllers) (b : Bool) → group T p ≡ s → IfAccepted (subtree_effect p ops s a (children T p) b) (IsLawful (X p ∷ []) T)
-subtree_lawful T p ops None a b e = tt
-subtree_lawful T p ops (Some s) None b e = tt
-subtree_lawful T p ops (Some s) (Some a) b e =
-    planned_both (λ f. IfAccepted f (IsLawful (X p ∷ []) T)) p s.control (children T p) a ops (used_below (children T p)) b (is_root p)
-    (λ c. tt) (λ c. tt) tt (λ _ _ _. control_lawful T p s (planned s.control ops) e)
