@@ -25,12 +25,15 @@ use Rattle.cg_core_laws.specs.Headline.{AreProper, IsSerial, IsFaithful, GoesBac
 abbrev pub AfterAnySteps : (Tree → Machine cgroups → Type 0) → Type 0
 AfterAnySteps P = (opening : Tree) (bound : ℕ) (requests : List (ℕ × Request cgroups)) → Sound opening → AreProper requests → P opening (steps cgroups (opened cgroups opening bound) requests)
 
+-- the tree, and the orders in which the transactions may run one after another
 abbrev pub Serial : Type 0
 Serial = AfterAnySteps (λ opening m. IsSerial cgroups opening m)
 
+-- the history is legal, and the answers are those that it gives
 abbrev pub Faithful : Type 0
 Faithful = AfterAnySteps (λ opening m. IsFaithful cgroups opening m)
 
+-- stacks, numbers and counts are those of the history
 abbrev pub OfHistory : Type 0
 OfHistory = AfterAnySteps (λ opening m. IsOfHistory cgroups opening m)
 
@@ -38,12 +41,15 @@ OfHistory = AfterAnySteps (λ opening m. IsOfHistory cgroups opening m)
 abbrev pub BoundKept : Type 0
 BoundKept = (opening : Tree) (bound : ℕ) (requests : List (ℕ × Request cgroups)) → AreProper requests → (steps cgroups (opened cgroups opening bound) requests).bound ≡ bound
 
+-- a session with an open transaction goes back, and ends it, unrefused
 abbrev pub GoingBack : Type 0
 GoingBack = AfterAnySteps (λ opening m. (s t : ℕ) → transaction_in s (opens m.history) ≡ Some t → GoesBack cgroups m s t)
 
+-- no step changes the stack of another transaction
 abbrev pub OthersUntouched : Type 0
 OthersUntouched = AfterAnySteps (λ opening m. OthersStay cgroups m)
 
+-- no step changes a commit's tree
 abbrev pub CommitsKept : Type 0
 CommitsKept = AfterAnySteps (λ opening m. CommitsStay cgroups m)
 
@@ -64,6 +70,7 @@ abbrev pub LiveKeysApart : Tree → Machine cgroups → Type 0
 LiveKeysApart opening m = (t u : ℕ) → among t (numbers (opens m.history)) ≡ true → among u (numbers (opens m.history)) ≡ true → t ≢ u
     → AllByRecursion (λ x. AllByRecursion (λ z. KeysDontTouch (inverse opening x) (inverse opening z)) (live u m.history)) (live t m.history)
 
+-- so it is after any steps
 abbrev pub KeysOfOthersApart : Type 0
 KeysOfOthersApart = AfterAnySteps LiveKeysApart
 

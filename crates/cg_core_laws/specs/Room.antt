@@ -12,6 +12,7 @@ use Rattle.cg_model.specs.Room.{changes_group, inverse, has_entry, RoomFor, Swee
 use Rattle.cg_core_laws.specs.Unwind.{with_items}
 use Rattle.cg_core_laws.specs.Headline.{AreOpen}
 
+-- the path is one of these
 abbrev pub is_listed : Path → List Path → Bool
 is_listed p ps = list_any (same_path p) ps
 

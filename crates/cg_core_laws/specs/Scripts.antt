@@ -8,6 +8,7 @@ use Rattle.cg_model.specs.Opens.{commits}
 use Rattle.cg_model.specs.Live.{Items, committed, scripts, one_by_one}
 use Rattle.cg_model.specs.Run.{run_items, committed_through, commit_tree}
 
+-- the scripts of a history are what was committed
 pub record AreScripts (y : System) (h : History y) : Type 0 where
   -- there is one script for each commit
   pub count : length (scripts h) ≡ commits h
@@ -18,6 +19,7 @@ pub record AreScripts (y : System) (h : History y) : Type 0 where
   -- what was committed through the m-th commit begins what was through the n-th
   pub begin : (m n : ℕ) → m ≤ n → (newer : Items y) × (committed_through n h ≡ newer ++ committed_through m h)
 
+-- so it is of every history
 abbrev pub CommittedScripts : Type 0
 CommittedScripts = (h : History cgroups) → AreScripts cgroups h
 

@@ -13,6 +13,7 @@ abbrev pub as_item : {y : System} → StackEntry y → Item y
 as_item (Did t h c a d f) = Ran t h c a
 as_item (Savepoint t h n) = AtSavepoint t h n
 
+-- the items of a stack
 abbrev pub as_items : {y : System} → List (StackEntry y) → Items y
 as_items [] = []
 as_items (x ∷ l) = as_item x ∷ as_items l

@@ -8,6 +8,7 @@ use Rattle.cg_model.specs.Command.{Command, IsProper}
 use Rattle.cg_model.specs.Effect.{effect}
 use Rattle.cg_model.specs.Footprint.{Mark, clashes, footprint}
 
+-- its commands with their footprints, going back by lists of changes, and what is kept
 abbrev pub cgroups : System
 cgroups = record {
   State = Tree;

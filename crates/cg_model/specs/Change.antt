@@ -10,6 +10,7 @@ pub record Change : Type 0 where
   pub before : Option (ValueOf key)
   pub left : Option (ValueOf key)
 
+-- a change by its three parts
 abbrev pub change : (k : Key) → Option (ValueOf k) → Option (ValueOf k) → Change
 change k b l = record { key = k; before = b; left = l }
 

@@ -14,9 +14,11 @@ use Rattle.cg_text.specs.declared.settings.Settings.{Settings}
 use Rattle.cg_text.proofs.Limits.{limit_is_its_number}
 use Rattle.cg_model.specs.Tree.{Tree}
 
+-- a limit, by its number where it has one
 abbrev pub limit_code : Coded Limit
 limit_code = coded_via (coded_option coded_ℕ) number_of limit_is_its_number
 
+-- a set of controllers, by eight truth values
 abbrev pub controllers_code : Coded Controllers
 controllers_code =
     code_by (Bool × (Bool × (Bool × (Bool × (Bool × (Bool × (Bool × Bool)))))))
@@ -25,6 +27,7 @@ controllers_code =
     (λ p. record { cpuset = p.0; cpu = p.1.0; io = p.1.1.0; memory = p.1.1.1.0; hugetlb = p.1.1.1.1.0; pids = p.1.1.1.1.1.0; rdma = p.1.1.1.1.1.1.0; misc = p.1.1.1.1.1.1.1 })
     (λ _. refl)
 
+-- settings, by the five of them
 abbrev pub settings_code : Coded Settings
 settings_code =
     code_by (Controllers × (Bool × (FiniteSet × (Limit × Limit)))) (coded× controllers_code (coded× coded_bool (coded× set_code (coded× limit_code limit_code))))
@@ -32,9 +35,11 @@ settings_code =
     (λ p. record { control = p.0; freeze = p.1.0; cpus = p.1.1.0; max_descendants = p.1.1.1.0; max_depth = p.1.1.1.1 })
     (λ _. refl)
 
+-- a path, by the bytes of its names
 abbrev pub path_code : Coded Path
 path_code = coded_list (coded_list coded_ℕ)
 
+-- a tree, by its four parts
 abbrev pub tree_code : Coded Tree
 tree_code =
     code_by (Controllers × (FiniteSet × (FiniteMap path_cmp Settings × FiniteMap nat_cmp Path))) (coded× controllers_code (coded× set_code (coded× (map_code path_code settings_code) (map_code coded_ℕ path_code))))

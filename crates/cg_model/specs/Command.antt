@@ -10,6 +10,7 @@ use Rattle.cg_model.specs.System.{Attempt, Refuse, Accept}
 use Rattle.cg_model.specs.Tree.{Tree}
 use Rattle.cg_model.specs.Change.{Change, done}
 
+-- one of the ten
 pub data Command : Type 0 where
   -- make the group at a path; take it away
   Create Remove : Path → Command

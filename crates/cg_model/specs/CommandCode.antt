@@ -14,6 +14,7 @@ use Rattle.cg_text.proofs.Operations.{same_ops}
 use Rattle.cg_model.specs.Code.{limit_code, controllers_code, path_code}
 use Rattle.cg_model.specs.Command.{Command, Create, Remove, Migrate, Subtree, Freeze, Cpus, Show, Online, MaxDescendants, MaxDepth}
 
+-- the number of a file
 abbrev from_file : FileName → ℕ
 from_file files.Procs = 0
 from_file files.Controllers = 1
@@ -25,11 +26,13 @@ from_file files.EffectiveCpus = 6
 from_file files.MaxDescendants = 7
 from_file files.MaxDepth = 8
 
+-- the file with a number
 abbrev to_file : ℕ → FileName
 to_file n =
     cond (n == 0) files.Procs (cond (n == 1) files.Controllers (cond (n == 2) files.SubtreeControl (cond (n == 3) files.Events (cond (n == 4) files.Freeze
     (cond (n == 5) files.Cpus (cond (n == 6) files.EffectiveCpus (cond (n == 7) files.MaxDescendants files.MaxDepth)))))))
 
+-- a file is that with its number
 pub back_file : (f : FileName) → to_file (from_file f) ≡ f
 back_file files.Procs = refl
 back_file files.Controllers = refl
@@ -41,16 +44,20 @@ back_file files.EffectiveCpus = refl
 back_file files.MaxDescendants = refl
 back_file files.MaxDepth = refl
 
+-- a file, by its number
 abbrev pub file_code : Coded FileName
 file_code = code_by ℕ coded_ℕ from_file to_file back_file
 
+-- operations, by their two sets
 abbrev pub ops_code : Coded ControlOps
 ops_code = coded_via (coded× controllers_code controllers_code) (λ ops. (ops.plus, ops.minus)) (λ ops others e. same_ops ops others (λ i. (e i).0) (λ i. (e i).1))
 
+-- which of the ten, and its arguments
 abbrev CommandSum : Type 0
 CommandSum =
     Path ⊎ (Path ⊎ ((ℕ × Path) ⊎ ((Path × ControlOps) ⊎ ((Path × Bool) ⊎ ((Path × FiniteSet) ⊎ ((Path × FileName) ⊎ (FiniteSet ⊎ ((Path × Limit) ⊎ (Path × Limit)))))))))
 
+-- a command as that
 abbrev from_command : Command → CommandSum
 from_command (Create p) = inl p
 from_command (Remove p) = inr (inl p)
@@ -63,6 +70,7 @@ from_command (Online v) = inr (inr (inr (inr (inr (inr (inr (inl v)))))))
 from_command (MaxDescendants p v) = inr (inr (inr (inr (inr (inr (inr (inr (inl (p, v)))))))))
 from_command (MaxDepth p v) = inr (inr (inr (inr (inr (inr (inr (inr (inr (p, v)))))))))
 
+-- the command that it is
 abbrev to_command : CommandSum → Command
 to_command (inl p) = Create p
 to_command (inr (inl p)) = Remove p
@@ -75,6 +83,7 @@ to_command (inr (inr (inr (inr (inr (inr (inr (inl v)))))))) = Online v
 to_command (inr (inr (inr (inr (inr (inr (inr (inr (inl x))))))))) = MaxDescendants x.0 x.1
 to_command (inr (inr (inr (inr (inr (inr (inr (inr (inr x))))))))) = MaxDepth x.0 x.1
 
+-- a command is the one that it is written as
 pub back_command : (c : Command) → to_command (from_command c) ≡ c
 back_command (Create p) = refl
 back_command (Remove p) = refl
@@ -87,6 +96,7 @@ back_command (Online v) = refl
 back_command (MaxDescendants p v) = refl
 back_command (MaxDepth p v) = refl
 
+-- a command, by which of the ten it is and by its arguments
 abbrev pub command_code : Coded Command
 command_code =
     code_by CommandSum

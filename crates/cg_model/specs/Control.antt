@@ -17,15 +17,15 @@ use Rattle.cg_model.specs.Change.{Change, change}
 use Rattle.cg_model.specs.System.{Done, Refuse, Accept}
 use Rattle.cg_model.specs.Command.{Effect}
 
--- the set after the operations
+-- the set after the operations (Core Interface Files: cgroup.subtree_control)
 abbrev pub planned : Controllers → ControlOps → Controllers
 planned s ops = such_that (λ c. (has s c || has ops.plus c) && not (has ops.minus c))
 
--- those to be enabled that are neither enabled nor available, in the profile's order
+-- those to be enabled that are neither enabled nor available, in the profile's order (Enabling and Disabling)
 abbrev pub not_available : Controllers → Controllers → ControlOps → List Controller
 not_available a s ops = filter (λ c. has ops.plus c && not (has s c) && not (has a c)) all_controllers
 
--- those to be disabled that are enabled and that a child uses, in the profile's order
+-- those to be disabled that are enabled and that a child uses, in the profile's order (Top-down Constraint)
 abbrev pub in_use : Controllers → ControlOps → Controllers → List Controller
 in_use s ops used = filter (λ c. has ops.minus c && has s c && has used c) all_controllers
 
@@ -35,7 +35,7 @@ refuse_first f [] r = r
 refuse_first f (c ∷ cs) r = Err (f c)
 
 -- the set that a write leaves, or why it is refused: by what is available, what is enabled, the operations, what the children
--- use, whether the group has processes of its own, and whether it is the root
+-- use, whether the group has processes of its own, and whether it is the root (No Internal Process Constraint)
 abbrev pub plan : Controllers → Controllers → ControlOps → Controllers → Bool → Bool → Result Controllers Refusal
 plan a s ops used processes root =
     refuse_first Unavailable (not_available a s ops) (refuse_first InUse (in_use s ops used)
@@ -45,14 +45,16 @@ plan a s ops used processes root =
 abbrev pub used_below : List (Path × Settings) → Controllers
 used_below children = such_that (λ c. list_any (λ e. has e.1.control c) children)
 
--- the CPUs of each child that asks for some are emptied, and then the last changes are made
+-- the CPUs of each child that asks for some are emptied, and then the last changes are made (this project's own choice)
 abbrev pub emptied : List (Path × Settings) → List Change → List Change
 emptied [] last = last
 emptied (e ∷ es) last = cond (is_empty_set e.1.cpus) (emptied es last) (change (Part e.0 Cpus) (Some e.1.cpus) (Some empty) ∷ emptied es last)
 
+-- cpuset is in the first set and not in the second
 abbrev pub loses_cpuset : Controllers → Controllers → Bool
 loses_cpuset s t = s.cpuset && not t.cpuset
 
+-- the group passes on t in place of s
 abbrev pub control_change : Path → Controllers → Controllers → List Change
 control_change p s t = change (Part p Control) (Some s) (Some t) ∷ []
 

@@ -45,6 +45,7 @@ abbrev pub with_cpuset : Option Controllers → Bool
 with_cpuset None = false
 with_cpuset (Some a) = a.cpuset
 
+-- the group is there, and its own freeze value is 1
 abbrev pub has_freeze : Option Settings → Bool
 has_freeze None = false
 has_freeze (Some s) = s.freeze
@@ -67,6 +68,7 @@ abbrev pub narrowed : FiniteSet → Option Settings → FiniteSet
 narrowed e None = e
 narrowed e (Some s) = cond (is_empty_set (in_common s.cpus e)) e (in_common s.cpus e)
 
+-- narrowed by one group after another, the first one first
 abbrev pub narrowed_along : FiniteSet → List (Option Settings) → FiniteSet
 narrowed_along e [] = e
 narrowed_along e (s ∷ ss) = narrowed_along (narrowed e s) ss
@@ -83,6 +85,7 @@ below_root p s x = option_and_then (λ _. cond (is_root p) None (Some x)) s
 abbrev pub populated : Tree → Path → Option Bool
 populated T p = below_root p (group T p) (is_populated T p)
 
+-- whether it is frozen
 abbrev pub frozen : Tree → Path → Option Bool
 frozen T p = below_root p (group T p) (is_frozen T p)
 

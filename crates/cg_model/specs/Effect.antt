@@ -9,6 +9,7 @@ use Rattle.cg_model.specs.Groups.{too_many, too_deep, create_effect, remove_effe
 use Rattle.cg_model.specs.Control.{subtree_effect}
 use Rattle.cg_model.specs.Writes.{migrate_effect, freeze_effect, cpus_effect, limit_effect, online_effect, show_effect}
 
+-- the effect of a command on a tree: its own checks in their order, and then its changes
 unfoldable pub effect : Command → Tree → Effect
 effect (Create p) T = create_effect p (parent_group T p) (group T p) (too_many T p) (too_deep T p)
 effect (Remove p) T = remove_effect p (group T p) (is_nonempty (children T p)) (is_nonempty (processes T p))

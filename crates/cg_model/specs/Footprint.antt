@@ -9,6 +9,7 @@ use Rattle.cg_text.specs.declared.settings.Settings.{Settings}
 use Rattle.cg_model.specs.Tree.{Tree, group, place_of}
 use Rattle.cg_model.specs.Command.{Command, Create, Remove, Migrate, Subtree, Freeze, Cpus, Show, Online, MaxDescendants, MaxDepth}
 
+-- a mark, which a command has until its transaction ends or it is taken off
 pub data Mark : Type 0 where
   -- a subtree to be changed; one to be read
   X S : Path → Mark
@@ -36,10 +37,12 @@ clash _ _ = false
 abbrev pub clashes : List Mark → List Mark → Bool
 clashes f g = list_any (λ m. list_any (clash m) g) f
 
+-- the limit is a number
 abbrev pub is_finite : Limit → Bool
 is_finite Max = false
 is_finite (UpTo n) = true
 
+-- the group is there, and its descendants are limited in number
 abbrev pub is_limited : Option Settings → Bool
 is_limited None = false
 is_limited (Some s) = is_finite s.max_descendants
@@ -57,6 +60,7 @@ joined_marks (f ∷ fs) = f ++ joined_marks fs
 abbrev pub counts : Tree → Path → List Mark
 counts T p = joined_marks (along (λ a. count_of a (group T a)) p)
 
+-- the group that a process is in has to stay, where there is such a process
 abbrev pub old_place : Option Path → List Mark
 old_place None = []
 old_place (Some q) = N q ∷ []

@@ -8,7 +8,7 @@ use Rattle.cg_model.specs.Tree.{Tree}
 use Rattle.cg_model.specs.Command.{Create, Remove, Subtree, Cpus, Show}
 use Rattle.cg_model.specs.History.{Begin, Do, Save, Back, Undo, Commit, Abort, Begun, Saved, WentBack, Committed, Aborted, Refused}
 use Rattle.cg_model.specs.Rows.{Asked, has_entry_after, play, play_within, w0, w0_with, cpus_below, cpus_of, /a, /b, /a/b, /a/c, cpuset_alone, enable, disable, passing_on, by}
-use Rattle.cg_model.specs.SessionRows.{A, B, committing, busy, done, text, at_root}
+use Rattle.cg_model.specs.SessionRows.{A, B, committing, busy, gave_done, text, at_root}
 
 -- disabling cpuset empties the children's CPUs, and going back gives them back
 abbrev pub CpusetOffAndBack : Type 0
@@ -18,8 +18,8 @@ CpusetOffAndBack =
     ++ by A (Begin ∷ Do (Subtree [] (disable cpuset_alone)) ∷ Do (Show /a files.Cpus) ∷ Undo ∷ Do (Show /a files.Cpus) ∷ Do (Subtree /a (enable cpuset_alone))
     ∷ Do (Subtree [] (disable cpuset_alone)) ∷ Undo ∷ Do (Subtree [] (disable cpuset_alone)) ∷ Do (Subtree [] (enable cpuset_alone)) ∷ Do (Show /a files.Cpus) ∷ Commit ∷ []))
     ≡ (
-      Begun 1 ∷ done ∷ done ∷ done ∷ Committed 1
-          ∷ Begun 2 ∷ done ∷ Refused NoFile ∷ done ∷ text (codes "0-3\n") ∷ done ∷ Refused (InUse controllers.Cpuset) ∷ done ∷ done ∷ done ∷ text (codes "\n") ∷ Committed 2 ∷ [],
+      Begun 1 ∷ gave_done ∷ gave_done ∷ gave_done ∷ Committed 1
+          ∷ Begun 2 ∷ gave_done ∷ Refused NoFile ∷ gave_done ∷ text (codes "0-3\n") ∷ gave_done ∷ Refused (InUse controllers.Cpuset) ∷ gave_done ∷ gave_done ∷ gave_done ∷ text (codes "\n") ∷ Committed 2 ∷ [],
       w0_with (([], passing_on cpuset_alone) ∷ (/a, fresh) ∷ []) at_root,
     )
 
@@ -30,8 +30,8 @@ Savepoints =
     (by A (Begin ∷ Do (Create /a) ∷ Save (codes "x") ∷ Save (codes "x") ∷ Do (Create /b) ∷ Save (codes "y") ∷ Undo ∷ Do (Create /a/c) ∷ Back (codes "x") ∷ Back (codes "y") ∷ [])
     ++ by B (Begin ∷ Do (Create /a) ∷ Do (Create /b) ∷ []) ++ by A (Undo ∷ Undo ∷ []) ++ by B (Commit ∷ []) ++ by A (Abort ∷ []))
     ≡ (
-      Begun 1 ∷ done ∷ Saved ∷ Refused NameTaken ∷ done ∷ Saved ∷ Refused NothingToUndo ∷ done ∷ WentBack 2 ∷ Refused NoSavepoint
-          ∷ Begun 2 ∷ busy 1 ∷ done ∷ done ∷ Refused NothingToUndo ∷ Committed 1 ∷ Aborted 1 ∷ [],
+      Begun 1 ∷ gave_done ∷ Saved ∷ Refused NameTaken ∷ gave_done ∷ Saved ∷ Refused NothingToUndo ∷ gave_done ∷ WentBack 2 ∷ Refused NoSavepoint
+          ∷ Begun 2 ∷ busy 1 ∷ gave_done ∷ gave_done ∷ Refused NothingToUndo ∷ Committed 1 ∷ Aborted 1 ∷ [],
       w0_with (([], fresh) ∷ (/b, fresh) ∷ []) at_root,
     )
 
@@ -41,18 +41,19 @@ RemadeGroup =
     (play w0
     (committing (Subtree [] (enable cpuset_alone) ∷ Create /a ∷ Subtree /a (enable cpuset_alone) ∷ Create /a/b ∷ Cpus /a/b (cpus_of (2 ∷ [])) ∷ [])
     ++ by A (Begin ∷ Do (Remove /a/b) ∷ Do (Create /a/b) ∷ Do (Show /a/b files.Cpus) ∷ Abort ∷ Begin ∷ Do (Show /a/b files.Cpus) ∷ Commit ∷ []))).0
-    ≡ Begun 1 ∷ done ∷ done ∷ done ∷ done ∷ done ∷ Committed 1 ∷ Begun 2 ∷ done ∷ done ∷ text (codes "\n") ∷ Aborted 2 ∷ Begun 3 ∷ text (codes "2\n") ∷ Committed 2 ∷ []
+    ≡ Begun 1 ∷ gave_done ∷ gave_done ∷ gave_done ∷ gave_done ∷ gave_done ∷ Committed 1 ∷ Begun 2 ∷ gave_done ∷ gave_done ∷ text (codes "\n") ∷ Aborted 2 ∷ Begun 3 ∷ text (codes "2\n") ∷ Committed 2 ∷ []
 
 -- a history of four slots: one command fits beside Begin, its undoing and the end
 abbrev pub FullAtFour : Type 0
 FullAtFour =
     play_within 4 w0 ((A, Begin) ∷ (A, Do (Create /a)) ∷ (A, Do (Create /b)) ∷ (A, Undo) ∷ (A, Commit) ∷ (B, Begin) ∷ [])
-    ≡ (Begun 1 ∷ done ∷ Refused Full ∷ done ∷ Committed 1 ∷ Refused Full ∷ [], w0)
+    ≡ (Begun 1 ∷ gave_done ∷ Refused Full ∷ gave_done ∷ Committed 1 ∷ Refused Full ∷ [], w0)
 
--- a removed group keeps its entry while the removal may be undone, whatever other transactions end; then the entry goes
+-- A removes a group, and B makes one and commits
 abbrev removing : Asked
 removing = (A, Begin) ∷ (B, Begin) ∷ (A, Do (Remove /a/b)) ∷ (B, Do (Create /b)) ∷ (B, Commit) ∷ []
 
+-- a removed group keeps its entry while the removal may be undone, whatever other transactions end; then the entry goes
 abbrev pub DeadEntries : Type 0
 DeadEntries =
     let two : Tree = w0_with (([], fresh) ∷ (/a, fresh) ∷ (/a/b, fresh) ∷ []) at_root in

@@ -47,8 +47,8 @@ too_many T p = any_above (λ a. reaches_descendants (group T a) (descendants T a
 abbrev pub too_deep : Tree → Path → Bool
 too_deep T p = any_above (λ a. exceeds_depth (group T a) (length p - length a)) p
 
--- by the path, its parent's settings, its own, and the two limits; of several limits, those on descendants come first (this
--- project's own choice)
+-- by the path, its parent's settings, its own, and the two limits (Organizing Processes and Threads: Processes); of several
+-- limits, those on descendants come first (this project's own choice)
 abbrev pub create_effect : Path → Option Settings → Option Settings → Bool → Bool → Effect
 create_effect [] parent own many deep = Refuse Exists
 create_effect (n ∷ p) None own many deep = Refuse NoGroup
@@ -57,7 +57,8 @@ create_effect (n ∷ p) (Some u) None true deep = Refuse TooMany
 create_effect (n ∷ p) (Some u) None false true = Refuse TooDeep
 create_effect (n ∷ p) (Some u) None false false = Accept Done (change (Group (n ∷ p)) None (Some fresh) ∷ [])
 
--- by the path, its settings, whether it has children, and whether it has processes of its own
+-- by the path, its settings, whether it has children, and whether it has processes of its own (Organizing Processes and
+-- Threads: Processes)
 abbrev pub remove_effect : Path → Option Settings → Bool → Bool → Effect
 remove_effect [] own children processes = Refuse IsRoot
 remove_effect (n ∷ p) None children processes = Refuse NoGroup

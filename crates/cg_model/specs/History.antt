@@ -4,6 +4,7 @@ use Rattle.cg_name.specs.declared.refusal.Refusal.{Refusal}
 use Rattle.cg_name.specs.declared.refusal.Refusal.TheVariants.{Busy, NoGroup, Exists, IsRoot, HasChildren, HasProcesses, NoProcess, Controlled, Unavailable, InUse, NoFile, TooMany, TooDeep}
 use Rattle.cg_model.specs.System.{System, Outcome}
 
+-- what a session asks for
 pub data Request (y : System) : Type 0 where
   Begin : Request y
   Do : y.Command → Request y
@@ -13,6 +14,7 @@ pub data Request (y : System) : Type 0 where
   Undo : Request y
   Commit Abort : Request y
 
+-- what a request is given
 pub data Answer : Type 0 where
   -- the number of the transaction
   Begun : ℕ → Answer

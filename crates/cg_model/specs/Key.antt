@@ -12,6 +12,7 @@ use Rattle.cg_model.specs.Tree.{Tree, group, place_of}
 pub data Field : Type 0 where
   Control Freeze Cpus MaxDescendants MaxDepth : Field
 
+-- the values of a setting
 abbrev pub Setting : Field → Type 0
 Setting Control = Controllers
 Setting Freeze = Bool
@@ -19,6 +20,7 @@ Setting Cpus = FiniteSet
 Setting MaxDescendants = Limit
 Setting MaxDepth = Limit
 
+-- the value that a group has
 abbrev pub setting : (f : Field) → Settings → Setting f
 setting Control s = s.control
 setting Freeze s = s.freeze
@@ -26,6 +28,7 @@ setting Cpus s = s.cpus
 setting MaxDescendants s = s.max_descendants
 setting MaxDepth s = s.max_depth
 
+-- the settings with one value replaced
 abbrev pub with_setting : (f : Field) → Setting f → Settings → Settings
 with_setting Control v s = record s { control = v }
 with_setting Freeze v s = record s { freeze = v }
@@ -47,6 +50,7 @@ ValueOf (Place k) = Path
 ValueOf (Part p f) = Setting f
 ValueOf Online = FiniteSet
 
+-- the value of a key in a tree, none where its group or its process is absent
 abbrev pub value_at : Tree → (k : Key) → Option (ValueOf k)
 value_at T (Group p) = group T p
 value_at T (Place k) = place_of T k
@@ -59,11 +63,13 @@ replaced None v = None
 replaced (Some x) None = Some x
 replaced (Some x) (Some v) = Some v
 
+-- the settings with one value replaced, where both are there
 abbrev pub part_replaced : (f : Field) → Option (Setting f) → Option Settings → Option Settings
 part_replaced f v None = None
 part_replaced f None (Some s) = Some s
 part_replaced f (Some v) (Some s) = Some (with_setting f v s)
 
+-- the CPUs replaced, where there are others
 abbrev pub online_replaced : Option FiniteSet → FiniteSet → FiniteSet
 online_replaced None s = s
 online_replaced (Some v) s = v
@@ -75,6 +81,7 @@ put (Place k) v T = record T { places = set_at T.places k (replaced (place_of T 
 put (Part p f) v T = record T { groups = set_at T.groups p (part_replaced f v (group T p)) }
 put Online v T = record T { online = online_replaced v T.online }
 
+-- the two are one setting
 abbrev pub same_field : Field → Field → Bool
 same_field Control Control = true
 same_field Freeze Freeze = true

@@ -63,6 +63,7 @@ selected stacks (r ∷ h) = joined_if (stands (length h) (stacks r.transaction))
 abbrev pub survivors : {y : System} → History y → Items y
 survivors h = selected (λ t. live t h) h
 
+-- what was committed after one more answer, to a transaction with the stack l
 abbrev pub committed_after : {y : System} → Answer → Items y → Items y → Items y
 committed_after (Committed k) l cs = l ++ cs
 committed_after _ l cs = cs
@@ -72,6 +73,7 @@ abbrev pub committed : {y : System} → History y → Items y
 committed [] = []
 committed (r ∷ h) = committed_after r.answer (live r.transaction h) (committed h)
 
+-- the scripts after one more answer, to a transaction with the stack l
 abbrev pub scripts_after : {y : System} → Answer → Items y → List (Items y) → List (Items y)
 scripts_after (Committed k) l ss = l ∷ ss
 scripts_after _ l ss = ss

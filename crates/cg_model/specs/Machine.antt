@@ -18,6 +18,7 @@ pub record Transaction (y : System) : Type 0 where
   pub number : ℕ
   pub stack : List (StackEntry y)
 
+-- the tree, the open transactions and the history, with the counts of what was begun and committed
 pub record Machine (y : System) : Type 0 where
   pub tree : y.State
   -- the newest first
@@ -27,6 +28,7 @@ pub record Machine (y : System) : Type 0 where
   pub history : History y
   pub bound : ℕ
 
+-- the machine over an opening tree, with this bound of its history
 abbrev pub opened : (y : System) → y.State → ℕ → Machine y
 opened y o bound = record { tree = o; transactions = []; begun = 0; commits = 0; history = []; bound = bound }
 
@@ -40,6 +42,7 @@ abbrev pub with_stack : {y : System} → ℕ → List (StackEntry y) → List (T
 with_stack t l [] = []
 with_stack t l (x ∷ xs) = record x { stack = cond (x.number == t) l x.stack } ∷ with_stack t l xs
 
+-- without the transaction t
 abbrev pub dropped : {y : System} → ℕ → List (Transaction y) → List (Transaction y)
 dropped t [] = []
 dropped t (x ∷ xs) = cond (x.number == t) (dropped t xs) (x ∷ dropped t xs)
@@ -83,18 +86,22 @@ back_to y n [] s k = ([], s, Refused NoSavepoint)
 back_to y n (Did t h c a d f ∷ l) s k = back_to y n l (y.undone d s) (k + 1)
 back_to y n (Savepoint t h m ∷ l) s k = cond (same_name m n) (l, s, WentBack k) (back_to y n l s k)
 
+-- t has the stack that is left, in the tree that is left
 abbrev pub went_back : (y : System) → Machine y → ℕ → List (StackEntry y) × y.State × Answer → Machine y × Answer
 went_back y m t r = (record m { tree = r.1; transactions = with_stack t r.0 m.transactions }, r.2)
 
+-- an accepted command is done, and stands on the stack with its inverse and its footprint
 abbrev pub accepted : (y : System) → Machine y → ℕ → List (StackEntry y) → y.Command → Attempt y.Change → Machine y × Answer
 accepted y m t l c (Refuse r) = (m, Refused r)
 accepted y m t l c (Accept a d) =
     (record m { tree = y.done d m.tree; transactions = with_stack t (Did t m.history c a d (y.footprint c m.tree) ∷ l) m.transactions }, Gave a)
 
+-- Busy where another transaction holds what clashes, else what the command does
 abbrev pub done_unless_held : (y : System) → Machine y → ℕ → List (StackEntry y) → y.Command → Option ℕ → Machine y × Answer
 done_unless_held y m t l c (Some u) = (m, Refused (Busy (record { 0 = u })))
 done_unless_held y m t l c None = accepted y m t l c (y.effect c m.tree)
 
+-- the newest stack entry is undone, where it is a command
 abbrev pub newest_undone : (y : System) → Machine y → ℕ → List (StackEntry y) → Machine y × Answer
 newest_undone y m t [] = (m, Refused NothingToUndo)
 newest_undone y m t (Savepoint u h n ∷ l) = (m, Refused NothingToUndo)
@@ -120,6 +127,7 @@ step_out y m s Begin =
     (record m { transactions = record { session = s; number = m.begun + 1; stack = [] } ∷ m.transactions; begun = m.begun + 1 }, Begun (m.begun + 1))
 step_out y m s _ = (m, Refused NoTransaction)
 
+-- a request of a session, by its open transaction, where it has one
 abbrev pub step_at : (y : System) → Machine y → ℕ → Request y → Option (ℕ × List (StackEntry y)) → Machine y × Answer
 step_at y m s r (Some p) = step_in y m p.0 p.1 r
 step_at y m s r None = step_out y m s r
@@ -134,6 +142,7 @@ abbrev pub noted : {y : System} → Bool → ℕ → Request y → Option ℕ �
 noted true s r t p = (record p.0 { history = record { session = s; transaction = named_in t p.1; request = r; answer = p.1 } ∷ p.0.history }, p.1)
 noted false s r t p = p
 
+-- with its record, where the answer is one to be recorded
 abbrev pub with_record : {y : System} → ℕ → Request y → Option ℕ → Machine y × Answer → Machine y × Answer
 with_record s r t p = noted (is_recorded r p.1) s r t p
 

@@ -39,6 +39,7 @@ abbrev pub opens : {y : System} → History y → Opens
 opens [] = []
 opens (r ∷ h) = opens_after r.answer r.session r.transaction (opens h)
 
+-- the count after one more answer
 abbrev pub begins_after : Answer → ℕ → ℕ
 begins_after (Begun u) n = n + 1
 begins_after _ n = n
@@ -48,6 +49,7 @@ abbrev pub begins : {y : System} → History y → ℕ
 begins [] = 0
 begins (r ∷ h) = begins_after r.answer (begins h)
 
+-- the count after one more answer
 abbrev pub commits_after : Answer → ℕ → ℕ
 commits_after (Committed k) n = n + 1
 commits_after _ n = n

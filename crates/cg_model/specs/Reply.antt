@@ -59,6 +59,7 @@ slots h = length h + (length (opens h) + live_count (opens h) h)
 abbrev pub is_full : {y : System} → ℕ → History y → Bool
 is_full bound h = nat_lt (bound - 2) (slots h)
 
+-- Undo takes a command off, and no savepoint
 abbrev pub undo_reply : {y : System} → Items y → Answer
 undo_reply [] = Refused NothingToUndo
 undo_reply (Ran t h c a ∷ l) = Gave Done
@@ -91,6 +92,7 @@ abbrev pub reply_out : (y : System) → ℕ → History y → Request y → Answ
 reply_out y bound h Begin = cond (is_full bound h) (Refused Full) (Begun (begins h + 1))
 reply_out y bound h _ = Refused NoTransaction
 
+-- the answer to a session, by its open transaction, where it has one
 abbrev pub reply_at : (y : System) → y.State → ℕ → History y → Option ℕ → Request y → Answer
 reply_at y o bound h (Some t) r = reply_in y o bound h t r
 reply_at y o bound h None r = reply_out y bound h r

@@ -13,6 +13,7 @@ use Rattle.cg_model.specs.Cgroups.{cgroups}
 use Rattle.cg_model.specs.Live.{Item, Ran, AtSavepoint, Items}
 use Rattle.cg_model.specs.Run.{tree_of}
 
+-- the key is that of the group at p
 abbrev pub is_group_key : Path → Key → Bool
 is_group_key p (Group q) = same_path p q
 is_group_key p _ = false
@@ -21,6 +22,7 @@ is_group_key p _ = false
 abbrev pub changes_group : Path → List Change → Bool
 changes_group p cs = list_any (λ c. is_group_key p c.key) cs
 
+-- the changes of an effect; a refusal has none
 abbrev pub changes_of : Effect → List Change
 changes_of (Refuse r) = []
 changes_of (Accept o cs) = cs
@@ -48,6 +50,7 @@ room_for E (Group p) (Some s) = E p ≡ true
 room_for E (Place k) (Some q) = E q ≡ true
 room_for E _ _ = Unit {0}
 
+-- there is room to undo each change
 abbrev pub RoomFor : (Path → Bool) → List Change → Type 0
 RoomFor E cs = AllByRecursion (λ c. room_for E c.key c.before) cs
 

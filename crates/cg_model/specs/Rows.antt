@@ -32,14 +32,17 @@ unfoldable pub cpus_below : ℕ → FiniteSet
 unfolding such_that_below with_member set_at insert empty checked
 cpus_below n = such_that_below n (λ _. true)
 
+-- the CPUs of a list
 unfoldable pub cpus_of : List ℕ → FiniteSet
 unfolding with_member set_at insert empty checked
 cpus_of ns = set_of ns
 
+-- the groups of a list, with their settings
 unfoldable pub groups_of : List (Path × Settings) → FiniteMap path_cmp Settings
 unfolding set_at insert empty checked
 groups_of es = from_entries path_cmp es
 
+-- the processes of a list, with their groups
 unfoldable pub places_of : List (ℕ × Path) → FiniteMap nat_cmp Path
 unfolding set_at insert empty checked
 places_of es = from_entries nat_cmp es
@@ -72,10 +75,12 @@ unfoldable pub played : List Answer × Machine cgroups → List Answer × Tree
 unfolding get insert empty checked retain entries keys len set_at domain members in_common with_member such_that_below children descendants processes processes_in_subtree same_name same_path digits effect footprint cpus_below cpus_of w0 w0_with
 played r = (r.0, r.1.tree)
 
+-- a run that its history has room for
 unfoldable pub play : Tree → Asked → List Answer × Tree
 unfolding played
 play T asked = played (answers cgroups (ample T) asked)
 
+-- a run over a history with this bound
 unfoldable pub play_within : ℕ → Tree → Asked → List Answer × Tree
 unfolding played
 play_within bound T asked = played (answers cgroups (opened cgroups T bound) asked)
@@ -92,6 +97,7 @@ has_entry_after O asked p =
     let m = (answers cgroups (ample O) asked).1 in
     has_entry O (λ t. live t m.history) (numbers (opens m.history)) m.tree p
 
+-- the paths of the runs
 abbrev pub /a : Path
 /a = codes "a" ∷ []
 

@@ -5,6 +5,7 @@ use Rattle.cg_model.specs.History.{History}
 use Rattle.cg_model.specs.Opens.{numbers, among, opens, commits}
 use Rattle.cg_model.specs.Live.{Ran, AtSavepoint, Items, live, survivors, committed}
 
+-- the state after a command; a refusal leaves it
 abbrev pub state_after : (y : System) → Attempt y.Change → y.State → y.State
 state_after y (Refuse r) s = s
 state_after y (Accept a d) s = y.done d s

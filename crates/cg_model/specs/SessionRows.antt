@@ -25,11 +25,12 @@ C = 3
 abbrev pub committing : List Command → Asked
 committing cs = by 16 (Begin ∷ map (λ c. Do c) cs ++ Commit ∷ [])
 
+-- answers in short
 abbrev pub busy : ℕ → Answer
 busy t = Refused (Busy (record { 0 = t }))
 
-abbrev pub done : Answer
-done = Gave Done
+abbrev pub gave_done : Answer
+gave_done = Gave Done
 
 abbrev pub text : List ℕ → Answer
 text x = Gave (Text x)
@@ -42,13 +43,13 @@ at_root = (10, []) ∷ (11, []) ∷ []
 abbrev pub AbortBesideCommit : Type 0
 AbortBesideCommit =
     play w0 ((A, Begin) ∷ (B, Begin) ∷ (A, Do (Create /a)) ∷ (B, Do (Create /b)) ∷ (A, Abort) ∷ (B, Commit) ∷ [])
-    ≡ (Begun 1 ∷ Begun 2 ∷ done ∷ done ∷ Aborted 1 ∷ Committed 1 ∷ [], w0_with (([], fresh) ∷ (/b, fresh) ∷ []) at_root)
+    ≡ (Begun 1 ∷ Begun 2 ∷ gave_done ∷ gave_done ∷ Aborted 1 ∷ Committed 1 ∷ [], w0_with (([], fresh) ∷ (/b, fresh) ∷ []) at_root)
 
 -- a group that isn't committed is locked, and free after the commit
 abbrev pub LockedUntilCommit : Type 0
 LockedUntilCommit =
     play w0 ((A, Begin) ∷ (B, Begin) ∷ (A, Do (Create /a)) ∷ (B, Do (Create /a/b)) ∷ (A, Commit) ∷ (B, Do (Create /a/b)) ∷ (B, Abort) ∷ [])
-    ≡ (Begun 1 ∷ Begun 2 ∷ done ∷ busy 1 ∷ Committed 1 ∷ done ∷ Aborted 2 ∷ [], w0_with (([], fresh) ∷ (/a, fresh) ∷ []) at_root)
+    ≡ (Begun 1 ∷ Begun 2 ∷ gave_done ∷ busy 1 ∷ Committed 1 ∷ gave_done ∷ Aborted 2 ∷ [], w0_with (([], fresh) ∷ (/a, fresh) ∷ []) at_root)
 
 -- a migration pins the group that the process leaves
 abbrev pub MigratePinsBothEnds : Type 0
@@ -57,7 +58,7 @@ MigratePinsBothEnds =
     (committing (Subtree [] (enable cpu_alone) ∷ Create /a ∷ Create /b ∷ Migrate 10 /a ∷ [])
     ++ (A, Begin) ∷ (B, Begin) ∷ (A, Do (Migrate 10 /b)) ∷ (B, Do (Subtree /a (enable cpu_alone))) ∷ (A, Abort) ∷ (B, Do (Subtree /a (enable cpu_alone))) ∷ (B, Abort) ∷ [])
     ≡ (
-      Begun 1 ∷ done ∷ done ∷ done ∷ done ∷ Committed 1 ∷ Begun 2 ∷ Begun 3 ∷ done ∷ busy 2 ∷ Aborted 2 ∷ Refused HasProcesses ∷ Aborted 3 ∷ [],
+      Begun 1 ∷ gave_done ∷ gave_done ∷ gave_done ∷ gave_done ∷ Committed 1 ∷ Begun 2 ∷ Begun 3 ∷ gave_done ∷ busy 2 ∷ Aborted 2 ∷ Refused HasProcesses ∷ Aborted 3 ∷ [],
       w0_with (([], passing_on cpu_alone) ∷ (/a, fresh) ∷ (/b, fresh) ∷ []) ((10, /a) ∷ (11, []) ∷ []),
     )
 
@@ -68,7 +69,7 @@ UnseenRemoval =
     (committing (Create /a ∷ Create /a/b ∷ [])
     ++ (A, Begin) ∷ (B, Begin) ∷ (A, Do (Remove /a/b)) ∷ (B, Do (Show /a/b files.Procs)) ∷ (B, Do (Create /a/c)) ∷ (A, Abort) ∷ (B, Commit) ∷ [])
     ≡ (
-      Begun 1 ∷ done ∷ done ∷ Committed 1 ∷ Begun 2 ∷ Begun 3 ∷ done ∷ busy 2 ∷ done ∷ Aborted 2 ∷ Committed 2 ∷ [],
+      Begun 1 ∷ gave_done ∷ gave_done ∷ Committed 1 ∷ Begun 2 ∷ Begun 3 ∷ gave_done ∷ busy 2 ∷ gave_done ∷ Aborted 2 ∷ Committed 2 ∷ [],
       w0_with (([], fresh) ∷ (/a, fresh) ∷ (/a/b, fresh) ∷ (/a/c, fresh) ∷ []) at_root,
     )
 
@@ -78,7 +79,7 @@ CommitOrder =
     play w0
     ((A, Begin) ∷ (B, Begin) ∷ (A, Do (Create /a)) ∷ (B, Do (Create /b)) ∷ (B, Commit) ∷ (A, Commit) ∷ by C (Begin ∷ Do (Create /a/c) ∷ Do (Migrate 10 /b) ∷ Commit ∷ []))
     ≡ (
-      Begun 1 ∷ Begun 2 ∷ done ∷ done ∷ Committed 1 ∷ Committed 2 ∷ Begun 3 ∷ done ∷ done ∷ Committed 3 ∷ [],
+      Begun 1 ∷ Begun 2 ∷ gave_done ∷ gave_done ∷ Committed 1 ∷ Committed 2 ∷ Begun 3 ∷ gave_done ∷ gave_done ∷ Committed 3 ∷ [],
       w0_with (([], fresh) ∷ (/a, fresh) ∷ (/a/c, fresh) ∷ (/b, fresh) ∷ []) ((10, /b) ∷ (11, []) ∷ []),
     )
 
@@ -92,7 +93,7 @@ CountsAreLocked =
     (play (w0_with limited at_root)
     ((A, Begin) ∷ (B, Begin) ∷ (A, Do (Remove /a/b)) ∷ (B, Do (Create (codes "a" ∷ codes "z" ∷ []))) ∷ (A, Do (Create /a/c)) ∷ (A, Undo) ∷ (A, Undo)
     ∷ by B (Do (Create /a/c) ∷ Do (MaxDescendants /a Max) ∷ Do (MaxDepth /a up_to_1) ∷ Do (Create (codes "a" ∷ codes "b" ∷ codes "z" ∷ [])) ∷ Commit ∷ []) ++ (A, Abort) ∷ [])).0
-    ≡ Begun 1 ∷ Begun 2 ∷ done ∷ busy 1 ∷ done ∷ done ∷ done ∷ Refused TooMany ∷ done ∷ done ∷ Refused TooDeep ∷ Committed 1 ∷ Aborted 1 ∷ []
+    ≡ Begun 1 ∷ Begun 2 ∷ gave_done ∷ busy 1 ∷ gave_done ∷ gave_done ∷ gave_done ∷ Refused TooMany ∷ gave_done ∷ gave_done ∷ Refused TooDeep ∷ Committed 1 ∷ Aborted 1 ∷ []
 
 -- two sessions may read the same group
 abbrev pub ReadersShare : Type 0
@@ -107,7 +108,7 @@ ReadersAreProtected =
     (committing (Create /a ∷ [])
     ++ (A, Begin) ∷ (B, Begin) ∷ (A, Do (Show /a files.Procs)) ∷ (B, Do (Show /a files.Controllers)) ∷ (B, Do (Migrate 10 /a)) ∷ (A, Abort) ∷ (B, Do (Migrate 10 /a)) ∷ (B, Do (Show /a files.Procs))
     ∷ (C, Begin) ∷ (C, Do (Show /a files.Procs)) ∷ (C, Do (Migrate 11 [])) ∷ (B, Abort) ∷ (C, Abort) ∷ [])).0
-    ≡ Begun 1 ∷ done ∷ Committed 1 ∷ Begun 2 ∷ Begun 3 ∷ text [] ∷ text [] ∷ busy 2 ∷ Aborted 2 ∷ done ∷ text (codes "10\n") ∷ Begun 4 ∷ busy 3 ∷ done ∷ Aborted 3 ∷ Aborted 4 ∷ []
+    ≡ Begun 1 ∷ gave_done ∷ Committed 1 ∷ Begun 2 ∷ Begun 3 ∷ text [] ∷ text [] ∷ busy 2 ∷ Aborted 2 ∷ gave_done ∷ text (codes "10\n") ∷ Begun 4 ∷ busy 3 ∷ gave_done ∷ Aborted 3 ∷ Aborted 4 ∷ []
 
 -- a process belongs to the session that moved it, and both its groups stay
 abbrev pub ProcessesAreLocked : Type 0
@@ -116,7 +117,7 @@ ProcessesAreLocked =
     (committing (Create /a ∷ [])
     ++ (A, Begin) ∷ (B, Begin) ∷ (A, Do (Migrate 10 /a)) ∷ (B, Do (Migrate 11 /a)) ∷ (B, Do (Migrate 10 [])) ∷ (B, Do (Create /a/c)) ∷ (B, Do (Remove /a)) ∷ (A, Abort) ∷ (B, Commit) ∷ [])
     ≡ (
-      Begun 1 ∷ done ∷ Committed 1 ∷ Begun 2 ∷ Begun 3 ∷ done ∷ done ∷ busy 2 ∷ done ∷ busy 2 ∷ Aborted 2 ∷ Committed 2 ∷ [],
+      Begun 1 ∷ gave_done ∷ Committed 1 ∷ Begun 2 ∷ Begun 3 ∷ gave_done ∷ gave_done ∷ busy 2 ∷ gave_done ∷ busy 2 ∷ Aborted 2 ∷ Committed 2 ∷ [],
       w0_with (([], fresh) ∷ (/a, fresh) ∷ (/a/c, fresh) ∷ []) ((10, []) ∷ (11, /a) ∷ []),
     )
 
@@ -126,10 +127,10 @@ OnlineLocksAll =
     play w0
     ((A, Begin) ∷ (B, Begin) ∷ (B, Do (Create /a)) ∷ (A, Do (Online (cpus_below 2))) ∷ (B, Abort) ∷ (A, Do (Online (cpus_below 2))) ∷ (A, Do (Show [] files.EffectiveCpus)) ∷ (A, Undo) ∷ (A, Undo)
     ∷ (A, Do (Show [] files.EffectiveCpus)) ∷ (A, Commit) ∷ [])
-    ≡ (Begun 1 ∷ Begun 2 ∷ done ∷ busy 2 ∷ Aborted 2 ∷ done ∷ text (codes "0-1\n") ∷ done ∷ done ∷ text (codes "0-7\n") ∷ Committed 1 ∷ [], w0)
+    ≡ (Begun 1 ∷ Begun 2 ∷ gave_done ∷ busy 2 ∷ Aborted 2 ∷ gave_done ∷ text (codes "0-1\n") ∷ gave_done ∷ gave_done ∷ text (codes "0-7\n") ∷ Committed 1 ∷ [], w0)
 
 -- at the end of a schedule what is still open is aborted, by number and not by session; what was committed stays
 abbrev pub AbortsAtTheEnd : Type 0
 AbortsAtTheEnd =
     play_to_end w0 ((B, Begin) ∷ (A, Begin) ∷ (C, Begin) ∷ (B, Do (Create /b)) ∷ (A, Do (Create /a)) ∷ (C, Undo) ∷ (A, Commit) ∷ [])
-    ≡ (Begun 1 ∷ Begun 2 ∷ Begun 3 ∷ done ∷ done ∷ Refused NothingToUndo ∷ Committed 1 ∷ Aborted 1 ∷ Aborted 3 ∷ [], w0_with (([], fresh) ∷ (/a, fresh) ∷ []) at_root)
+    ≡ (Begun 1 ∷ Begun 2 ∷ Begun 3 ∷ gave_done ∷ gave_done ∷ Refused NothingToUndo ∷ Committed 1 ∷ Aborted 1 ∷ Aborted 3 ∷ [], w0_with (([], fresh) ∷ (/a, fresh) ∷ []) at_root)

@@ -24,6 +24,7 @@ pub record IsRootOf (T : Tree) (s : Settings) : Type 0 where
 abbrev pub admits : Path → Settings → Bool
 admits p s = is_root p || is_no_controllers s.control
 
+-- a sound tree
 pub record Sound (T : Tree) : Type 0 where
   -- the root is a group
   pub root : (s : Settings) × (group T [] ≡ Some s) × IsRootOf T s

@@ -13,6 +13,7 @@ pub data Attempt (D : Type 0) : Type 0 where
   Refuse : Refusal → Attempt D
   Accept : Outcome → D → Attempt D
 
+-- commands on a state, what they lock, and how they are undone
 pub record System : Type 1 where
   pub State : Type 0
   pub Command : Type 0
