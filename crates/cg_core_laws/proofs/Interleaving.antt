@@ -2,10 +2,10 @@
 -- what is asked of a system: the laws of one command and of two
 pub mod SystemLaws
 -- what it is for stack entries to run, to be apart and to give the same state
-pub mod RunsOfEntries
--- what is left when a transaction's newest entry is taken off
+pub mod RunsOfStackEntries
+-- what is left when a transaction's newest stack entry is taken off
 mod TakingOff
--- entries that don't clash change places, so those of one transaction can be gathered
+-- stack entries that don't clash change places, so those of one transaction can be gathered
 mod Gathering
 -- the open transactions: each once, and without one of them
 mod OpenTransactions
@@ -13,7 +13,7 @@ mod OpenTransactions
 mod AnswersInParts
 -- the machine with one log of all that stands, in place of stacks
 pub mod LogMachine
--- what every step of it keeps, and that taking entries off keeps it
+-- what every step of it keeps, and that taking stack entries off keeps it
 pub mod LogInvariant
 -- each step keeps it
 mod LogInvariantKept

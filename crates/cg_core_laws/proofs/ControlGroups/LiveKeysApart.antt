@@ -16,7 +16,7 @@ use Rattle.cg_model_laws.specs.Laws.{KeysDontTouch}
 use Rattle.cg_model_laws.proofs.AcceptedCommands.{keys_of_both_apart}
 use Rattle.cg_core_laws.specs.Laws.{LiveKeysApart}
 use Rattle.cg_core_laws.proofs.Interleaving.SystemLaws.{SystemLaws}
-use Rattle.cg_core_laws.proofs.Interleaving.RunsOfEntries.{owner, Free, FreeOf, only, Apart}
+use Rattle.cg_core_laws.proofs.Interleaving.RunsOfStackEntries.{owner, Free, FreeOf, only, Apart}
 use Rattle.cg_core_laws.proofs.Interleaving.LogMachine.{Log}
 use Rattle.cg_core_laws.proofs.Interleaving.MachineOfLog.{machine_of}
 use Rattle.cg_core_laws.proofs.Interleaving.LogInvariant.{Kept}
@@ -75,8 +75,8 @@ module _ (O : Tree) where
   pub keys_of_others_apart : SystemLaws cgroups → (c : Log cgroups) → Kept cgroups O c → Tied cgroups O c → LiveKeysApart O (machine_of c)
   keys_of_others_apart laws c k d t u m n ne =
       let is_open : (v : ℕ) → among v (numbers (opens c.history)) ≡ true → among v (numbers c.opens) ≡ true = λ v e. subst (λ ps. among v (numbers ps) ≡ true) (sym d.opens) e in
-      let true_of : (v : ℕ) → StackEntriesTrue cgroups O (only v c.entries) = λ v. entries_true_only cgroups O v c.entries d.entries_true in
-      let free = all_free cgroups laws t u ne c.entries (k.apart t (is_open t m)) (k.apart u (is_open u n)) in
+      let true_of : (v : ℕ) → StackEntriesTrue cgroups O (only v c.log) = λ v. entries_true_only cgroups O v c.log d.entries_true in
+      let free = all_free cgroups laws t u ne c.log (k.apart t (is_open t m)) (k.apart u (is_open u n)) in
       subst (λ l. AllByRecursion (λ x. AllByRecursion (ApartFrom x) l) (live t c.history)) (d.lives u)
-      (subst (λ l. AllByRecursion (λ x. AllByRecursion (ApartFrom x) (as_items (only u c.entries))) l) (d.lives t)
-      (all_apart (only t c.entries) (only u c.entries) (true_of t) (true_of u) free))
+      (subst (λ l. AllByRecursion (λ x. AllByRecursion (ApartFrom x) (as_items (only u c.log))) l) (d.lives t)
+      (all_apart (only t c.log) (only u c.log) (true_of t) (true_of u) free))

@@ -10,7 +10,7 @@ use Rattle.cg_model.specs.Run.{Accepted, committed_through, Defined}
 use Rattle.cg_model.specs.Reply.{reply, Legal}
 use Rattle.cg_core_laws.specs.Headline.{AreProper}
 use Rattle.cg_core_laws.proofs.Interleaving.SystemLaws.{SystemLaws}
-use Rattle.cg_core_laws.proofs.Interleaving.RunsOfEntries.{only}
+use Rattle.cg_core_laws.proofs.Interleaving.RunsOfStackEntries.{only}
 use Rattle.cg_core_laws.proofs.Interleaving.LogMachine.{Log, log_opened, log_step_at, log_noted, log_step, log_steps}
 use Rattle.cg_core_laws.proofs.Interleaving.LogInvariant.{Kept}
 use Rattle.cg_core_laws.proofs.Interleaving.LogInvariantKept.{step_kept, start_kept}
@@ -30,10 +30,10 @@ module _ (y : System) (laws : SystemLaws y) (o : y.State) where
   -- the runs of the history are defined
   pub defined : (c : Log y) → Kept y o c → Tied y o c → Defined y o c.history
   defined c k d = record {
-    tree = subst (Accepted y o) d.stands (ran y o c.entries k.runs).1;
+    tree = subst (Accepted y o) d.stands (ran y o c.log k.runs).1;
     own = λ t m.
         let n : among t (numbers c.opens) ≡ true = ap (λ ps. among t (numbers ps)) d.opens ∙ m in
-        subst (Accepted y o) (own_as_items y laws o c t d) (ran y o (only t c.entries ++ c.done) (own_runs y laws o c t k n)).1;
+        subst (Accepted y o) (own_as_items y laws o c t d) (ran y o (only t c.log ++ c.done) (own_runs y laws o c t k n)).1;
   }
 
   -- one more record, or none

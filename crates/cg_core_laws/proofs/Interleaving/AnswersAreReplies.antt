@@ -10,7 +10,7 @@ use Rattle.cg_model.specs.Run.{run_items, tree_of, own_tree}
 use Rattle.cg_model.specs.Reply.{clashes_with, holder, has_savepoint, commands_above, live_count, is_full, undo_reply, command_reply, reply_in, reply_out, reply_at, reply}
 use Rattle.cg_model.specs.Machine.{StackEntry, Did, Savepoint, hits, stack_has_savepoint}
 use Rattle.cg_core_laws.proofs.Interleaving.SystemLaws.{SystemLaws}
-use Rattle.cg_core_laws.proofs.Interleaving.RunsOfEntries.{only}
+use Rattle.cg_core_laws.proofs.Interleaving.RunsOfStackEntries.{only}
 use Rattle.cg_core_laws.proofs.Interleaving.LogMachine.{Log, log_holder, log_back_to, undo_at, others, held, is_full_log, log_step_in, log_step_out, log_step_at, log_step}
 use Rattle.cg_core_laws.proofs.Interleaving.OpenTransactions.{transaction_open}
 use Rattle.cg_core_laws.proofs.Interleaving.LogInvariant.{Kept}
@@ -34,28 +34,28 @@ module _ (y : System) (laws : SystemLaws y) (o : y.State) where
   hits_are f (Did t h c a d g ∷ l) m = rw m.0 (ap (λ b. y.clashes (y.footprint c (tree_of y o h)) f || b) (hits_are f l m.2))
   hits_are f (Savepoint t h n ∷ l) m = hits_are f l m
 
-  holder_is : (c : Log y) (f : y.Footprint) (ts : List ℕ) → Tied y o c → log_holder y f c.entries ts ≡ holder y o f c.history ts
+  holder_is : (c : Log y) (f : y.Footprint) (ts : List ℕ) → Tied y o c → log_holder y f c.log ts ≡ holder y o f c.history ts
   holder_is c f [] k = refl
   holder_is c f (u ∷ ts) k =
-      let e : hits y f (only u c.entries) ≡ clashes_with y o f (live u c.history) = hits_are f (only u c.entries) (entries_true_only y o u c.entries k.entries_true) ∙ ap (clashes_with y o f) (k.lives u) in
+      let e : hits y f (only u c.log) ≡ clashes_with y o f (live u c.history) = hits_are f (only u c.log) (entries_true_only y o u c.log k.entries_true) ∙ ap (clashes_with y o f) (k.lives u) in
       rw (e, holder_is c f ts k)
 
   -- the tree is that of the history
   pub tree_is : (c : Log y) → Kept y o c → Tied y o c → c.tree ≡ tree_of y o c.history
-  tree_is c k t = k.tree ∙ sym (ran y o c.entries k.runs).0 ∙ ap (run_items y o) t.stands
+  tree_is c k t = k.tree ∙ sym (ran y o c.log k.runs).0 ∙ ap (run_items y o) t.stands
 
   -- what t did above what was committed, as the history has it
-  pub own_as_items : (c : Log y) (t : ℕ) → Tied y o c → as_items (only t c.entries ++ c.done) ≡ live t c.history ++ committed c.history
-  own_as_items c t d = as_items_append y o (only t c.entries) c.done ∙ (rw (d.lives t, d.done))
+  pub own_as_items : (c : Log y) (t : ℕ) → Tied y o c → as_items (only t c.log ++ c.done) ≡ live t c.history ++ committed c.history
+  own_as_items c t d = as_items_append y o (only t c.log) c.done ∙ (rw (d.lives t, d.done))
 
   own_is : (c : Log y) (t : ℕ) → Kept y o c → Tied y o c → among t (numbers c.opens) ≡ true → own_state y o c t ≡ own_tree y o t c.history
-  own_is c t k d m = sym (ran y o (only t c.entries ++ c.done) (own_runs y laws o c t k m)).0 ∙ ap (run_items y o) (own_as_items c t d)
+  own_is c t k d m = sym (ran y o (only t c.log ++ c.done) (own_runs y laws o c t k m)).0 ∙ ap (run_items y o) (own_as_items c t d)
 
-  -- as many items as entries
-  pub held_is : (c : Log y) (ps : Opens) → Tied y o c → held ps c.entries ≡ live_count ps c.history
+  -- as many items as stack entries
+  pub held_is : (c : Log y) (ps : Opens) → Tied y o c → held ps c.log ≡ live_count ps c.history
   held_is c [] d = refl
   held_is c (p ∷ ps) d =
-      let n : length (only p.1 c.entries) ≡ length (live p.1 c.history) = sym (length_as_items y o (only p.1 c.entries)) ∙ ap length (d.lives p.1) in
+      let n : length (only p.1 c.log) ≡ length (live p.1 c.history) = sym (length_as_items y o (only p.1 c.log)) ∙ ap length (d.lives p.1) in
       rw (n, held_is c ps d)
 
   full_is : (c : Log y) → Tied y o c → is_full_log c ≡ is_full c.bound c.history
@@ -67,25 +67,25 @@ module _ (y : System) (laws : SystemLaws y) (o : y.State) where
   in_answer c s t Begin k d m = refl
   in_answer c s t (Do b) k d m =
       let h = c.history in
-      let found : log_holder y (y.footprint b c.tree) c.entries (others y c t) ≡ holder y o (y.footprint b (tree_of y o h)) h (numbers (without t (opens h))) =
+      let found : log_holder y (y.footprint b c.tree) c.log (others y c t) ≡ holder y o (y.footprint b (tree_of y o h)) h (numbers (without t (opens h))) =
       holder_is c (y.footprint b c.tree) (others y c t) d ∙ ap (λ s. holder y o (y.footprint b s) h (others y c t)) (tree_is c k d) ∙ ap (λ ps. holder y o (y.footprint b (tree_of y o h)) h (numbers (without t ps))) d.opens in
-      let e = do_answer y laws o c t b (log_holder y (y.footprint b c.tree) c.entries (others y c t)) refl k m
+      let e = do_answer y laws o c t b (log_holder y (y.footprint b c.tree) c.log (others y c t)) refl k m
       ∙ ap (λ x. command_reply x (y.effect b (own_state y o c t))) found
       ∙ ap (λ x. command_reply (holder y o (y.footprint b (tree_of y o h)) h (numbers (without t (opens h)))) (y.effect b x)) (own_is c t k d m) in
       cond_answer y (is_full_log c) _ _ ∙ (rw (full_is c d) (ap (cond (is_full c.bound h) (Refused Full)) e))
   in_answer c s t (Save n) k d m =
-      cond_answer y (stack_has_savepoint n (only t c.entries)) _ _ ∙ ap (cond (stack_has_savepoint n (only t c.entries)) (Refused NameTaken)) (cond_answer y (is_full_log c) _ _)
-      ∙ (rw (full_is c d) (ap (λ b. cond b (Refused NameTaken) (cond (is_full c.bound c.history) (Refused Full) Saved)) (savepoint_is y n (only t c.entries) ∙ ap (has_savepoint n) (d.lives t))))
-  in_answer c s t (Back n) k d m = back_cond (stack_has_savepoint n (only t c.entries)) refl
+      cond_answer y (stack_has_savepoint n (only t c.log)) _ _ ∙ ap (cond (stack_has_savepoint n (only t c.log)) (Refused NameTaken)) (cond_answer y (is_full_log c) _ _)
+      ∙ (rw (full_is c d) (ap (λ b. cond b (Refused NameTaken) (cond (is_full c.bound c.history) (Refused Full) Saved)) (savepoint_is y n (only t c.log) ∙ ap (has_savepoint n) (d.lives t))))
+  in_answer c s t (Back n) k d m = back_cond (stack_has_savepoint n (only t c.log)) refl
     where
-      back_cond : (b : Bool) → stack_has_savepoint n (only t c.entries) ≡ b → (cond b (log_back_to y t n (only t c.entries) c 0) (c, Refused NoSavepoint)).1 ≡ cond (has_savepoint n (live t c.history)) (WentBack (commands_above n 0 (live t c.history))) (Refused NoSavepoint)
+      back_cond : (b : Bool) → stack_has_savepoint n (only t c.log) ≡ b → (cond b (log_back_to y t n (only t c.log) c 0) (c, Refused NoSavepoint)).1 ≡ cond (has_savepoint n (live t c.history)) (WentBack (commands_above n 0 (live t c.history))) (Refused NoSavepoint)
       back_cond true e =
-          let at : has_savepoint n (live t c.history) ≡ true = sym (savepoint_is y n (only t c.entries) ∙ ap (has_savepoint n) (d.lives t)) ∙ e in
-          rw at (back_answer y t n (only t c.entries) c 0 e ∙ ap (λ l. WentBack (commands_above n 0 l)) (d.lives t))
+          let at : has_savepoint n (live t c.history) ≡ true = sym (savepoint_is y n (only t c.log) ∙ ap (has_savepoint n) (d.lives t)) ∙ e in
+          rw at (back_answer y t n (only t c.log) c 0 e ∙ ap (λ l. WentBack (commands_above n 0 l)) (d.lives t))
       back_cond false e =
-          let at : has_savepoint n (live t c.history) ≡ false = sym (savepoint_is y n (only t c.entries) ∙ ap (has_savepoint n) (d.lives t)) ∙ e in
+          let at : has_savepoint n (live t c.history) ≡ false = sym (savepoint_is y n (only t c.log) ∙ ap (has_savepoint n) (d.lives t)) ∙ e in
           rw at
-  in_answer c s t Undo k d m = undo_answer y c t (only t c.entries) ∙ ap undo_reply (d.lives t)
+  in_answer c s t Undo k d m = undo_answer y c t (only t c.log) ∙ ap undo_reply (d.lives t)
   in_answer c s t Commit k d m = ap (λ n. Committed (n + 1)) d.commits
   in_answer c s t Abort k d m = refl
 

@@ -6,7 +6,7 @@ use Rattle.cg_model.specs.History.{History}
 use Rattle.cg_model.specs.Opens.{among}
 use Rattle.cg_model.specs.Machine.{StackEntry, Did, Savepoint}
 use Rattle.cg_core_laws.proofs.Interleaving.SystemLaws.{SystemLaws, Alike}
-use Rattle.cg_core_laws.proofs.Interleaving.RunsOfEntries.{Accepts, moved, FreeOf, state, Runs, only, blocks, Clear}
+use Rattle.cg_core_laws.proofs.Interleaving.RunsOfStackEntries.{Accepts, moved, FreeOf, state, Runs, only, blocks, Clear}
 
 module _ (y : System) (laws : SystemLaws y) (o : y.State) where
   own_step : (c : y.Command) (f : y.Footprint) (s : y.State) (x : StackEntry y) (l : List (StackEntry y)) → Accepts y s x → Clear y f (x ∷ l) → y.footprint c (moved y x s) ≡ f → Alike y c (moved y x s) s
@@ -42,7 +42,7 @@ module _ (y : System) (laws : SystemLaws y) (o : y.State) where
       let q = own_blocks c f os a b (runs_below (only t a) _ r) (λ u m. cl u (or_right (u == t) (among u os) m)) (sym p.1 ∙ e) in
       (p.0 ∙ q.0, p.1 ∙ q.1)
 
-  -- a new entry that clashes with none of a list is free of it
+  -- a new stack entry that clashes with none of a list is free of it
   pub clear_free : (t : ℕ) (th : History y) (c : y.Command) (a : Outcome) (d : y.Change) (f : y.Footprint) (l : List (StackEntry y)) → Clear y f l → FreeOf y (Did t th c a d f) l
   clear_free t th c a d f [] h = tt
   clear_free t th c a d f (Did u uh b a' e g ∷ l) h = (laws.clash_sym f g ∙ h.0, clear_free t th c a d f l h.1)

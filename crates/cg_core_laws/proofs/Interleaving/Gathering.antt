@@ -1,4 +1,4 @@
--- Entries that do not clash change places, and the entries of transactions can be gathered, one transaction on another.
+-- Stack entries that do not clash change places, and those of transactions can be gathered, one transaction on another.
 use Rattle.std.proofs.Common.{◌≡◌, ℕ, Bool, true, false, List, [], ◌∷◌, ◌++◌, ◌==◌, ◌||◌, refl, sym, ap, ◌∙◌, subst}
 use Rattle.std.proofs.lemmas.Bool.{eqb-true, eq-eqb, or_from, or_right}
 use Rattle.std.proofs.Math.Bool.{or_assoc}
@@ -8,7 +8,7 @@ use Rattle.cg_model.specs.Live.{joined_if}
 use Rattle.cg_model.specs.Machine.{StackEntry, Did, Savepoint}
 use Rattle.cg_core_laws.specs.Headline.{OnceEach}
 use Rattle.cg_core_laws.proofs.Interleaving.SystemLaws.{SystemLaws}
-use Rattle.cg_core_laws.proofs.Interleaving.RunsOfEntries.{owner, Accepts, moved, Free, FreeOf, state, Runs, keep, only, skip, cut, Apart, Same, blocks}
+use Rattle.cg_core_laws.proofs.Interleaving.RunsOfStackEntries.{owner, Accepts, moved, Free, FreeOf, state, Runs, keep, only, skip, cut, Apart, Same, blocks}
 
 -- two clash tests alike
 clash_alike : (y : System) (laws : SystemLaws y) (f g f' g' : y.Footprint) → f' ≡ f → g' ≡ g → y.clashes g f ≡ false → y.clashes f' g' ≡ false
@@ -53,7 +53,7 @@ module _ (y : System) (laws : SystemLaws y) (o : y.State) where
   same_swap x z a h =
       record { by = λ r. let f = swap y laws (state y o a) x z r.1.0 r.0 h in ((f.1, (f.0, r.1.1)), f.2) }
 
-  -- an entry sinks below those that it is free of
+  -- a stack entry sinks below those that it is free of
   pub sink : (x : StackEntry y) (a b : List (StackEntry y)) → FreeOf y x a → Same y o (x ∷ a ++ b) (a ++ x ∷ b)
   sink x [] b h = same_refl (x ∷ b)
   sink x (z ∷ a) b h = same_trans _ _ _ (same_swap x z (a ++ b) h.0) (same_cons z _ _ (sink x a b h.1))
@@ -64,13 +64,13 @@ module _ (y : System) (laws : SystemLaws y) (o : y.State) where
   gather_step x ts qs ps false true n h i = same_trans _ _ _ (same_cons x _ _ i) (sink x ts qs (h refl))
   gather_step x ts qs ps false false n h i = i
 
-  -- the entries of one more transaction on top
+  -- the stack entries of one more transaction on top
   pub gather : (t : ℕ) (q p : ℕ → Bool) → q t ≡ false → ((u : ℕ) → p u ≡ ((u == t) || q u)) → (a : List (StackEntry y)) → Apart y t a → Same y o (keep p a) (only t a ++ keep q a)
   gather t q p qt e [] h = same_refl []
   gather t q p qt e (x ∷ a) h =
       rw (e (owner x)) (gather_step x (only t a) (keep q a) (keep p a) (owner x == t) (q (owner x)) (λ k. ap q (eqb-true (owner x) t k) ∙ qt) h.0 (gather t q p qt e a h.1))
 
-  -- the newest entry of t rises to the very top
+  -- the newest stack entry of t rises to the very top
   rise_step : (t : ℕ) (x z : StackEntry y) (a r : List (StackEntry y)) (b : Bool) → (b ≡ false → FreeOf y z (only t a)) → joined_if b z (only t a) ≡ x ∷ r → ((r' : List (StackEntry y)) → only t a ≡ x ∷ r' → Same y o a (x ∷ cut t a)) → Same y o (z ∷ a) (x ∷ skip b z a (cut t a))
   rise_step t x z a r true h e i = let k : z ≡ x = cc e in subst (λ w. Same y o (z ∷ a) (w ∷ a)) k (same_refl (z ∷ a))
   rise_step t x z a r false h e i =

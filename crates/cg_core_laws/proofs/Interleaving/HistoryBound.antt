@@ -10,7 +10,7 @@ use Rattle.cg_model.specs.Opens.{Opens, numbers, among, without, transaction_in}
 use Rattle.cg_model.specs.Machine.{StackEntry, Did, Savepoint, stack_has_savepoint}
 use Rattle.cg_core_laws.specs.Headline.{OnceEach, AreProper}
 use Rattle.cg_core_laws.proofs.Interleaving.SystemLaws.{SystemLaws}
-use Rattle.cg_core_laws.proofs.Interleaving.RunsOfEntries.{owner, only, cut}
+use Rattle.cg_core_laws.proofs.Interleaving.RunsOfStackEntries.{owner, only, cut}
 use Rattle.cg_core_laws.proofs.Interleaving.LogMachine.{Log, log_opened, log_holder, pop, pop_all, log_back_to, try_do, do_at, undo_at, others, held, is_full_log, log_step_in, log_step_out, log_step_at, log_noted, log_step, log_steps}
 use Rattle.cg_core_laws.proofs.Interleaving.TakingOff.{cut_keep, cut_own}
 use Rattle.cg_core_laws.proofs.Interleaving.OpenTransactions.{transaction_open}
@@ -21,11 +21,11 @@ use Rattle.cg_core_laws.proofs.Interleaving.UnrecordedSteps.{quiet_at}
 
 -- the records and the reserved slots are within the bound
 abbrev pub HasRoom : {y : System} → Log y → Type 0
-HasRoom c = length c.history + (length c.opens + held c.opens c.entries) ≤ c.bound
+HasRoom c = length c.history + (length c.opens + held c.opens c.log) ≤ c.bound
 
 -- room for n more
 abbrev Spare : {y : System} → Log y → ℕ → Type 0
-Spare c n = length c.history + (length c.opens + held c.opens c.entries) + n ≤ c.bound
+Spare c n = length c.history + (length c.opens + held c.opens c.log) + n ≤ c.bound
 
 module _ (y : System) where
   -- logs that agree on the stacks of these hold as much
@@ -70,24 +70,24 @@ module _ (y : System) where
       at false false k l n j = let i = j n in omega arith
 
   full_spare : (c : Log y) → 2 ≤ c.bound → is_full_log c ≡ false → Spare c 2
-  full_spare c le e = within c.bound (length c.history + (length c.opens + held c.opens c.entries)) le e
+  full_spare c le e = within c.bound (length c.history + (length c.opens + held c.opens c.log)) le e
     where
       within : (l n : ℕ) → 2 ≤ l → nat_lt (l - 2) n ≡ false → n + 2 ≤ l
       within l n le e = grind (arith, nat_tests)
 
-  pop_less : (c : Log y) (t : ℕ) (x : StackEntry y) (r : List (StackEntry y)) → OnceEach (numbers c.opens) → among t (numbers c.opens) ≡ true → only t c.entries ≡ x ∷ r → held c.opens (cut t c.entries) + 1 ≡ held c.opens c.entries
+  pop_less : (c : Log y) (t : ℕ) (x : StackEntry y) (r : List (StackEntry y)) → OnceEach (numbers c.opens) → among t (numbers c.opens) ≡ true → only t c.log ≡ x ∷ r → held c.opens (cut t c.log) + 1 ≡ held c.opens c.log
   pop_less c t x r once m e =
-      let n : length (only t (cut t c.entries)) + 1 ≡ length (only t c.entries) = rw (cut_own y t x c.entries r e, e) (omega arith) in
-      held_less t c.opens c.entries (cut t c.entries) once m n (λ u k. cut_keep y t (λ v. v == u) c.entries k)
+      let n : length (only t (cut t c.log)) + 1 ≡ length (only t c.log) = rw (cut_own y t x c.log r e, e) (omega arith) in
+      held_less t c.opens c.log (cut t c.log) once m n (λ u k. cut_keep y t (λ v. v == u) c.log k)
 
-  -- n entries fewer at least
+  -- n stack entries fewer at least
   abbrev Fewer : ℕ → Log y → Log y → Type 0
-  Fewer n c c' = held c.opens c'.entries + n ≤ held c.opens c.entries
+  Fewer n c c' = held c.opens c'.log + n ≤ held c.opens c.log
 
-  all_fewer : (t : ℕ) (l : List (StackEntry y)) (c : Log y) → OnceEach (numbers c.opens) → among t (numbers c.opens) ≡ true → only t c.entries ≡ l → Fewer 0 c (pop_all y t l c)
+  all_fewer : (t : ℕ) (l : List (StackEntry y)) (c : Log y) → OnceEach (numbers c.opens) → among t (numbers c.opens) ≡ true → only t c.log ≡ l → Fewer 0 c (pop_all y t l c)
   all_fewer t [] c once m e = omega arith
   all_fewer t (x ∷ l) c once m e =
-      let p = all_fewer t l (pop y c t x) once m (cut_own y t x c.entries l e) in
+      let p = all_fewer t l (pop y c t x) once m (cut_own y t x c.log l e) in
       let q = pop_less c t x l once m e in
       omega arith
 
@@ -95,18 +95,18 @@ module _ (y : System) where
   fewer_cond c c1 true m a p e i j = i
   fewer_cond c c1 false m a p e i j = j e
 
-  back_fewer : (t : ℕ) (n : Name) (l : List (StackEntry y)) (c : Log y) (k : ℕ) → OnceEach (numbers c.opens) → among t (numbers c.opens) ≡ true → only t c.entries ≡ l → stack_has_savepoint n l ≡ true → Fewer 1 c (log_back_to y t n l c k).0
+  back_fewer : (t : ℕ) (n : Name) (l : List (StackEntry y)) (c : Log y) (k : ℕ) → OnceEach (numbers c.opens) → among t (numbers c.opens) ≡ true → only t c.log ≡ l → stack_has_savepoint n l ≡ true → Fewer 1 c (log_back_to y t n l c k).0
   back_fewer t n [] c k once m e w = absurd (cc w)
   back_fewer t n (Did u h b a d f ∷ l) c k once m e w =
       let x : StackEntry y = Did u h b a d f in
-      let p = back_fewer t n l (pop y c t x) (k + 1) once m (cut_own y t x c.entries l e) w in
+      let p = back_fewer t n l (pop y c t x) (k + 1) once m (cut_own y t x c.log l e) w in
       let q = pop_less c t x l once m e in
       omega arith
   back_fewer t n (Savepoint u h j ∷ l) c k once m e w =
       let x : StackEntry y = Savepoint u h j in
       let q = pop_less c t x l once m e in
       fewer_cond c (pop y c t x) (same_name j n) (stack_has_savepoint n l) (WentBack k) _ w (omega arith)
-      (λ v. let p = back_fewer t n l (pop y c t x) k once m (cut_own y t x c.entries l e) v in omega arith)
+      (λ v. let p = back_fewer t n l (pop y c t x) k once m (cut_own y t x c.log l e) v in omega arith)
 
   -- a recorded answer finds its slot
   abbrev Placed : Request y → Log y × Answer → Type 0
@@ -116,7 +116,7 @@ module _ (y : System) where
   placed_cond r true p q i j = i refl
   placed_cond r false p q i j = j refl
 
-  -- one more entry of t
+  -- one more stack entry of t
   held_more : (t : ℕ) (ps : Opens) (x : StackEntry y) (a : List (StackEntry y)) → OnceEach (numbers ps) → among t (numbers ps) ≡ true → owner x ≡ t → held ps a + 1 ≡ held ps (x ∷ a)
   held_more t ps x a once m e =
       held_less t ps (x ∷ a) a once m
@@ -124,45 +124,45 @@ module _ (y : System) where
       (λ u n. let k : (owner x == u) ≡ false = ap (λ v. v == u) e ∙ n in rw k)
 
   placed_try : (c : Log y) (t : ℕ) (b : y.Command) (r : Attempt y.Change) → OnceEach (numbers c.opens) → among t (numbers c.opens) ≡ true → Spare c 2 → Placed (Do b) (try_do y c t b r)
-  placed_try c t b (Accept a d) once m s w = let q = held_more t c.opens (Did t c.history b a d (y.footprint b c.tree)) c.entries once m refl in omega arith
+  placed_try c t b (Accept a d) once m s w = let q = held_more t c.opens (Did t c.history b a d (y.footprint b c.tree)) c.log once m refl in omega arith
   placed_try c t b (Refuse x) once m s w = omega arith
 
   placed_do : (c : Log y) (t : ℕ) (b : y.Command) (h : Option ℕ) → OnceEach (numbers c.opens) → among t (numbers c.opens) ≡ true → Spare c 2 → Placed (Do b) (do_at y c t b h)
   placed_do c t b (Some u) once m s w = omega arith
   placed_do c t b None once m s w = placed_try c t b (y.effect b c.tree) once m s w
 
-  placed_undo : (c : Log y) (t : ℕ) (l : List (StackEntry y)) → OnceEach (numbers c.opens) → among t (numbers c.opens) ≡ true → only t c.entries ≡ l → HasRoom c → Placed Undo (undo_at y c t l)
+  placed_undo : (c : Log y) (t : ℕ) (l : List (StackEntry y)) → OnceEach (numbers c.opens) → among t (numbers c.opens) ≡ true → only t c.log ≡ l → HasRoom c → Placed Undo (undo_at y c t l)
   placed_undo c t [] once m e h w = absurd (cc w)
   placed_undo c t (Savepoint u g n ∷ l) once m e h w = absurd (cc w)
   placed_undo c t (Did u g b a d f ∷ l) once m e h w = let q = pop_less c t (Did u g b a d f) l once m e in omega arith
 
-  placed_back : (c : Log y) (t : ℕ) (n : Name) → OnceEach (numbers c.opens) → among t (numbers c.opens) ≡ true → HasRoom c → stack_has_savepoint n (only t c.entries) ≡ true → Placed (Back n) (log_back_to y t n (only t c.entries) c 0)
+  placed_back : (c : Log y) (t : ℕ) (n : Name) → OnceEach (numbers c.opens) → among t (numbers c.opens) ≡ true → HasRoom c → stack_has_savepoint n (only t c.log) ≡ true → Placed (Back n) (log_back_to y t n (only t c.log) c 0)
   placed_back c t n once m h e w =
-      let u = unchanged_back y t n (only t c.entries) c 0 in
-      let f = back_fewer t n (only t c.entries) c 0 once m refl e in
+      let u = unchanged_back y t n (only t c.log) c 0 in
+      let f = back_fewer t n (only t c.log) c 0 once m refl e in
       rw (u.opens, u.history, u.bound) (omega arith)
 
   placed_in : (c : Log y) (s t : ℕ) (r : Request y) → OnceEach (numbers c.opens) → among t (numbers c.opens) ≡ true → 2 ≤ c.bound → HasRoom c → Placed r (log_step_in y c s t r)
   placed_in c s t Begin once m le h w = absurd (cc w)
   placed_in c s t (Do b) once m le h w =
-      placed_cond (Do b) (is_full_log c) _ _ (λ e v. absurd (cc v)) (λ e. placed_do c t b (log_holder y (y.footprint b c.tree) c.entries (others y c t)) once m (full_spare c le e)) w
+      placed_cond (Do b) (is_full_log c) _ _ (λ e v. absurd (cc v)) (λ e. placed_do c t b (log_holder y (y.footprint b c.tree) c.log (others y c t)) once m (full_spare c le e)) w
   placed_in c s t (Save n) once m le h w =
-      placed_cond (Save n) (stack_has_savepoint n (only t c.entries)) _ _ (λ e v. absurd (cc v))
-      (λ e. placed_cond (Save n) (is_full_log c) _ _ (λ k v. absurd (cc v)) (λ k v. let q = held_more t c.opens (Savepoint t c.history n) c.entries once m refl in let z = full_spare c le k in omega arith)) w
-  placed_in c s t (Back n) once m le h w = placed_cond (Back n) (stack_has_savepoint n (only t c.entries)) _ _ (λ e. placed_back c t n once m h e) (λ e v. absurd (cc v)) w
-  placed_in c s t Undo once m le h w = placed_undo c t (only t c.entries) once m refl h w
-  placed_in c s t Commit once m le h w = let q = held_without t c.opens c.entries m in omega arith
+      placed_cond (Save n) (stack_has_savepoint n (only t c.log)) _ _ (λ e v. absurd (cc v))
+      (λ e. placed_cond (Save n) (is_full_log c) _ _ (λ k v. absurd (cc v)) (λ k v. let q = held_more t c.opens (Savepoint t c.history n) c.log once m refl in let z = full_spare c le k in omega arith)) w
+  placed_in c s t (Back n) once m le h w = placed_cond (Back n) (stack_has_savepoint n (only t c.log)) _ _ (λ e. placed_back c t n once m h e) (λ e v. absurd (cc v)) w
+  placed_in c s t Undo once m le h w = placed_undo c t (only t c.log) once m refl h w
+  placed_in c s t Commit once m le h w = let q = held_without t c.opens c.log m in omega arith
   placed_in c s t Abort once m le h w =
-      let u = unchanged_all y t (only t c.entries) c in
-      let f = all_fewer t (only t c.entries) c once m refl in
-      let c' = pop_all y t (only t c.entries) c in
-      let q = held_without t c.opens c'.entries m in
+      let u = unchanged_all y t (only t c.log) c in
+      let f = all_fewer t (only t c.log) c once m refl in
+      let c' = pop_all y t (only t c.log) c in
+      let q = held_without t c.opens c'.log m in
       rw (u.opens, u.history, u.bound) (omega arith)
 
-  placed_out : (c : Log y) (s : ℕ) (r : Request y) → OwnersUpTo c.begun c.entries → 2 ≤ c.bound → HasRoom c → Placed r (log_step_out y c s r)
+  placed_out : (c : Log y) (s : ℕ) (r : Request y) → OwnersUpTo c.begun c.log → 2 ≤ c.bound → HasRoom c → Placed r (log_step_out y c s r)
   placed_out c s Begin ow le h w =
       placed_cond Begin (is_full_log c) _ _ (λ e v. absurd (cc v))
-      (λ e v. let z = full_spare c le e in let q : length (only (c.begun + 1) c.entries) ≡ 0 = ap length (none_of_next y c.begun c.entries ow) in omega arith) w
+      (λ e v. let z = full_spare c le e in let q : length (only (c.begun + 1) c.log) ≡ 0 = ap length (none_of_next y c.begun c.log ow) in omega arith) w
   placed_out c s (Do b) ow le h w = absurd (cc w)
   placed_out c s (Save n) ow le h w = absurd (cc w)
   placed_out c s (Back n) ow le h w = absurd (cc w)

@@ -1,4 +1,4 @@
--- What ties the machine with a log to its history: its stacks, what stands, its counts and its committed entries are those
+-- What ties the machine with a log to its history: its stacks, what stands, its counts and what was committed are those
 -- that the history says.
 use Rattle.std.proofs.Common.{◌≡◌, ℕ, suc, ◌<◌, Bool, true, false, List, [], ◌∷◌, ◌++◌, length, ◌==◌, refl, sym, ap, ◌∙◌, arith}
 use Rattle.std.proofs.lemmas.Bool.{eqb-true, eq-eqb, false_from_ne_true}
@@ -11,7 +11,7 @@ use Rattle.cg_model.specs.Live.{Item, Items, live_after, live, position, stands,
 use Rattle.cg_model.specs.Run.{state_after, run_items, Accepted}
 use Rattle.cg_model.specs.Machine.{StackEntry, Did, Savepoint}
 pub use Rattle.cg_core_laws.specs.Stacks.{as_item, as_items, StackEntriesTrue}
-use Rattle.cg_core_laws.proofs.Interleaving.RunsOfEntries.{owner, Runs, state, only, skip, cut}
+use Rattle.cg_core_laws.proofs.Interleaving.RunsOfStackEntries.{owner, Runs, state, only, skip, cut}
 use Rattle.cg_core_laws.proofs.Interleaving.LogMachine.{Log}
 use Rattle.cg_core_laws.proofs.Interleaving.TakingOff.{cut_keep, cut_own}
 use Rattle.cg_core_laws.proofs.Interleaving.SelectedRecords.{transaction_of, items_only, items_cut, Down, down_live, down_none, down_behind, selected_same, selected_pop}
@@ -21,13 +21,13 @@ abbrev pub over : {y : System} → ℕ → Items y → History y → ℕ → Ite
 over t l h u = cond (u == t) l (live u h)
 
 pub record Tied (y : System) (o : y.State) (c : Log y) : Type 0 where
-  pub lives : (u : ℕ) → as_items (only u c.entries) ≡ live u c.history
-  pub stands : as_items c.entries ≡ survivors c.history
+  pub lives : (u : ℕ) → as_items (only u c.log) ≡ live u c.history
+  pub stands : as_items c.log ≡ survivors c.history
   pub opens : c.opens ≡ opens c.history
   pub begun : c.begun ≡ begins c.history
   pub commits : c.commits ≡ commits c.history
   pub done : as_items c.done ≡ committed c.history
-  pub entries_true : StackEntriesTrue y o c.entries
+  pub entries_true : StackEntriesTrue y o c.log
 
 -- the log, where t's stack is l and the other stacks are those of the history
 pub record Midway (y : System) (o : y.State) (t : ℕ) (h : History y) (log : List (StackEntry y)) (l : Items y) : Type 0 where
@@ -103,7 +103,7 @@ module _ (y : System) (o : y.State) where
   over_same t u l h true k e = e ∙ ap (λ v. live v h) (sym (eqb-true u t k))
   over_same t u l h false k e = refl
 
-  pub midway_start : (c : Log y) (t : ℕ) → Tied y o c → Midway y o t c.history c.entries (live t c.history)
+  pub midway_start : (c : Log y) (t : ℕ) → Tied y o c → Midway y o t c.history c.log (live t c.history)
   midway_start c t k = record {
     own = k.lives t;
     other = λ u n. k.lives u;
@@ -154,13 +154,13 @@ module _ (y : System) (o : y.State) where
   push_lives false x u log h e = e
 
   -- one more record, that pushes x
-  pub push_end : (r : Record y) (c : Log y) (x : StackEntry y) → Tied y o c → owner x ≡ r.transaction → position (as_item x) ≡ length c.history → item_of r.request r.answer r.transaction c.history ≡ as_item x → ((l : Items y) → live_after r.request r.answer r.transaction c.history l ≡ as_item x ∷ l) → ((u : ℕ) → as_items (only u (x ∷ c.entries)) ≡ live u (r ∷ c.history)) × (as_items (x ∷ c.entries) ≡ survivors (r ∷ c.history))
+  pub push_end : (r : Record y) (c : Log y) (x : StackEntry y) → Tied y o c → owner x ≡ r.transaction → position (as_item x) ≡ length c.history → item_of r.request r.answer r.transaction c.history ≡ as_item x → ((l : Items y) → live_after r.request r.answer r.transaction c.history l ≡ as_item x ∷ l) → ((u : ℕ) → as_items (only u (x ∷ c.log)) ≡ live u (r ∷ c.history)) × (as_items (x ∷ c.log) ≡ survivors (r ∷ c.history))
   push_end r c x k ox px sx la =
       let h = c.history in
       let to : (u : ℕ) → live u (r ∷ h) ≡ cond (r.transaction == u) (as_item x ∷ live u h) (live u h) = λ u. ap (λ l. cond (r.transaction == u) l (live u h)) (la (live u h)) in
       let at : (r.transaction == r.transaction) ≡ true = eq-eqb r.transaction r.transaction refl in
       let on : (position (as_item x) == length h) ≡ true = eq-eqb (position (as_item x)) (length h) px in
       let yes : stands (length h) (live r.transaction (r ∷ h)) ≡ true = ap (stands (length h)) (to r.transaction) ∙ (rw (at, on)) in (
-        (λ u. rw ox (push_lives (r.transaction == u) x u c.entries h (k.lives u)) ∙ sym (to u)),
+        (λ u. rw ox (push_lives (r.transaction == u) x u c.log h (k.lives u)) ∙ sym (to u)),
         sym (rw (yes, sx) (ap (λ l. as_item x ∷ l) (selected_same y (length h) (λ u. live u h) (λ u. live u (r ∷ h)) (λ u p lt. ap (stands p) (to u) ∙ push_stands (r.transaction == u) u p (as_item x) h px lt) h (omega arith) ∙ sym k.stands))),
       )

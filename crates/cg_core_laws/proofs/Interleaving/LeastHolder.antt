@@ -7,7 +7,7 @@ use Rattle.cg_model.specs.Opens.{Opens, numbers, among, without, transaction_in}
 use Rattle.cg_model.specs.Live.{live}
 use Rattle.cg_model.specs.Reply.{clashes_with, found_or, holder}
 use Rattle.cg_core_laws.specs.Headline.{IsLeastHolder}
-use Rattle.cg_core_laws.proofs.Interleaving.RunsOfEntries.{only}
+use Rattle.cg_core_laws.proofs.Interleaving.RunsOfStackEntries.{only}
 use Rattle.cg_core_laws.proofs.Interleaving.LogMachine.{Log, log_opened, is_full_log, log_step_in, log_step_out, log_step_at, log_noted, log_step, log_steps}
 use Rattle.cg_core_laws.proofs.Interleaving.UnchangedBySteps.{GoesOn, unchanged_all, unchanged_in}
 
@@ -84,7 +84,7 @@ module _ (y : System) where
   falling_in : (c : Log y) (s t : ℕ) (r : Request y) → Falling c → Falling (log_step_in y c s t r).0
   falling_in c s t Commit f = falls_without t (c.begun + 1) c.opens f
   falling_in c s t Abort f =
-      let u = unchanged_all y t (only t c.entries) c in
+      let u = unchanged_all y t (only t c.log) c in
       rw (u.opens, u.begun) (falls_without t (c.begun + 1) c.opens f)
   falling_in c s t Begin f = falling_on c s t Begin tt f
   falling_in c s t (Do b) f = falling_on c s t (Do b) tt f

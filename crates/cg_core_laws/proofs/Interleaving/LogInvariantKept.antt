@@ -12,7 +12,7 @@ use Rattle.cg_model.specs.Reply.{found_or}
 use Rattle.cg_model.specs.Machine.{StackEntry, Did, Savepoint, hits, stack_has_savepoint}
 use Rattle.cg_core_laws.specs.Headline.{AreProper}
 use Rattle.cg_core_laws.proofs.Interleaving.SystemLaws.{SystemLaws}
-use Rattle.cg_core_laws.proofs.Interleaving.RunsOfEntries.{owner, Accepts, moved, FreeOf, keep, only, Apart, Same, Clear, Passes, Agree}
+use Rattle.cg_core_laws.proofs.Interleaving.RunsOfStackEntries.{owner, Accepts, moved, FreeOf, keep, only, Apart, Same, Clear, Passes, Agree}
 use Rattle.cg_core_laws.proofs.Interleaving.LogMachine.{Log, log_opened, log_holder, pop_all, try_do, do_at, undo_at, others, ended, is_full_log, log_step_in, log_step_out, log_step_at, log_noted, log_step, log_steps}
 use Rattle.cg_core_laws.proofs.Interleaving.Gathering.{same_refl, same_trans, same_append, gather}
 use Rattle.cg_core_laws.proofs.Interleaving.TakingOff.{keep_same}
@@ -73,11 +73,11 @@ module _ (y : System) (laws : SystemLaws y) (o : y.State) where
     runs = k.runs;
     tree = k.tree;
     apart = λ u m. elim (or_cases (u == c.begun + 1) (among u (numbers c.opens)) m) [
-      | inl e ↦ subst (λ v. Apart y v c.entries) (sym (eqb-true u (c.begun + 1) e)) (apart_next y c.begun c.entries k.owners)
+      | inl e ↦ subst (λ v. Apart y v c.log) (sym (eqb-true u (c.begun + 1) e)) (apart_next y c.begun c.log k.owners)
       | inr e ↦ k.apart u e
     ];
-    done = subst (λ l. Same y o l c.done) (sym (keep_same y (closed ((s, c.begun + 1) ∷ c.opens)) (closed c.opens) c.entries (agree_next y c.begun s c.opens c.entries k.owners))) k.done;
-    owners = owners_next y c.begun c.entries k.owners;
+    done = subst (λ l. Same y o l c.done) (sym (keep_same y (closed ((s, c.begun + 1) ∷ c.opens)) (closed c.opens) c.log (agree_next y c.begun s c.opens c.log k.owners))) k.done;
+    owners = owners_next y c.begun c.log k.owners;
     range = λ u m. elim (or_cases (u == c.begun + 1) (among u (numbers c.opens)) m) [
       | inl e ↦ let q = eqb-true u (c.begun + 1) e in omega arith
       | inr e ↦ let q = k.range u e in omega arith
@@ -85,23 +85,23 @@ module _ (y : System) (laws : SystemLaws y) (o : y.State) where
     once = (false_from_ne_true (among (c.begun + 1) (numbers c.opens)) (λ e. let q = k.range (c.begun + 1) e in omega arith), k.once);
   }
 
-  push_kept : (c : Log y) (x : StackEntry y) → Kept y o c → among (owner x) (numbers c.opens) ≡ true → Accepts y c.tree x → ((u : ℕ) → among u (numbers c.opens) ≡ true → (owner x == u) ≡ false → FreeOf y x (only u c.entries)) → Kept y o (record c { tree = moved y x c.tree; entries = x ∷ c.entries })
+  push_kept : (c : Log y) (x : StackEntry y) → Kept y o c → among (owner x) (numbers c.opens) ≡ true → Accepts y c.tree x → ((u : ℕ) → among u (numbers c.opens) ≡ true → (owner x == u) ≡ false → FreeOf y x (only u c.log)) → Kept y o (record c { tree = moved y x c.tree; log = x ∷ c.log })
   push_kept c x k m accepts free = record {
     runs = (subst (λ s. Accepts y s x) k.tree accepts, k.runs);
     tree = ap (moved y x) k.tree;
     apart = λ u n. ((λ e. free u n e), k.apart u n);
-    done = subst (λ b. Same y o (joined_if b x (keep (closed c.opens) c.entries)) c.done) (sym (ap not m)) k.done;
+    done = subst (λ b. Same y o (joined_if b x (keep (closed c.opens) c.log)) c.done) (sym (ap not m)) k.done;
     owners = (k.range (owner x) m, k.owners);
     range = k.range;
     once = k.once;
   }
 
   -- what t did, below what the others did and above what was committed
-  pub as_committed : (c : Log y) (t : ℕ) → Kept y o c → among t (numbers c.opens) ≡ true → Same y o (keep (closed (without t c.opens)) c.entries) (only t c.entries ++ c.done)
+  pub as_committed : (c : Log y) (t : ℕ) → Kept y o c → among t (numbers c.opens) ≡ true → Same y o (keep (closed (without t c.opens)) c.log) (only t c.log ++ c.done)
   as_committed c t k m =
       same_trans y laws o _ _ _
-      (gather y laws o t (closed c.opens) (closed (without t c.opens)) (ap not m) (λ u. closed_without t u c.opens) c.entries (k.apart t m))
-      (same_append y laws o (only t c.entries) _ _ k.done)
+      (gather y laws o t (closed c.opens) (closed (without t c.opens)) (ap not m) (λ u. closed_without t u c.opens) c.log (k.apart t m))
+      (same_append y laws o (only t c.log) _ _ k.done)
 
   commit_kept : (c : Log y) (s t : ℕ) → Kept y o c → among t (numbers c.opens) ≡ true → Kept y o (log_step_in y c s t Commit).0
   commit_kept c s t k m = record {
@@ -114,12 +114,12 @@ module _ (y : System) (laws : SystemLaws y) (o : y.State) where
     once = once_without t c.opens k.once;
   }
 
-  ended_kept : (c : Log y) (t : ℕ) → Kept y o c → among t (numbers c.opens) ≡ true → only t c.entries ≡ [] → Kept y o (ended y c t)
+  ended_kept : (c : Log y) (t : ℕ) → Kept y o c → among t (numbers c.opens) ≡ true → only t c.log ≡ [] → Kept y o (ended y c t)
   ended_kept c t k m e = record {
     runs = k.runs;
     tree = k.tree;
     apart = λ u n. k.apart u (still_open t u c.opens n);
-    done = subst (λ l. Same y o (keep (closed (without t c.opens)) c.entries) (l ++ c.done)) e (as_committed c t k m);
+    done = subst (λ l. Same y o (keep (closed (without t c.opens)) c.log) (l ++ c.done)) e (as_committed c t k m);
     owners = k.owners;
     range = λ u n. k.range u (still_open t u c.opens n);
     once = once_without t c.opens k.once;
@@ -127,10 +127,10 @@ module _ (y : System) (laws : SystemLaws y) (o : y.State) where
 
   abort_kept : (c : Log y) (s t : ℕ) → Kept y o c → among t (numbers c.opens) ≡ true → Kept y o (log_step_in y c s t Abort).0
   abort_kept c s t k m =
-      let p = pop_all_kept y laws o t (only t c.entries) c k m refl in
-      ended_kept (pop_all y t (only t c.entries) c) t p.0 (subst (λ ps. among t (numbers ps) ≡ true) (sym p.2) m) p.1
+      let p = pop_all_kept y laws o t (only t c.log) c k m refl in
+      ended_kept (pop_all y t (only t c.log) c) t p.0 (subst (λ ps. among t (numbers ps) ≡ true) (sym p.2) m) p.1
 
-  undo_kept : (c : Log y) (t : ℕ) (l : List (StackEntry y)) → Kept y o c → among t (numbers c.opens) ≡ true → only t c.entries ≡ l → Kept y o (undo_at y c t l).0
+  undo_kept : (c : Log y) (t : ℕ) (l : List (StackEntry y)) → Kept y o c → among t (numbers c.opens) ≡ true → only t c.log ≡ l → Kept y o (undo_at y c t l).0
   undo_kept c t [] k m e = k
   undo_kept c t (Savepoint u uh n ∷ l) k m e = k
   undo_kept c t (Did u uh b a d f ∷ l) k m e = (pop_kept y laws o c t (Did u uh b a d f) l k m e).1
@@ -138,14 +138,14 @@ module _ (y : System) (laws : SystemLaws y) (o : y.State) where
   not_own : (c : Log y) (t u : ℕ) → among u (numbers c.opens) ≡ true → (t == u) ≡ false → among u (others y c t) ≡ true
   not_own c t u m e = among_without t u c.opens ∙ (rw (nat_eq_equiv.symm u t, e, m))
 
-  try_kept : (c : Log y) (t : ℕ) (b : y.Command) (r : Attempt y.Change) → y.Proper b → y.effect b c.tree ≡ r → Kept y o c → among t (numbers c.opens) ≡ true → ((u : ℕ) → among u (others y c t) ≡ true → Clear y (y.footprint b c.tree) (only u c.entries)) → Kept y o (try_do y c t b r).0
+  try_kept : (c : Log y) (t : ℕ) (b : y.Command) (r : Attempt y.Change) → y.Proper b → y.effect b c.tree ≡ r → Kept y o c → among t (numbers c.opens) ≡ true → ((u : ℕ) → among u (others y c t) ≡ true → Clear y (y.footprint b c.tree) (only u c.log)) → Kept y o (try_do y c t b r).0
   try_kept c t b (Accept a d) proper e k m clear =
       push_kept c (Did t c.history b a d (y.footprint b c.tree)) k m (proper, e, refl) (λ u n f. clear_free y laws o t c.history b a d _ _ (clear u (not_own c t u n f)))
   try_kept c t b (Refuse w) proper e k m clear = k
 
-  do_kept : (c : Log y) (t : ℕ) (b : y.Command) (h : Option ℕ) → y.Proper b → log_holder y (y.footprint b c.tree) c.entries (others y c t) ≡ h → Kept y o c → among t (numbers c.opens) ≡ true → Kept y o (do_at y c t b h).0
+  do_kept : (c : Log y) (t : ℕ) (b : y.Command) (h : Option ℕ) → y.Proper b → log_holder y (y.footprint b c.tree) c.log (others y c t) ≡ h → Kept y o c → among t (numbers c.opens) ≡ true → Kept y o (do_at y c t b h).0
   do_kept c t b (Some u) proper e k m = k
-  do_kept c t b None proper e k m = try_kept c t b (y.effect b c.tree) proper refl k m (holder_none y (y.footprint b c.tree) c.entries (others y c t) e)
+  do_kept c t b None proper e k m = try_kept c t b (y.effect b c.tree) proper refl k m (holder_none y (y.footprint b c.tree) c.log (others y c t) e)
 
   savepoint_free : (t : ℕ) (th : History y) (n : Name) (l : List (StackEntry y)) → FreeOf y (Savepoint t th n) l
   savepoint_free t th n [] = tt
@@ -155,13 +155,13 @@ module _ (y : System) (laws : SystemLaws y) (o : y.State) where
   in_kept : (c : Log y) (s t : ℕ) (r : Request y) → IsProperRequest r → Kept y o c → among t (numbers c.opens) ≡ true → Kept y o (log_step_in y c s t r).0
   in_kept c s t Begin proper k m = k
   in_kept c s t (Do b) proper k m =
-      stop_kept y laws o (is_full_log c) _ _ k (do_kept c t b (log_holder y (y.footprint b c.tree) c.entries (others y c t)) proper refl k m)
+      stop_kept y laws o (is_full_log c) _ _ k (do_kept c t b (log_holder y (y.footprint b c.tree) c.log (others y c t)) proper refl k m)
   in_kept c s t (Save n) proper k m =
-      stop_kept y laws o (stack_has_savepoint n (only t c.entries)) _ _ k
-      (stop_kept y laws o (is_full_log c) _ _ k (push_kept c (Savepoint t c.history n) k m tt (λ u i f. savepoint_free t c.history n (only u c.entries))))
+      stop_kept y laws o (stack_has_savepoint n (only t c.log)) _ _ k
+      (stop_kept y laws o (is_full_log c) _ _ k (push_kept c (Savepoint t c.history n) k m tt (λ u i f. savepoint_free t c.history n (only u c.log))))
   in_kept c s t (Back n) proper k m =
-      stop_kept y laws o (stack_has_savepoint n (only t c.entries)) _ _ (back_kept y laws o t n (only t c.entries) c 0 k m refl) k
-  in_kept c s t Undo proper k m = undo_kept c t (only t c.entries) k m refl
+      stop_kept y laws o (stack_has_savepoint n (only t c.log)) _ _ (back_kept y laws o t n (only t c.log) c 0 k m refl) k
+  in_kept c s t Undo proper k m = undo_kept c t (only t c.log) k m refl
   in_kept c s t Commit proper k m = commit_kept c s t k m
   in_kept c s t Abort proper k m = abort_kept c s t k m
 

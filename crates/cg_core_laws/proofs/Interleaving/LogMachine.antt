@@ -8,13 +8,13 @@ use Rattle.cg_model.specs.History.{Request, Begin, Do, Save, Back, Undo, Commit,
 use Rattle.cg_model.specs.Opens.{Opens, numbers, without, transaction_in}
 use Rattle.cg_model.specs.Reply.{found_or}
 use Rattle.cg_model.specs.Machine.{StackEntry, Did, Savepoint, hits, stack_has_savepoint}
-use Rattle.cg_core_laws.proofs.Interleaving.RunsOfEntries.{only, cut}
+use Rattle.cg_core_laws.proofs.Interleaving.RunsOfStackEntries.{only, cut}
 
 -- the tree; what was done and stands, with the savepoints of the open transactions; what was committed, in commit order,
 -- each newest first; the open transactions, each as its session and its number
 pub record Log (y : System) : Type 0 where
   pub tree : y.State
-  pub entries : List (StackEntry y)
+  pub log : List (StackEntry y)
   pub done : List (StackEntry y)
   pub opens : Opens
   pub begun : ℕ
@@ -24,7 +24,7 @@ pub record Log (y : System) : Type 0 where
   pub bound : ℕ
 
 abbrev pub log_opened : (y : System) → y.State → ℕ → Log y
-log_opened y o bound = record { tree = o; entries = []; done = []; opens = []; begun = 0; commits = 0; history = []; bound = bound }
+log_opened y o bound = record { tree = o; log = []; done = []; opens = []; begun = 0; commits = 0; history = []; bound = bound }
 
 -- the oldest of these transactions that holds what clashes
 abbrev pub log_holder : (y : System) → y.Footprint → List (StackEntry y) → List ℕ → Option ℕ
@@ -35,9 +35,9 @@ abbrev pub unmoved : (y : System) → StackEntry y → y.State → y.State
 unmoved y (Did t th c a d f) s = y.undone d s
 unmoved y (Savepoint t th n) s = s
 
--- the newest entry x of t is taken off
+-- the newest stack entry x of t is taken off
 abbrev pub pop : (y : System) → Log y → ℕ → StackEntry y → Log y
-pop y c t x = record c { tree = unmoved y x c.tree; entries = cut t c.entries }
+pop y c t x = record c { tree = unmoved y x c.tree; log = cut t c.log }
 
 abbrev pub pop_all : (y : System) → ℕ → List (StackEntry y) → Log y → Log y
 pop_all y t [] c = c
@@ -51,7 +51,7 @@ log_back_to y t n (Savepoint u uh m ∷ l) c k =
     cond (same_name m n) (pop y c t (Savepoint u uh m), WentBack k) (log_back_to y t n l (pop y c t (Savepoint u uh m)) k)
 
 abbrev pub try_do : (y : System) → Log y → ℕ → y.Command → Attempt y.Change → Log y × Answer
-try_do y c t b (Accept a d) = (record c { tree = y.done d c.tree; entries = Did t c.history b a d (y.footprint b c.tree) ∷ c.entries }, Gave a)
+try_do y c t b (Accept a d) = (record c { tree = y.done d c.tree; log = Did t c.history b a d (y.footprint b c.tree) ∷ c.log }, Gave a)
 try_do y c t b (Refuse r) = (c, Refused r)
 
 abbrev pub do_at : (y : System) → Log y → ℕ → y.Command → Option ℕ → Log y × Answer
@@ -75,18 +75,18 @@ held (p ∷ ps) log = length (only p.1 log) + held ps log
 
 -- too few slots are left
 abbrev pub is_full_log : {y : System} → Log y → Bool
-is_full_log c = nat_lt (c.bound - 2) (length c.history + (length c.opens + held c.opens c.entries))
+is_full_log c = nat_lt (c.bound - 2) (length c.history + (length c.opens + held c.opens c.log))
 
 abbrev pub log_step_in : (y : System) → Log y → ℕ → ℕ → Request y → Log y × Answer
 log_step_in y c s t Begin = (c, Refused AlreadyOpen)
-log_step_in y c s t (Do b) = cond (is_full_log c) (c, Refused Full) (do_at y c t b (log_holder y (y.footprint b c.tree) c.entries (others y c t)))
+log_step_in y c s t (Do b) = cond (is_full_log c) (c, Refused Full) (do_at y c t b (log_holder y (y.footprint b c.tree) c.log (others y c t)))
 log_step_in y c s t (Save n) =
-    cond (stack_has_savepoint n (only t c.entries)) (c, Refused NameTaken) (cond (is_full_log c) (c, Refused Full) (record c { entries = Savepoint t c.history n ∷ c.entries }, Saved))
-log_step_in y c s t (Back n) = cond (stack_has_savepoint n (only t c.entries)) (log_back_to y t n (only t c.entries) c 0) (c, Refused NoSavepoint)
-log_step_in y c s t Undo = undo_at y c t (only t c.entries)
+    cond (stack_has_savepoint n (only t c.log)) (c, Refused NameTaken) (cond (is_full_log c) (c, Refused Full) (record c { log = Savepoint t c.history n ∷ c.log }, Saved))
+log_step_in y c s t (Back n) = cond (stack_has_savepoint n (only t c.log)) (log_back_to y t n (only t c.log) c 0) (c, Refused NoSavepoint)
+log_step_in y c s t Undo = undo_at y c t (only t c.log)
 log_step_in y c s t Commit =
-    (record c { done = only t c.entries ++ c.done; opens = without t c.opens; commits = c.commits + 1 }, Committed (c.commits + 1))
-log_step_in y c s t Abort = (ended y (pop_all y t (only t c.entries) c) t, Aborted t)
+    (record c { done = only t c.log ++ c.done; opens = without t c.opens; commits = c.commits + 1 }, Committed (c.commits + 1))
+log_step_in y c s t Abort = (ended y (pop_all y t (only t c.log) c) t, Aborted t)
 
 abbrev pub log_step_out : (y : System) → Log y → ℕ → Request y → Log y × Answer
 log_step_out y c s Begin =

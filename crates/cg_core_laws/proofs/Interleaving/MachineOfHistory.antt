@@ -10,7 +10,7 @@ use Rattle.cg_model.specs.Machine.{StackEntry, Did, Savepoint, Transaction, open
 use Rattle.cg_core_laws.specs.Stacks.{as_items, footprints_on, StackEntriesTrue, IsOfHistory}
 use Rattle.cg_core_laws.specs.Headline.{AreProper}
 use Rattle.cg_core_laws.proofs.Interleaving.SystemLaws.{SystemLaws}
-use Rattle.cg_core_laws.proofs.Interleaving.RunsOfEntries.{only}
+use Rattle.cg_core_laws.proofs.Interleaving.RunsOfStackEntries.{only}
 use Rattle.cg_core_laws.proofs.Interleaving.LogMachine.{Log, log_opened}
 use Rattle.cg_core_laws.proofs.Interleaving.UnchangedBySteps.{bound_steps}
 use Rattle.cg_core_laws.proofs.Interleaving.MachineRunsAsLog.{steps_are}
@@ -46,11 +46,11 @@ module _ (y : System) (o : y.State) where
 
   pub of_history : (c : Log y) → Tied y o c → IsOfHistory y o (machine_of c)
   of_history c d = record {
-    transactions = opens_of c.opens c.entries ∙ d.opens;
-    open_count = count_of c.opens c.entries ∙ ap length d.opens;
-    stacks = stacks_live c.opens c.entries c.history d.lives;
-    stack_entries = stacks_true c.opens c.entries d.entries_true;
-    footprints = stacks_hold c.opens c.entries c.history d.entries_true d.lives;
+    transactions = opens_of c.opens c.log ∙ d.opens;
+    open_count = count_of c.opens c.log ∙ ap length d.opens;
+    stacks = stacks_live c.opens c.log c.history d.lives;
+    stack_entries = stacks_true c.opens c.log d.entries_true;
+    footprints = stacks_hold c.opens c.log c.history d.entries_true d.lives;
     begun = d.begun;
     commits = d.commits;
   }

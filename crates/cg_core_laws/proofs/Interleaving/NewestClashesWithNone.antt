@@ -9,7 +9,7 @@ use Rattle.cg_model.specs.Run.{run_items}
 use Rattle.cg_model.specs.Machine.{StackEntry, Did, Savepoint}
 use Rattle.cg_core_laws.specs.Reordered.{of_those, ClashesWithNone, NewestClashesWithNone}
 use Rattle.cg_core_laws.proofs.Interleaving.SystemLaws.{SystemLaws}
-use Rattle.cg_core_laws.proofs.Interleaving.RunsOfEntries.{owner, Free, FreeOf, state, Runs, only, Apart}
+use Rattle.cg_core_laws.proofs.Interleaving.RunsOfStackEntries.{owner, Free, FreeOf, state, Runs, only, Apart}
 use Rattle.cg_core_laws.proofs.Interleaving.LogMachine.{Log}
 use Rattle.cg_core_laws.proofs.Interleaving.TakingOff.{free_tail}
 use Rattle.cg_core_laws.proofs.Interleaving.AnswersInParts.{runs_below}
@@ -88,7 +88,7 @@ module _ (y : System) (laws : SystemLaws y) (o : y.State) where
   pub newest_clashes_with_none : (c : Log y) → Kept y o c → Tied y o c → NewestClashesWithNone y o (machine_of c)
   newest_clashes_with_none c k d newer older t h b a is_open e newest =
       let IsOpen : ℕ → Type 0 = λ u. among u (numbers (opens c.history)) ≡ true in
-      let p : Parted y c.entries newer (Ran t h b a) older = parted y c.entries newer (Ran t h b a) older (d.stands ∙ e) in
+      let p : Parted y c.log newer (Ran t h b a) older = parted y c.log newer (Ran t h b a) older (d.stands ∙ e) in
       let s : Shown IsOpen (as_items p.later) (as_items p.earlier) (as_item p.entry) = shown IsOpen p.later p.entry p.earlier (subst (Runs y o) p.whole k.runs)
       (λ u m. subst (Apart y u) p.whole (k.apart u (ap (λ ps. among u (numbers ps)) d.opens ∙ m))) in
       subst (Shown IsOpen newer older) p.entry_is

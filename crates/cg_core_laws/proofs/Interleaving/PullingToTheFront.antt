@@ -10,7 +10,7 @@ use Rattle.cg_model.specs.Machine.{StackEntry}
 use Rattle.cg_core_laws.specs.Headline.{OnceEach}
 use Rattle.cg_core_laws.specs.Reordered.{of_those, not_pulled, PulledToTheFront}
 use Rattle.cg_core_laws.proofs.Interleaving.SystemLaws.{SystemLaws}
-use Rattle.cg_core_laws.proofs.Interleaving.RunsOfEntries.{owner, Free, FreeOf, keep, only, Apart, Same, blocks}
+use Rattle.cg_core_laws.proofs.Interleaving.RunsOfStackEntries.{owner, Free, FreeOf, keep, only, Apart, Same, blocks}
 use Rattle.cg_core_laws.proofs.Interleaving.LogMachine.{Log}
 use Rattle.cg_core_laws.proofs.Interleaving.TakingOff.{free_tail, keep_all}
 use Rattle.cg_core_laws.proofs.Interleaving.Gathering.{same_refl, same_trans, same_append, gather_step, canon}
@@ -56,7 +56,7 @@ module _ (y : System) (laws : SystemLaws y) (o : y.State) where
   free_of_those x r (z ∷ a) h =
       free_put x z (keep r a) (r (owner z)) (λ e. free_one x z a (h (owner z) e)) (free_of_those x r a (λ t e. free_tail y x z (only t a) (owner z == t) (h t e)))
 
-  -- the entries of some transactions on top of those of others
+  -- the stack entries of some transactions on top of those of others
   gather_those : (r q : ℕ → Bool) → ((u : ℕ) → r u ≡ true → q u ≡ false) → (a : List (StackEntry y)) → ((t : ℕ) → r t ≡ true → Apart y t a) → Same y o (keep (λ u. r u || q u) a) (keep r a ++ keep q a)
   gather_those r q apart [] h = same_refl y laws o []
   gather_those r q apart (x ∷ a) h =
@@ -64,15 +64,15 @@ module _ (y : System) (laws : SystemLaws y) (o : y.State) where
       (λ out. free_of_those x r a (λ t e. (h t e).0 (false_from_ne_true (owner x == t) (λ k. let same = ap r (eqb-true (owner x) t k) in cc (same, out, e)))))
       (gather_those r q apart a (λ t e. (h t e).1))
 
-  pulled : (c : Log y) (ts : List ℕ) → Kept y o c → OnceEach ts → ((t : ℕ) → among t ts ≡ true → among t (numbers c.opens) ≡ true) → Same y o c.entries (keep (waits c.opens ts) c.entries ++ blocks ts c.entries c.done)
+  pulled : (c : Log y) (ts : List ℕ) → Kept y o c → OnceEach ts → ((t : ℕ) → among t ts ≡ true → among t (numbers c.opens) ≡ true) → Same y o c.log (keep (waits c.opens ts) c.log ++ blocks ts c.log c.done)
   pulled c ts k once are_open =
       let r = waits c.opens ts in
       let q = is_through c.opens ts in
-      let all = keep_all y (λ u. r u || q u) c.entries (passes (λ u. r u || q u) c.entries (λ u. either (among u (numbers c.opens)) (among u ts))) in
-      let parted = gather_those r q (λ u e. not_both (among u (numbers c.opens)) (among u ts) e) c.entries (λ t e. k.apart t (left (among t (numbers c.opens)) (not (among t ts)) e)) in
+      let all = keep_all y (λ u. r u || q u) c.log (passes (λ u. r u || q u) c.log (λ u. either (among u (numbers c.opens)) (among u ts))) in
+      let parted = gather_those r q (λ u e. not_both (among u (numbers c.opens)) (among u ts) e) c.log (λ t e. k.apart t (left (among t (numbers c.opens)) (not (among t ts)) e)) in
       same_trans y laws o _ _ _
-      (subst (λ l. Same y o l (keep r c.entries ++ keep q c.entries)) all parted)
-      (same_append y laws o (keep r c.entries) _ _ (canon y laws o (closed c.opens) c.entries c.done ts once (λ t m. let n = are_open t m in (ap not n, k.apart t n)) k.done))
+      (subst (λ l. Same y o l (keep r c.log ++ keep q c.log)) all parted)
+      (same_append y laws o (keep r c.log) _ _ (canon y laws o (closed c.opens) c.log c.done ts once (λ t m. let n = are_open t m in (ap not n, k.apart t n)) k.done))
 
   as_items_keep : (r : ℕ → Bool) (a : List (StackEntry y)) → as_items (keep r a) ≡ of_those r (as_items a)
   as_items_keep r [] = refl
@@ -87,11 +87,11 @@ module _ (y : System) (laws : SystemLaws y) (o : y.State) where
 
   pub pulled_to_the_front : (c : Log y) → Kept y o c → Tied y o c → PulledToTheFront y o (machine_of c)
   pulled_to_the_front c k d ts once are_open =
-      let waiting : List (StackEntry y) = keep (waits c.opens ts) c.entries in
-      let front : List (StackEntry y) = blocks ts c.entries c.done in
+      let waiting : List (StackEntry y) = keep (waits c.opens ts) c.log in
+      let front : List (StackEntry y) = blocks ts c.log c.done in
       let is_open : (t : ℕ) → among t ts ≡ true → among t (numbers c.opens) ≡ true = λ t m. ap (λ ps. among t (numbers ps)) d.opens ∙ each_among (λ u. among u (numbers (opens c.history)) ≡ true) ts are_open t m in
       let p = (pulled c ts k once is_open).by k.runs in
       let q = ran y o (waiting ++ front) p.0 in
-      let rest : as_items waiting ≡ not_pulled ts c.history = as_items_keep (waits c.opens ts) c.entries ∙ (λ i. of_those (λ t. among t (numbers (d.opens i)) && not (among t ts)) (d.stands i)) in
+      let rest : as_items waiting ≡ not_pulled ts c.history = as_items_keep (waits c.opens ts) c.log ∙ (λ i. of_those (λ t. among t (numbers (d.opens i)) && not (among t ts)) (d.stands i)) in
       let e : as_items (waiting ++ front) ≡ not_pulled ts c.history ++ stacked ts c.history (committed c.history) = as_items_append y o waiting front ∙ (λ i. rest i ++ as_items_blocks y laws o c ts d i) in
       (subst (Accepted y o) e q.1, sym (ap (run_items y o) e) ∙ q.0 ∙ p.1 ∙ sym k.tree)

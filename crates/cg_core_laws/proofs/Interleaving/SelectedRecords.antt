@@ -7,7 +7,7 @@ use Rattle.cg_model.specs.System.{System}
 use Rattle.cg_model.specs.History.{Request, Do, Save, Back, Undo, Abort, Answer, Gave, Saved, WentBack, Aborted, History}
 use Rattle.cg_model.specs.Live.{Item, Ran, AtSavepoint, Items, below, live_after, live, position, stands, item_of, joined_if, selected}
 pub use Rattle.cg_core_laws.specs.Reordered.{transaction_of}
-use Rattle.cg_core_laws.proofs.Interleaving.RunsOfEntries.{skip}
+use Rattle.cg_core_laws.proofs.Interleaving.RunsOfStackEntries.{skip}
 
 abbrev pub items_only : {y : System} → ℕ → Items y → Items y
 items_only t [] = []

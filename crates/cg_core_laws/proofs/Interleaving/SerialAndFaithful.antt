@@ -9,7 +9,7 @@ use Rattle.cg_model.specs.Reply.{holder, live_count, slots}
 use Rattle.cg_model.specs.Machine.{Machine, step}
 use Rattle.cg_core_laws.specs.Headline.{IsOrder, IsLeastHolder, IsSerial, IsFaithful}
 use Rattle.cg_core_laws.proofs.Interleaving.SystemLaws.{SystemLaws}
-use Rattle.cg_core_laws.proofs.Interleaving.RunsOfEntries.{only, blocks}
+use Rattle.cg_core_laws.proofs.Interleaving.RunsOfStackEntries.{only, blocks}
 use Rattle.cg_core_laws.proofs.Interleaving.LogMachine.{Log, held, log_step_at, log_noted, log_step}
 use Rattle.cg_core_laws.proofs.Interleaving.LogInvariant.{Kept}
 use Rattle.cg_core_laws.proofs.Interleaving.LogIsSerial.{kept_sound, kept_orders}
@@ -34,14 +34,14 @@ module _ (y : System) where
   grows_noted c s r p false k i e = absurd (cc (k, e))
 
 module _ (y : System) (laws : SystemLaws y) (o : y.State) where
-  pub as_items_blocks : (c : Log y) (ts : List ℕ) → Tied y o c → as_items (blocks ts c.entries c.done) ≡ stacked ts c.history (committed c.history)
+  pub as_items_blocks : (c : Log y) (ts : List ℕ) → Tied y o c → as_items (blocks ts c.log c.done) ≡ stacked ts c.history (committed c.history)
   as_items_blocks c [] d = d.done
-  as_items_blocks c (t ∷ ts) d = as_items_append y o (only t c.entries) _ ∙ (rw (d.lives t, as_items_blocks c ts d))
+  as_items_blocks c (t ∷ ts) d = as_items_append y o (only t c.log) _ ∙ (rw (d.lives t, as_items_blocks c ts d))
 
   orders : (c : Log y) (ts : List ℕ) → Kept y o c → Tied y o c → IsOrder ts c.history → Accepted y o (stacked ts c.history (committed c.history)) × (run_items y o (stacked ts c.history (committed c.history)) ≡ c.tree)
   orders c ts k d order =
       let p = kept_orders y laws o c ts k order.0 (λ u. order.1 u ∙ ap (λ ps. among u (numbers ps)) (sym d.opens)) in
-      let q = ran y o (blocks ts c.entries c.done) p.0 in
+      let q = ran y o (blocks ts c.log c.done) p.0 in
       let e = as_items_blocks c ts d in
       (subst (Accepted y o) e q.1, sym (ap (run_items y o) e) ∙ q.0 ∙ p.1)
 
@@ -74,7 +74,7 @@ module _ (y : System) (laws : SystemLaws y) (o : y.State) where
 
   room : (c : Log y) → Tied y o c → HasRoom c → slots c.history ≤ c.bound
   room c d has =
-      let e : length c.opens + held c.opens c.entries ≡ length (opens c.history) + live_count (opens c.history) c.history =
+      let e : length c.opens + held c.opens c.log ≡ length (opens c.history) + live_count (opens c.history) c.history =
       ap (λ n. length c.opens + n) (held_is y laws o c c.opens d) ∙ ap (λ ps. length ps + live_count ps c.history) d.opens in
       subst (λ n. length c.history + n ≤ c.bound) e has
 

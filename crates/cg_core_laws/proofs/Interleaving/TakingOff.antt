@@ -1,10 +1,10 @@
--- What is left when the newest entry of a transaction is taken off.
+-- What is left when the newest stack entry of a transaction is taken off.
 use Rattle.std.proofs.Common.{◌≡◌, ℕ, Bool, true, false, List, [], ◌∷◌, ◌==◌, refl, ap, ◌∙◌}
 use Rattle.std.proofs.lemmas.Bool.{eqb-true}
 use Rattle.cg_model.specs.Live.{joined_if}
 use Rattle.cg_model.specs.System.{System}
 use Rattle.cg_model.specs.Machine.{StackEntry}
-use Rattle.cg_core_laws.proofs.Interleaving.RunsOfEntries.{owner, FreeOf, keep, only, skip, cut, Apart, Passes, Agree}
+use Rattle.cg_core_laws.proofs.Interleaving.RunsOfStackEntries.{owner, FreeOf, keep, only, skip, cut, Apart, Passes, Agree}
 
 module _ (y : System) where
   pub free_tail : (z x : StackEntry y) (l : List (StackEntry y)) (c : Bool) → FreeOf y z (joined_if c x l) → FreeOf y z l

@@ -1,15 +1,15 @@
--- What the steps of a transaction leave as it is: all but the tree and the entries, until it ends; and the history and the
--- bound always.
+-- What the steps of a transaction leave as it is: all but the tree and the stack entries, until it ends; and the history and
+-- the bound always.
 use Rattle.std.proofs.Common.{◌≡◌, ℕ, ◌+◌, Bool, true, false, cond, List, [], ◌∷◌, Option, Some, None, refl, ◌∙◌}
 use Rattle.cg_name.specs.Name.{Name, same_name}
 use Rattle.cg_model.specs.System.{System, Attempt, Refuse, Accept}
 use Rattle.cg_model.specs.History.{Request, Begin, Do, Save, Back, Undo, Commit, Abort, Answer, is_recorded}
 use Rattle.cg_model.specs.Opens.{transaction_in}
 use Rattle.cg_model.specs.Machine.{StackEntry, Did, Savepoint, stack_has_savepoint}
-use Rattle.cg_core_laws.proofs.Interleaving.RunsOfEntries.{only}
+use Rattle.cg_core_laws.proofs.Interleaving.RunsOfStackEntries.{only}
 use Rattle.cg_core_laws.proofs.Interleaving.LogMachine.{Log, log_holder, pop, pop_all, log_back_to, try_do, do_at, undo_at, others, is_full_log, log_step_in, log_step_out, log_step_at, log_noted, log_step, log_steps}
 
--- all but the tree and the entries
+-- all but the tree and the stack entries
 pub record Unchanged (y : System) (c c' : Log y) : Type 0 where
   pub opens : c'.opens ≡ c.opens
   pub begun : c'.begun ≡ c.begun
@@ -22,7 +22,7 @@ module _ (y : System) where
   pub unchanged_refl : (c : Log y) → Unchanged y c c
   unchanged_refl c = record { opens = refl; begun = refl; commits = refl; done = refl; history = refl; bound = refl }
 
-  -- what is unchanged from the machine with other entries is unchanged from this one
+  -- what is unchanged from the machine with other stack entries is unchanged from this one
   pub unchanged_pop : (c c' : Log y) (t : ℕ) (x : StackEntry y) → Unchanged y (pop y c t x) c' → Unchanged y c c'
   unchanged_pop c c' t x u = record { opens = u.opens; begun = u.begun; commits = u.commits; done = u.done; history = u.history; bound = u.bound }
 
@@ -64,12 +64,12 @@ module _ (y : System) where
   pub unchanged_in : (c : Log y) (s t : ℕ) (r : Request y) → GoesOn r → Unchanged y c (log_step_in y c s t r).0
   unchanged_in c s t Begin g = unchanged_refl c
   unchanged_in c s t (Do b) g =
-      unchanged_cond c (is_full_log c) _ _ (unchanged_refl c) (unchanged_do c t b (log_holder y (y.footprint b c.tree) c.entries (others y c t)))
+      unchanged_cond c (is_full_log c) _ _ (unchanged_refl c) (unchanged_do c t b (log_holder y (y.footprint b c.tree) c.log (others y c t)))
   unchanged_in c s t (Save n) g =
-      unchanged_cond c (stack_has_savepoint n (only t c.entries)) _ _ (unchanged_refl c)
+      unchanged_cond c (stack_has_savepoint n (only t c.log)) _ _ (unchanged_refl c)
       (unchanged_cond c (is_full_log c) _ _ (unchanged_refl c) (record { opens = refl; begun = refl; commits = refl; done = refl; history = refl; bound = refl }))
-  unchanged_in c s t (Back n) g = unchanged_cond c (stack_has_savepoint n (only t c.entries)) _ _ (unchanged_back t n (only t c.entries) c 0) (unchanged_refl c)
-  unchanged_in c s t Undo g = unchanged_undo c t (only t c.entries)
+  unchanged_in c s t (Back n) g = unchanged_cond c (stack_has_savepoint n (only t c.log)) _ _ (unchanged_back t n (only t c.log) c 0) (unchanged_refl c)
+  unchanged_in c s t Undo g = unchanged_undo c t (only t c.log)
   unchanged_in c s t Commit g = absurd g
   unchanged_in c s t Abort g = absurd g
 
@@ -86,7 +86,7 @@ module _ (y : System) where
 
   same_history_in : (c : Log y) (s t : ℕ) (r : Request y) → SameHistory c (log_step_in y c s t r).0
   same_history_in c s t Commit = (refl, refl)
-  same_history_in c s t Abort = let u = unchanged_all t (only t c.entries) c in (u.history, u.bound)
+  same_history_in c s t Abort = let u = unchanged_all t (only t c.log) c in (u.history, u.bound)
   same_history_in c s t Begin = same_history_on c s t Begin tt
   same_history_in c s t (Do b) = same_history_on c s t (Do b) tt
   same_history_in c s t (Save n) = same_history_on c s t (Save n) tt

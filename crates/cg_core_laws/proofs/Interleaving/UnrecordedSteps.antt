@@ -7,7 +7,7 @@ use Rattle.cg_model.specs.History.{Request, Begin, Do, Save, Back, Undo, Commit,
 use Rattle.cg_model.specs.Opens.{transaction_in}
 use Rattle.cg_model.specs.Reply.{has_savepoint, commands_above}
 use Rattle.cg_model.specs.Machine.{StackEntry, Did, Savepoint, stack_has_savepoint}
-use Rattle.cg_core_laws.proofs.Interleaving.RunsOfEntries.{only}
+use Rattle.cg_core_laws.proofs.Interleaving.RunsOfStackEntries.{only}
 use Rattle.cg_core_laws.proofs.Interleaving.LogMachine.{Log, log_holder, pop, log_back_to, try_do, do_at, undo_at, others, is_full_log, log_step_in, log_step_out, log_step_at, log_noted, log_step}
 use Rattle.cg_core_laws.proofs.Interleaving.HistoryTie.{as_items}
 
@@ -48,18 +48,18 @@ module _ (y : System) where
   quiet_undo c t (Savepoint u h n ∷ l) e = refl
   quiet_undo c t (Did u h b a d f ∷ l) e = absurd (cc e)
 
-  quiet_back : (c : Log y) (t : ℕ) (n : Name) (b : Bool) → stack_has_savepoint n (only t c.entries) ≡ b → Quiet (Back n) c (cond b (log_back_to y t n (only t c.entries) c 0) (c, Refused NoSavepoint))
+  quiet_back : (c : Log y) (t : ℕ) (n : Name) (b : Bool) → stack_has_savepoint n (only t c.log) ≡ b → Quiet (Back n) c (cond b (log_back_to y t n (only t c.log) c 0) (c, Refused NoSavepoint))
   quiet_back c t n true h e =
-      let a = ap (λ (x : Answer). is_recorded {y = y} (Back n) x) (back_answer t n (only t c.entries) c 0 h) in absurd (cc (a, e))
+      let a = ap (λ (x : Answer). is_recorded {y = y} (Back n) x) (back_answer t n (only t c.log) c 0 h) in absurd (cc (a, e))
   quiet_back c t n false h e = refl
 
   quiet_in : (c : Log y) (s t : ℕ) (r : Request y) → Quiet r c (log_step_in y c s t r)
   quiet_in c s t Begin e = refl
-  quiet_in c s t (Do b) e = quiet_cond (Do b) c (is_full_log c) _ _ (λ i. refl) (quiet_do c t b (log_holder y (y.footprint b c.tree) c.entries (others y c t))) e
+  quiet_in c s t (Do b) e = quiet_cond (Do b) c (is_full_log c) _ _ (λ i. refl) (quiet_do c t b (log_holder y (y.footprint b c.tree) c.log (others y c t))) e
   quiet_in c s t (Save n) e =
-      quiet_cond (Save n) c (stack_has_savepoint n (only t c.entries)) _ _ (λ i. refl) (quiet_cond (Save n) c (is_full_log c) _ _ (λ i. refl) (λ i. absurd (cc i))) e
-  quiet_in c s t (Back n) e = quiet_back c t n (stack_has_savepoint n (only t c.entries)) refl e
-  quiet_in c s t Undo e = quiet_undo c t (only t c.entries) e
+      quiet_cond (Save n) c (stack_has_savepoint n (only t c.log)) _ _ (λ i. refl) (quiet_cond (Save n) c (is_full_log c) _ _ (λ i. refl) (λ i. absurd (cc i))) e
+  quiet_in c s t (Back n) e = quiet_back c t n (stack_has_savepoint n (only t c.log)) refl e
+  quiet_in c s t Undo e = quiet_undo c t (only t c.log) e
   quiet_in c s t Commit e = absurd (cc e)
   quiet_in c s t Abort e = absurd (cc e)
 

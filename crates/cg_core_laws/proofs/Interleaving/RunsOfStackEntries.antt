@@ -1,10 +1,10 @@
--- Lists of entries that stand, the newest first: what it is to run, to be apart, and to give the same state.
+-- Lists of stack entries that stand, the newest first: what it is to run, to be apart, and to give the same state.
 use Rattle.std.specs.Prelude.{◌≡◌, ℕ, Bool, true, false, List, [], ◌∷◌, ◌++◌, ◌==◌}
 use Rattle.cg_model.specs.System.{System, Accept}
 use Rattle.cg_model.specs.Live.{joined_if}
 use Rattle.cg_model.specs.Machine.{StackEntry, Did, Savepoint}
 
--- the transaction of an entry
+-- the transaction of a stack entry
 abbrev pub owner : {y : System} → StackEntry y → ℕ
 owner (Did t th c a d f) = t
 owner (Savepoint t th n) = t
@@ -14,7 +14,7 @@ abbrev pub Accepts : (y : System) → y.State → StackEntry y → Type 0
 Accepts y s (Did t th c a d f) = y.Proper c × (y.effect c s ≡ Accept a d) × (y.footprint c s ≡ f)
 Accepts y s (Savepoint t th n) = Unit {0}
 
--- the state after an entry
+-- the state after a stack entry
 abbrev pub moved : (y : System) → StackEntry y → y.State → y.State
 moved y (Did t th c a d f) s = y.done d s
 moved y (Savepoint t th n) s = s
@@ -30,7 +30,7 @@ abbrev pub FreeOf : (y : System) → StackEntry y → List (StackEntry y) → Ty
 FreeOf y x [] = Unit {0}
 FreeOf y x (z ∷ a) = Free y x z × FreeOf y x a
 
--- the state after the entries, the newest first, from the opening state
+-- the state after the stack entries, the newest first, from the opening state
 abbrev pub state : (y : System) → y.State → List (StackEntry y) → y.State
 state y o [] = o
 state y o (x ∷ a) = moved y x (state y o a)
@@ -40,7 +40,7 @@ abbrev pub Runs : (y : System) → y.State → List (StackEntry y) → Type 0
 Runs y o [] = Unit {0}
 Runs y o (x ∷ a) = Accepts y (state y o a) x × Runs y o a
 
--- the entries of the transactions that pass
+-- the stack entries of the transactions that pass
 abbrev pub keep : {y : System} → (ℕ → Bool) → List (StackEntry y) → List (StackEntry y)
 keep p [] = []
 keep p (x ∷ a) = joined_if (p (owner x)) x (keep p a)
@@ -48,7 +48,7 @@ keep p (x ∷ a) = joined_if (p (owner x)) x (keep p a)
 abbrev pub only : {y : System} → ℕ → List (StackEntry y) → List (StackEntry y)
 only t a = keep (λ u. u == t) a
 
--- without the newest entry of t
+-- without the newest stack entry of t
 abbrev pub skip : {E : Type 0} → Bool → E → List E → List E → List E
 skip true x a r = a
 skip false x a r = x ∷ r
@@ -57,7 +57,7 @@ abbrev pub cut : {y : System} → ℕ → List (StackEntry y) → List (StackEnt
 cut t [] = []
 cut t (x ∷ a) = skip (owner x == t) x a (cut t a)
 
--- no entry clashes with an older one of t, where it is not of t
+-- no stack entry clashes with an older one of t, where it is not of t
 abbrev pub Apart : (y : System) → ℕ → List (StackEntry y) → Type 0
 Apart y t [] = Unit {0}
 Apart y t (x ∷ a) = ((owner x == t) ≡ false → FreeOf y x (only t a)) × Apart y t a
@@ -66,7 +66,7 @@ Apart y t (x ∷ a) = ((owner x == t) ≡ false → FreeOf y x (only t a)) × Ap
 pub record Same (y : System) (o : y.State) (a b : List (StackEntry y)) : Type 0 where
   pub by : Runs y o a → Runs y o b × (state y o b ≡ state y o a)
 
--- the entries of these transactions, one transaction after another, the first of them newest, above those below
+-- the stack entries of these transactions, one transaction after another, the first of them newest, above those below
 abbrev pub blocks : {y : System} → List ℕ → List (StackEntry y) → List (StackEntry y) → List (StackEntry y)
 blocks [] a below = below
 blocks (t ∷ os) a below = only t a ++ blocks os a below
