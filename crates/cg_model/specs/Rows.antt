@@ -23,7 +23,7 @@ use Rattle.cg_model.specs.Cgroups.{cgroups}
 use Rattle.cg_model.specs.History.{Request, Answer}
 use Rattle.cg_model.specs.Opens.{numbers, opens}
 use Rattle.cg_model.specs.Live.{live}
-use Rattle.cg_model.specs.Machine.{Machine, opened, step}
+use Rattle.cg_model.specs.Machine.{Machine, opened}
 use Rattle.cg_model.specs.Output.{answers, output}
 use Rattle.cg_model.specs.Room.{has_entry}
 
