@@ -13,6 +13,8 @@ mod OpenTransactions
 mod AnswersInParts
 -- the machine with one log of all that stands, in place of stacks
 pub mod LogMachine
+-- what holds of a refusal and of a Begin holds of each step without an open transaction
+mod StepsWithoutTransaction
 -- what every step of it keeps, and that taking stack entries off keeps it
 pub mod LogInvariant
 -- each step keeps it

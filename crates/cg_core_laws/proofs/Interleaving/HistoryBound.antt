@@ -12,6 +12,7 @@ use Rattle.cg_core_laws.specs.Headline.{OnceEach, AreProper}
 use Rattle.cg_core_laws.proofs.Interleaving.SystemLaws.{SystemLaws}
 use Rattle.cg_core_laws.proofs.Interleaving.RunsOfStackEntries.{owner, only, cut}
 use Rattle.cg_core_laws.proofs.Interleaving.LogMachine.{Log, log_opened, log_holder, pop, pop_all, log_back_to, try_do, do_at, undo_at, others, held, is_full_log, log_step_in, log_step_out, log_step_at, log_noted, log_step, log_steps}
+use Rattle.cg_core_laws.proofs.Interleaving.StepsWithoutTransaction.{of_out}
 use Rattle.cg_core_laws.proofs.Interleaving.TakingOff.{cut_keep, cut_own}
 use Rattle.cg_core_laws.proofs.Interleaving.OpenTransactions.{transaction_open}
 use Rattle.cg_core_laws.proofs.Interleaving.LogInvariant.{OwnersUpTo, Kept}
@@ -160,15 +161,9 @@ module _ (y : System) where
       rw (u.opens, u.history, u.bound) (omega arith)
 
   placed_out : (c : Log y) (s : ℕ) (r : Request y) → OwnersUpTo c.begun c.log → 2 ≤ c.bound → HasRoom c → Placed r (log_step_out y c s r)
-  placed_out c s Begin ow le h w =
-      placed_cond Begin (is_full_log c) _ _ (λ e v. absurd (cc v))
-      (λ e v. let z = full_spare c le e in let q : length (only (c.begun + 1) c.log) ≡ 0 = ap length (none_of_next y c.begun c.log ow) in omega arith) w
-  placed_out c s (Do b) ow le h w = absurd (cc w)
-  placed_out c s (Save n) ow le h w = absurd (cc w)
-  placed_out c s (Back n) ow le h w = absurd (cc w)
-  placed_out c s Undo ow le h w = absurd (cc w)
-  placed_out c s Commit ow le h w = absurd (cc w)
-  placed_out c s Abort ow le h w = absurd (cc w)
+  placed_out c s r ow le h =
+      of_out y Placed c s (λ q x e w. absurd (cc (e, w)))
+      (λ e w. let z = full_spare c le e in let q : length (only (c.begun + 1) c.log) ≡ 0 = ap length (none_of_next y c.begun c.log ow) in omega arith) r
 
   placed_noted : (c : Log y) (s : ℕ) (r : Request y) (h : Option ℕ) (p : Log y × Answer) (b : Bool) → is_recorded r p.1 ≡ b → HasRoom c → Placed r p → (is_recorded r p.1 ≡ false → p.0 ≡ c) → HasRoom (log_noted b s r h p).0
   placed_noted c s r h p true k room i q = let z = i k in omega arith

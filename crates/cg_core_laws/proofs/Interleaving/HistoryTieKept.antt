@@ -12,6 +12,7 @@ use Rattle.cg_model.specs.Machine.{StackEntry, Did, Savepoint, stack_has_savepoi
 use Rattle.cg_core_laws.proofs.Interleaving.SystemLaws.{SystemLaws}
 use Rattle.cg_core_laws.proofs.Interleaving.RunsOfStackEntries.{only}
 use Rattle.cg_core_laws.proofs.Interleaving.LogMachine.{Log, log_opened, log_holder, pop, pop_all, log_back_to, try_do, do_at, undo_at, others, is_full_log, log_step_in, log_step_out, log_step_at, log_noted, log_step}
+use Rattle.cg_core_laws.proofs.Interleaving.StepsWithoutTransaction.{with_begun, of_out}
 use Rattle.cg_core_laws.proofs.Interleaving.TakingOff.{cut_own}
 use Rattle.cg_core_laws.proofs.Interleaving.LogInvariant.{Kept}
 use Rattle.cg_core_laws.proofs.Interleaving.UnchangedBySteps.{unchanged_all, unchanged_back}
@@ -127,19 +128,12 @@ module _ (y : System) (laws : SystemLaws y) (o : y.State) where
       let u = unchanged_all y t (only t c.log) c in
       tie_in c (log_step_in y c s t Abort).0 s t Abort (Aborted t) [] d u.history m refl (ap (without t) u.opens) u.begun u.commits (ap as_items u.done)
 
-  begin_tied : (c : Log y) (s : ℕ) (b : Bool) → Tied y o c → TiedWith s Begin None (cond b (c, Refused Full) (record c { opens = (s, c.begun + 1) ∷ c.opens; begun = c.begun + 1 }, Begun (c.begun + 1)))
-  begin_tied c s true d = d
-  begin_tied c s false d =
-      tie_in c (record c { opens = (s, c.begun + 1) ∷ c.opens; begun = c.begun + 1 }) s (c.begun + 1) Begin (Begun (c.begun + 1)) (live (c.begun + 1) c.history) d refl (midway_start y o c (c.begun + 1) d) refl refl refl refl refl
+  begin_tied : (c : Log y) (s : ℕ) → Tied y o c → TiedWith s Begin None (with_begun y c s, Begun (c.begun + 1))
+  begin_tied c s d = tie_in c (with_begun y c s) s (c.begun + 1) Begin (Begun (c.begun + 1)) (live (c.begun + 1) c.history) d refl (midway_start y o c (c.begun + 1) d) refl refl refl refl refl
 
   out_tied : (c : Log y) (s : ℕ) (r : Request y) → Tied y o c → TiedWith s r None (log_step_out y c s r)
-  out_tied c s Begin d = begin_tied c s (is_full_log c) d
-  out_tied c s (Do b) d = d
-  out_tied c s (Save n) d = d
-  out_tied c s (Back n) d = d
-  out_tied c s Undo d = d
-  out_tied c s Commit d = d
-  out_tied c s Abort d = d
+  out_tied c s r d =
+      of_out y (λ q p. TiedWith s q None p) c s (λ q x e. subst (λ b. Tied y o (log_noted b s q None (c, Refused x)).0) (sym e) d) (λ _. begin_tied c s d) r
 
   at_tied : (c : Log y) (s : ℕ) (r : Request y) (h : Option ℕ) → Kept y o c → Tied y o c → TiedWith s r h (log_step_at y c s r h)
   at_tied c s r (Some t) k d = in_tied c s t r k d

@@ -8,7 +8,8 @@ use Rattle.cg_model.specs.Live.{live}
 use Rattle.cg_model.specs.Reply.{clashes_with, found_or, holder}
 use Rattle.cg_core_laws.specs.Headline.{IsLeastHolder}
 use Rattle.cg_core_laws.proofs.Interleaving.RunsOfStackEntries.{only}
-use Rattle.cg_core_laws.proofs.Interleaving.LogMachine.{Log, log_opened, is_full_log, log_step_in, log_step_out, log_step_at, log_noted, log_step, log_steps}
+use Rattle.cg_core_laws.proofs.Interleaving.LogMachine.{Log, log_opened, log_step_in, log_step_out, log_step_at, log_noted, log_step, log_steps}
+use Rattle.cg_core_laws.proofs.Interleaving.StepsWithoutTransaction.{of_out}
 use Rattle.cg_core_laws.proofs.Interleaving.UnchangedBySteps.{GoesOn, unchanged_all, unchanged_in}
 
 -- the numbers go down, from below n
@@ -74,10 +75,6 @@ abbrev pub Falling : {y : System} → Log y → Type 0
 Falling c = Falls (c.begun + 1) c.opens
 
 module _ (y : System) where
-  falling_cond : (b : Bool) (p q : Log y × Answer) → Falling p.0 → Falling q.0 → Falling (cond b p q).0
-  falling_cond true p q i j = i
-  falling_cond false p q i j = j
-
   falling_on : (c : Log y) (s t : ℕ) (r : Request y) → GoesOn y r → Falling c → Falling (log_step_in y c s t r).0
   falling_on c s t r g f = let u = unchanged_in y c s t r g in rw (u.opens, u.begun) f
 
@@ -93,13 +90,7 @@ module _ (y : System) where
   falling_in c s t Undo f = falling_on c s t Undo tt f
 
   falling_out : (c : Log y) (s : ℕ) (r : Request y) → Falling c → Falling (log_step_out y c s r).0
-  falling_out c s Begin f = falling_cond (is_full_log c) _ _ f (omega arith, f)
-  falling_out c s (Do b) f = f
-  falling_out c s (Save n) f = f
-  falling_out c s (Back n) f = f
-  falling_out c s Undo f = f
-  falling_out c s Commit f = f
-  falling_out c s Abort f = f
+  falling_out c s r f = of_out y (λ _ p. Falling p.0) c s (λ _ _ _. f) (λ _. (omega arith, f)) r
 
   falling_at : (c : Log y) (s : ℕ) (r : Request y) (h : Option ℕ) → Falling c → Falling (log_step_at y c s r h).0
   falling_at c s r (Some t) f = falling_in c s t r f

@@ -14,6 +14,7 @@ use Rattle.cg_core_laws.specs.Headline.{AreProper}
 use Rattle.cg_core_laws.proofs.Interleaving.SystemLaws.{SystemLaws}
 use Rattle.cg_core_laws.proofs.Interleaving.RunsOfStackEntries.{owner, Accepts, moved, FreeOf, keep, only, Apart, Same, Clear, Passes, Agree}
 use Rattle.cg_core_laws.proofs.Interleaving.LogMachine.{Log, log_opened, log_holder, pop_all, try_do, do_at, undo_at, others, ended, is_full_log, log_step_in, log_step_out, log_step_at, log_noted, log_step, log_steps}
+use Rattle.cg_core_laws.proofs.Interleaving.StepsWithoutTransaction.{with_begun, of_out}
 use Rattle.cg_core_laws.proofs.Interleaving.Gathering.{same_refl, same_trans, same_append, gather}
 use Rattle.cg_core_laws.proofs.Interleaving.TakingOff.{keep_same}
 use Rattle.cg_core_laws.proofs.Interleaving.AnswersInParts.{clear_free}
@@ -68,7 +69,7 @@ module _ (y : System) (n : ℕ) where
   agree_next s ps (x ∷ a) h = (rw (other_next (owner x) n h.0), agree_next s ps a h.1)
 
 module _ (y : System) (laws : SystemLaws y) (o : y.State) where
-  begin_kept : (c : Log y) (s : ℕ) → Kept y o c → Kept y o (record c { opens = (s, c.begun + 1) ∷ c.opens; begun = c.begun + 1 })
+  begin_kept : (c : Log y) (s : ℕ) → Kept y o c → Kept y o (with_begun y c s)
   begin_kept c s k = record {
     runs = k.runs;
     tree = k.tree;
@@ -166,13 +167,7 @@ module _ (y : System) (laws : SystemLaws y) (o : y.State) where
   in_kept c s t Abort proper k m = abort_kept c s t k m
 
   out_kept : (c : Log y) (s : ℕ) (r : Request y) → Kept y o c → Kept y o (log_step_out y c s r).0
-  out_kept c s Begin k = stop_kept y laws o (is_full_log c) _ _ k (begin_kept c s k)
-  out_kept c s (Do b) k = k
-  out_kept c s (Save n) k = k
-  out_kept c s (Back n) k = k
-  out_kept c s Undo k = k
-  out_kept c s Commit k = k
-  out_kept c s Abort k = k
+  out_kept c s r k = of_out y (λ _ p. Kept y o p.0) c s (λ _ _ _. k) (λ _. begin_kept c s k) r
 
   at_kept : (c : Log y) (s : ℕ) (r : Request y) (h : Option ℕ) → IsProperRequest r → transaction_in s c.opens ≡ h → Kept y o c → Kept y o (log_step_at y c s r h).0
   at_kept c s r (Some t) proper e k = in_kept c s t r proper k (transaction_open s t c.opens e)

@@ -7,16 +7,16 @@ use Rattle.cg_model.specs.History.{Request, Answer, is_recorded}
 use Rattle.cg_model.specs.Opens.{Opens, numbers, among, without}
 use Rattle.cg_model.specs.Reply.{attempt_reply, command_reply}
 use Rattle.cg_model.specs.Machine.{StackEntry}
-use Rattle.cg_core_laws.specs.Headline.{OnceEach, AreProper}
+use Rattle.cg_core_laws.specs.Headline.{OnceEach}
 use Rattle.cg_core_laws.proofs.Interleaving.SystemLaws.{SystemLaws, Alike}
 use Rattle.cg_core_laws.proofs.Interleaving.RunsOfStackEntries.{state, Runs, keep, only, Apart, Same, blocks}
-use Rattle.cg_core_laws.proofs.Interleaving.LogMachine.{Log, log_opened, log_holder, pop, try_do, do_at, others, log_noted, log_note, log_steps}
+use Rattle.cg_core_laws.proofs.Interleaving.LogMachine.{Log, log_holder, pop, try_do, do_at, others, log_noted, log_note}
 use Rattle.cg_core_laws.proofs.Interleaving.Gathering.{sound_state, canon}
 use Rattle.cg_core_laws.proofs.Interleaving.TakingOff.{keep_all}
 use Rattle.cg_core_laws.proofs.Interleaving.AnswersInParts.{own_blocks, runs_under}
 use Rattle.cg_core_laws.proofs.Interleaving.OpenTransactions.{closed, still_open, once_without}
 pub use Rattle.cg_core_laws.proofs.Interleaving.LogInvariant.{FitsNow, Kept, pop_kept}
-use Rattle.cg_core_laws.proofs.Interleaving.LogInvariantKept.{holder_none, passes, as_committed, run_kept, start_kept}
+use Rattle.cg_core_laws.proofs.Interleaving.LogInvariantKept.{holder_none, passes, as_committed}
 
 -- the tree in which t's own commands come right after the committed ones
 abbrev pub own_state : (y : System) → y.State → Log y → ℕ → y.State
@@ -48,10 +48,6 @@ module _ (y : System) (laws : SystemLaws y) (o : y.State) where
   -- the tree is sound
   pub kept_sound : y.Sound o → (c : Log y) → Kept y o c → y.Sound c.tree
   kept_sound sound c k = subst y.Sound (sym k.tree) (sound_state y laws o sound c.log k.runs)
-
-  -- the tree is the opening tree changed by what stands, in the order in which it was done
-  pub kept_tree : (c : Log y) → Kept y o c → Runs y o c.log × (state y o c.log ≡ c.tree)
-  kept_tree c k = (k.runs, sym k.tree)
 
   -- the committed transactions whole in commit order, and then the open ones in any order, are accepted with the same
   -- answers, and give the tree
@@ -107,7 +103,3 @@ module _ (y : System) (laws : SystemLaws y) (o : y.State) where
   -- recording changes no answer
   pub note_answer : (s : ℕ) (r : Request y) (h : Option ℕ) (p : Log y × Answer) → (log_note s r h p).1 ≡ p.1
   note_answer s r h p = noted_answer (is_recorded r p.1) s r h p
-
-  -- it is kept by every list of steps of proper commands from the opening tree
-  pub after_steps : (bound : ℕ) (ps : List (ℕ × Request y)) → AreProper ps → Kept y o (log_steps y (log_opened y o bound) ps)
-  after_steps bound ps proper = run_kept y laws o ps (log_opened y o bound) proper (start_kept y laws o bound)

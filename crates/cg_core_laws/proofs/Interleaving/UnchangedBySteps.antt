@@ -8,6 +8,7 @@ use Rattle.cg_model.specs.Opens.{transaction_in}
 use Rattle.cg_model.specs.Machine.{StackEntry, Did, Savepoint, stack_has_savepoint}
 use Rattle.cg_core_laws.proofs.Interleaving.RunsOfStackEntries.{only}
 use Rattle.cg_core_laws.proofs.Interleaving.LogMachine.{Log, log_holder, pop, pop_all, log_back_to, try_do, do_at, undo_at, others, is_full_log, log_step_in, log_step_out, log_step_at, log_noted, log_step, log_steps}
+use Rattle.cg_core_laws.proofs.Interleaving.StepsWithoutTransaction.{of_out}
 
 -- all but the tree and the stack entries
 pub record Unchanged (y : System) (c c' : Log y) : Type 0 where
@@ -77,10 +78,6 @@ module _ (y : System) where
   abbrev pub SameHistory : Log y → Log y → Type 0
   SameHistory c c' = (c'.history ≡ c.history) × (c'.bound ≡ c.bound)
 
-  same_history_cond : (c : Log y) (b : Bool) (p q : Log y × Answer) → SameHistory c p.0 → SameHistory c q.0 → SameHistory c (cond b p q).0
-  same_history_cond c true p q i j = i
-  same_history_cond c false p q i j = j
-
   same_history_on : (c : Log y) (s t : ℕ) (r : Request y) → GoesOn r → SameHistory c (log_step_in y c s t r).0
   same_history_on c s t r g = let u = unchanged_in c s t r g in (u.history, u.bound)
 
@@ -94,13 +91,7 @@ module _ (y : System) where
   same_history_in c s t Undo = same_history_on c s t Undo tt
 
   same_history_out : (c : Log y) (s : ℕ) (r : Request y) → SameHistory c (log_step_out y c s r).0
-  same_history_out c s Begin = same_history_cond c (is_full_log c) _ _ (refl, refl) (refl, refl)
-  same_history_out c s (Do b) = (refl, refl)
-  same_history_out c s (Save n) = (refl, refl)
-  same_history_out c s (Back n) = (refl, refl)
-  same_history_out c s Undo = (refl, refl)
-  same_history_out c s Commit = (refl, refl)
-  same_history_out c s Abort = (refl, refl)
+  same_history_out c s r = of_out y (λ _ p. SameHistory c p.0) c s (λ _ _ _. (refl, refl)) (λ _. (refl, refl)) r
 
   -- before the record is made, if one is
   pub same_history_at : (c : Log y) (s : ℕ) (r : Request y) (h : Option ℕ) → SameHistory c (log_step_at y c s r h).0

@@ -9,6 +9,7 @@ use Rattle.cg_model.specs.Reply.{has_savepoint, commands_above}
 use Rattle.cg_model.specs.Machine.{StackEntry, Did, Savepoint, stack_has_savepoint}
 use Rattle.cg_core_laws.proofs.Interleaving.RunsOfStackEntries.{only}
 use Rattle.cg_core_laws.proofs.Interleaving.LogMachine.{Log, log_holder, pop, log_back_to, try_do, do_at, undo_at, others, is_full_log, log_step_in, log_step_out, log_step_at, log_noted, log_step}
+use Rattle.cg_core_laws.proofs.Interleaving.StepsWithoutTransaction.{of_out}
 use Rattle.cg_core_laws.proofs.Interleaving.HistoryTie.{as_items}
 
 module _ (y : System) where
@@ -64,13 +65,7 @@ module _ (y : System) where
   quiet_in c s t Abort e = absurd (cc e)
 
   quiet_out : (c : Log y) (s : ℕ) (r : Request y) → Quiet r c (log_step_out y c s r)
-  quiet_out c s Begin e = quiet_cond Begin c (is_full_log c) _ _ (λ i. refl) (λ i. absurd (cc i)) e
-  quiet_out c s (Do b) e = refl
-  quiet_out c s (Save n) e = refl
-  quiet_out c s (Back n) e = refl
-  quiet_out c s Undo e = refl
-  quiet_out c s Commit e = refl
-  quiet_out c s Abort e = refl
+  quiet_out c s r = of_out y (λ q p. Quiet q c p) c s (λ _ _ _ _. refl) (λ _ e. absurd (cc e)) r
 
   pub quiet_at : (c : Log y) (s : ℕ) (r : Request y) (h : Option ℕ) → Quiet r c (log_step_at y c s r h)
   quiet_at c s r (Some t) e = quiet_in c s t r e
