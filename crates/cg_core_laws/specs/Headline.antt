@@ -55,7 +55,7 @@ pub record IsFaithful (y : System) (o : y.State) (m : Machine y) : Type 0 where
   -- the transaction that Busy names is the least other open one whose footprint clashes, and Busy is not answered without one
   pub busy : (t : ℕ) (f : y.Footprint) → IsLeastHolder y o f m.history (numbers (without t (opens m.history))) (holder y o f m.history (numbers (without t (opens m.history))))
   -- the records and the reserved slots are within the bound, so that whatever ends or goes back has its slot
-  pub room : 2 ≤ m.bound → slots m.history ≤ m.bound
+  pub within_bound : 2 ≤ m.bound → slots m.history ≤ m.bound
 
 -- going back: it is never refused, whatever the bound, and takes off exactly its own items
 pub record GoesBack (y : System) (m : Machine y) (s t : ℕ) : Type 0 where

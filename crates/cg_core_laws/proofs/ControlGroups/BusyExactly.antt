@@ -17,12 +17,12 @@ use Rattle.cg_model_laws.proofs.OwnChecks.{own_checks}
 use Rattle.cg_core_laws.specs.Headline.{IsLeastHolder, IsSerial, IsFaithful}
 use Rattle.cg_core_laws.specs.Laws.{IsLeastInTheWay}
 
-abbrev number_of : Answer → ℕ
-number_of (Refused (Busy t)) = t.0
-number_of _ = 0
+abbrev named_by_busy : Answer → ℕ
+named_by_busy (Refused (Busy t)) = t.0
+named_by_busy _ = 0
 
 busy_number : (v u : ℕ) → Refused (Busy (record { 0 = v })) ≡ Refused (Busy (record { 0 = u })) → v ≡ u
-busy_number v u e = ap number_of e
+busy_number v u e = ap named_by_busy e
 
 abbrev refusal_in : Refusal → Answer → Refusal
 refusal_in r (Refused x) = x

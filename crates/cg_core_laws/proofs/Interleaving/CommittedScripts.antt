@@ -47,7 +47,7 @@ module _ (y : System) where
       first_step (committed (r ∷ h)) (committed_through n h) (scripts (r ∷ h)) (commits (r ∷ h)) n (nat_le (commits (r ∷ h)) n) refl (all_of (r ∷ h))
       (λ fewer. first_after r.answer (live r.transaction h) (scripts h) (commits h) n fewer ∙ first_of_all h n)
 
-  -- ---- what was committed through an earlier commit begins what was through a later one
+  -- ---- what was committed through an earlier commit earlier_begins what was through a later one
 
   abbrev Begins : Items y → Items y → Type 0
   Begins l k = (newer : Items y) × (k ≡ newer ++ l)
@@ -69,15 +69,15 @@ module _ (y : System) where
   begins_step all early late true false le i j = absurd (cc (le refl))
   begins_step all early late false false le i j = j
 
-  begins : (m n : ℕ) → m ≤ n → (h : History y) → Begins (committed_through m h) (committed_through n h)
-  begins m n le [] = ([], refl)
-  begins m n le (r ∷ h) =
+  earlier_begins : (m n : ℕ) → m ≤ n → (h : History y) → Begins (committed_through m h) (committed_through n h)
+  earlier_begins m n le [] = ([], refl)
+  earlier_begins m n le (r ∷ h) =
       let k : ℕ = commits (r ∷ h) in
       begins_step (committed (r ∷ h)) (committed_through m h) (committed_through n h) (nat_le k m) (nat_le k n) (λ e. grind (arith, nat_tests))
-      (begins_all m (r ∷ h)) (begins m n le h)
+      (begins_all m (r ∷ h)) (earlier_begins m n le h)
 
   pub are_scripts : (h : History y) → AreScripts y h
-  are_scripts h = record { count = counted h; all = all_of h; first = first_of_all h; begin = λ m n le. begins m n le h }
+  are_scripts h = record { count = counted h; all = all_of h; first = first_of_all h; begin = λ m n le. earlier_begins m n le h }
 
   -- ---- the tree of a commit
 

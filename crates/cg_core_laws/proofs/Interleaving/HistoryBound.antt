@@ -21,10 +21,10 @@ use Rattle.cg_core_laws.proofs.Interleaving.UnchangedBySteps.{unchanged_all, unc
 use Rattle.cg_core_laws.proofs.Interleaving.UnrecordedSteps.{quiet_at}
 
 -- the records and the reserved slots are within the bound
-abbrev pub HasRoom : {y : System} → Log y → Type 0
-HasRoom c = length c.history + (length c.opens + held c.opens c.log) ≤ c.bound
+abbrev pub IsWithinBound : {y : System} → Log y → Type 0
+IsWithinBound c = length c.history + (length c.opens + held c.opens c.log) ≤ c.bound
 
--- room for n more
+-- n more slots are free
 abbrev Spare : {y : System} → Log y → ℕ → Type 0
 Spare c n = length c.history + (length c.opens + held c.opens c.log) + n ≤ c.bound
 
@@ -132,18 +132,18 @@ module _ (y : System) where
   placed_do c t b (Some u) once m s w = omega arith
   placed_do c t b None once m s w = placed_try c t b (y.effect b c.tree) once m s w
 
-  placed_undo : (c : Log y) (t : ℕ) (l : List (StackEntry y)) → OnceEach (numbers c.opens) → among t (numbers c.opens) ≡ true → only t c.log ≡ l → HasRoom c → Placed Undo (undo_at y c t l)
+  placed_undo : (c : Log y) (t : ℕ) (l : List (StackEntry y)) → OnceEach (numbers c.opens) → among t (numbers c.opens) ≡ true → only t c.log ≡ l → IsWithinBound c → Placed Undo (undo_at y c t l)
   placed_undo c t [] once m e h w = absurd (cc w)
   placed_undo c t (Savepoint u g n ∷ l) once m e h w = absurd (cc w)
   placed_undo c t (Did u g b a d f ∷ l) once m e h w = let q = pop_less c t (Did u g b a d f) l once m e in omega arith
 
-  placed_back : (c : Log y) (t : ℕ) (n : Name) → OnceEach (numbers c.opens) → among t (numbers c.opens) ≡ true → HasRoom c → stack_has_savepoint n (only t c.log) ≡ true → Placed (Back n) (log_back_to y t n (only t c.log) c 0)
+  placed_back : (c : Log y) (t : ℕ) (n : Name) → OnceEach (numbers c.opens) → among t (numbers c.opens) ≡ true → IsWithinBound c → stack_has_savepoint n (only t c.log) ≡ true → Placed (Back n) (log_back_to y t n (only t c.log) c 0)
   placed_back c t n once m h e w =
       let u = unchanged_back y t n (only t c.log) c 0 in
       let f = back_fewer t n (only t c.log) c 0 once m refl e in
       rw (u.opens, u.history, u.bound) (omega arith)
 
-  placed_in : (c : Log y) (s t : ℕ) (r : Request y) → OnceEach (numbers c.opens) → among t (numbers c.opens) ≡ true → 2 ≤ c.bound → HasRoom c → Placed r (log_step_in y c s t r)
+  placed_in : (c : Log y) (s t : ℕ) (r : Request y) → OnceEach (numbers c.opens) → among t (numbers c.opens) ≡ true → 2 ≤ c.bound → IsWithinBound c → Placed r (log_step_in y c s t r)
   placed_in c s t Begin once m le h w = absurd (cc w)
   placed_in c s t (Do b) once m le h w =
       placed_cond (Do b) (is_full_log c) _ _ (λ e v. absurd (cc v)) (λ e. placed_do c t b (log_holder y (y.footprint b c.tree) c.log (others y c t)) once m (full_spare c le e)) w
@@ -160,31 +160,31 @@ module _ (y : System) where
       let q = held_without t c.opens c'.log m in
       rw (u.opens, u.history, u.bound) (omega arith)
 
-  placed_out : (c : Log y) (s : ℕ) (r : Request y) → OwnersUpTo c.begun c.log → 2 ≤ c.bound → HasRoom c → Placed r (log_step_out y c s r)
+  placed_out : (c : Log y) (s : ℕ) (r : Request y) → OwnersUpTo c.begun c.log → 2 ≤ c.bound → IsWithinBound c → Placed r (log_step_out y c s r)
   placed_out c s r ow le h =
       of_out y Placed c s (λ q x e w. absurd (cc (e, w)))
       (λ e w. let z = full_spare c le e in let q : length (only (c.begun + 1) c.log) ≡ 0 = ap length (none_of_next y c.begun c.log ow) in omega arith) r
 
-  placed_noted : (c : Log y) (s : ℕ) (r : Request y) (h : Option ℕ) (p : Log y × Answer) (b : Bool) → is_recorded r p.1 ≡ b → HasRoom c → Placed r p → (is_recorded r p.1 ≡ false → p.0 ≡ c) → HasRoom (log_noted b s r h p).0
-  placed_noted c s r h p true k room i q = let z = i k in omega arith
-  placed_noted c s r h p false k room i q = subst (λ (d : Log y). HasRoom d) (sym (q k)) room
+  placed_noted : (c : Log y) (s : ℕ) (r : Request y) (h : Option ℕ) (p : Log y × Answer) (b : Bool) → is_recorded r p.1 ≡ b → IsWithinBound c → Placed r p → (is_recorded r p.1 ≡ false → p.0 ≡ c) → IsWithinBound (log_noted b s r h p).0
+  placed_noted c s r h p true k is_within i q = let z = i k in omega arith
+  placed_noted c s r h p false k is_within i q = subst (λ (d : Log y). IsWithinBound d) (sym (q k)) is_within
 
-  placed_at : (o : y.State) (c : Log y) (s : ℕ) (r : Request y) (h : Option ℕ) → transaction_in s c.opens ≡ h → Kept y o c → 2 ≤ c.bound → HasRoom c → Placed r (log_step_at y c s r h)
-  placed_at o c s r (Some t) e k le room = placed_in c s t r k.once (transaction_open s t c.opens e) le room
-  placed_at o c s r None e k le room = placed_out c s r k.owners le room
+  placed_at : (o : y.State) (c : Log y) (s : ℕ) (r : Request y) (h : Option ℕ) → transaction_in s c.opens ≡ h → Kept y o c → 2 ≤ c.bound → IsWithinBound c → Placed r (log_step_at y c s r h)
+  placed_at o c s r (Some t) e k le is_within = placed_in c s t r k.once (transaction_open s t c.opens e) le is_within
+  placed_at o c s r None e k le is_within = placed_out c s r k.owners le is_within
 
 module _ (y : System) (laws : SystemLaws y) (o : y.State) where
-  room_step : (c : Log y) (s : ℕ) (r : Request y) → Kept y o c → 2 ≤ c.bound → HasRoom c → HasRoom (log_step y c s r).0
-  room_step c s r k le room =
+  within_step : (c : Log y) (s : ℕ) (r : Request y) → Kept y o c → 2 ≤ c.bound → IsWithinBound c → IsWithinBound (log_step y c s r).0
+  within_step c s r k le is_within =
       let h = transaction_in s c.opens in
       let p = log_step_at y c s r h in
-      placed_noted y c s r h p (is_recorded r p.1) refl room (placed_at y o c s r h refl k le room) (quiet_at y c s r h)
+      placed_noted y c s r h p (is_recorded r p.1) refl is_within (placed_at y o c s r h refl k le is_within) (quiet_at y c s r h)
 
-  room_steps : (ps : List (ℕ × Request y)) (c : Log y) → AreProper ps → Kept y o c → 2 ≤ c.bound → HasRoom c → HasRoom (log_steps y c ps)
-  room_steps [] c proper k le room = room
-  room_steps (p ∷ ps) c proper k le room =
+  within_steps : (ps : List (ℕ × Request y)) (c : Log y) → AreProper ps → Kept y o c → 2 ≤ c.bound → IsWithinBound c → IsWithinBound (log_steps y c ps)
+  within_steps [] c proper k le is_within = is_within
+  within_steps (p ∷ ps) c proper k le is_within =
       let e = bound_step y c p.0 p.1 in
-      room_steps ps (log_step y c p.0 p.1).0 proper.1 (step_kept y laws o c p.0 p.1 proper.0 k) (omega arith) (room_step c p.0 p.1 k le room)
+      within_steps ps (log_step y c p.0 p.1).0 proper.1 (step_kept y laws o c p.0 p.1 proper.0 k) (omega arith) (within_step c p.0 p.1 k le is_within)
 
-  pub rooms : (bound : ℕ) (ps : List (ℕ × Request y)) → AreProper ps → 2 ≤ bound → HasRoom (log_steps y (log_opened y o bound) ps)
-  rooms bound ps proper le = room_steps ps (log_opened y o bound) proper (start_kept y laws o bound) le (omega arith)
+  pub within_bound : (bound : ℕ) (ps : List (ℕ × Request y)) → AreProper ps → 2 ≤ bound → IsWithinBound (log_steps y (log_opened y o bound) ps)
+  within_bound bound ps proper le = within_steps ps (log_opened y o bound) proper (start_kept y laws o bound) le (omega arith)

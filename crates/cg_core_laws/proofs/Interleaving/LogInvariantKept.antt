@@ -12,7 +12,7 @@ use Rattle.cg_model.specs.Reply.{found_or}
 use Rattle.cg_model.specs.Machine.{StackEntry, Did, Savepoint, hits, stack_has_savepoint}
 use Rattle.cg_core_laws.specs.Headline.{AreProper}
 use Rattle.cg_core_laws.proofs.Interleaving.SystemLaws.{SystemLaws}
-use Rattle.cg_core_laws.proofs.Interleaving.RunsOfStackEntries.{owner, Accepts, moved, FreeOf, keep, only, Apart, Same, Clear, Passes, Agree}
+use Rattle.cg_core_laws.proofs.Interleaving.RunsOfStackEntries.{owner, Accepts, moved, FreeOf, keep, only, Apart, Same, Clear, Passes, PassAlike}
 use Rattle.cg_core_laws.proofs.Interleaving.LogMachine.{Log, log_opened, log_holder, pop_all, try_do, do_at, undo_at, others, ended, is_full_log, log_step_in, log_step_out, log_step_at, log_noted, log_step, log_steps}
 use Rattle.cg_core_laws.proofs.Interleaving.StepsWithoutTransaction.{with_begun, of_out}
 use Rattle.cg_core_laws.proofs.Interleaving.Gathering.{same_refl, same_trans, same_append, gather}
@@ -64,9 +64,9 @@ module _ (y : System) (n : ℕ) where
   owners_next [] h = tt
   owners_next (x ∷ a) h = (omega (arith, h.0), owners_next a h.1)
 
-  agree_next : (s : ℕ) (ps : Opens) (a : List (StackEntry y)) → OwnersUpTo n a → Agree (closed ((s, n + 1) ∷ ps)) (closed ps) a
-  agree_next s ps [] h = tt
-  agree_next s ps (x ∷ a) h = (rw (other_next (owner x) n h.0), agree_next s ps a h.1)
+  pass_alike_next : (s : ℕ) (ps : Opens) (a : List (StackEntry y)) → OwnersUpTo n a → PassAlike (closed ((s, n + 1) ∷ ps)) (closed ps) a
+  pass_alike_next s ps [] h = tt
+  pass_alike_next s ps (x ∷ a) h = (rw (other_next (owner x) n h.0), pass_alike_next s ps a h.1)
 
 module _ (y : System) (laws : SystemLaws y) (o : y.State) where
   begin_kept : (c : Log y) (s : ℕ) → Kept y o c → Kept y o (with_begun y c s)
@@ -77,7 +77,7 @@ module _ (y : System) (laws : SystemLaws y) (o : y.State) where
       | inl e ↦ subst (λ v. Apart y v c.log) (sym (eqb-true u (c.begun + 1) e)) (apart_next y c.begun c.log k.owners)
       | inr e ↦ k.apart u e
     ];
-    done = subst (λ l. Same y o l c.done) (sym (keep_same y (closed ((s, c.begun + 1) ∷ c.opens)) (closed c.opens) c.log (agree_next y c.begun s c.opens c.log k.owners))) k.done;
+    done = subst (λ l. Same y o l c.done) (sym (keep_same y (closed ((s, c.begun + 1) ∷ c.opens)) (closed c.opens) c.log (pass_alike_next y c.begun s c.opens c.log k.owners))) k.done;
     owners = owners_next y c.begun c.log k.owners;
     range = λ u m. elim (or_cases (u == c.begun + 1) (among u (numbers c.opens)) m) [
       | inl e ↦ let q = eqb-true u (c.begun + 1) e in omega arith

@@ -22,9 +22,9 @@ module _ (y : System) (o : y.State) where
   opens_of [] log = refl
   opens_of (p ∷ ps) log = ap (λ qs. p ∷ qs) (opens_of ps log)
 
-  count_of : (ps : Opens) (log : List (StackEntry y)) → length (stacks_of ps log) ≡ length ps
-  count_of [] log = refl
-  count_of (p ∷ ps) log = ap suc (count_of ps log)
+  as_many_stacks : (ps : Opens) (log : List (StackEntry y)) → length (stacks_of ps log) ≡ length ps
+  as_many_stacks [] log = refl
+  as_many_stacks (p ∷ ps) log = ap suc (as_many_stacks ps log)
 
   stacks_live : (ps : Opens) (log : List (StackEntry y)) (h : History y) → ((u : ℕ) → as_items (only u log) ≡ live u h) → AllByRecursion (λ (x : Transaction y). as_items x.stack ≡ live x.number h) (stacks_of ps log)
   stacks_live [] log h lives = tt
@@ -47,7 +47,7 @@ module _ (y : System) (o : y.State) where
   pub of_history : (c : Log y) → Tied y o c → IsOfHistory y o (machine_of c)
   of_history c d = record {
     transactions = opens_of c.opens c.log ∙ d.opens;
-    open_count = count_of c.opens c.log ∙ ap length d.opens;
+    open_count = as_many_stacks c.opens c.log ∙ ap length d.opens;
     stacks = stacks_live c.opens c.log c.history d.lives;
     stack_entries = stacks_true c.opens c.log d.entries_true;
     footprints = stacks_hold c.opens c.log c.history d.entries_true d.lives;

@@ -72,14 +72,14 @@ module _ (y : System) (o : y.State) (bound : ℕ) where
   once_cond true p r n h = h
   once_cond false p r n h = (n, h)
 
-  once_without : (t : ℕ) (ps : Opens) → OnceEach (sessions ps) → OnceEach (sessions (without t ps))
-  once_without t [] h = h
-  once_without t (p ∷ ps) h = once_cond (p.1 == t) p (without t ps) (session_without p.0 t ps h.0) (once_without t ps h.1)
+  sessions_once_without : (t : ℕ) (ps : Opens) → OnceEach (sessions ps) → OnceEach (sessions (without t ps))
+  sessions_once_without t [] h = h
+  sessions_once_without t (p ∷ ps) h = once_cond (p.1 == t) p (without t ps) (session_without p.0 t ps h.0) (sessions_once_without t ps h.1)
 
   once_after : (a : Answer) (s t : ℕ) (ps : Opens) → OnceEach (sessions ps) → ((u : ℕ) → a ≡ Begun u → transaction_in s ps ≡ None) → OnceEach (sessions (opens_after a s t ps))
   once_after (Begun u) s t ps h alone = (no_session s ps (alone u refl), h)
-  once_after (Committed k) s t ps h alone = once_without t ps h
-  once_after (Aborted u) s t ps h alone = once_without t ps h
+  once_after (Committed k) s t ps h alone = sessions_once_without t ps h
+  once_after (Aborted u) s t ps h alone = sessions_once_without t ps h
   once_after _ s t ps h alone = h
 
   pub once_each : (h : History y) → Legal y o bound h → OnceEach (sessions (opens h))

@@ -47,14 +47,14 @@ module _ (y : System) (laws : SystemLaws y) (o : y.State) where
   free_one : (x z : StackEntry y) (a : List (StackEntry y)) → FreeOf y x (only (owner z) (z ∷ a)) → Free y x z
   free_one x z a h = (subst (λ b. FreeOf y x (joined_if b z (only (owner z) a))) (eq-eqb (owner z) (owner z) refl) h).0
 
-  free_put : (x z : StackEntry y) (l : List (StackEntry y)) (b : Bool) → (b ≡ true → Free y x z) → FreeOf y x l → FreeOf y x (joined_if b z l)
-  free_put x z l true h i = (h refl, i)
-  free_put x z l false h i = i
+  free_of_put : (x z : StackEntry y) (l : List (StackEntry y)) (b : Bool) → (b ≡ true → Free y x z) → FreeOf y x l → FreeOf y x (joined_if b z l)
+  free_of_put x z l true h i = (h refl, i)
+  free_of_put x z l false h i = i
 
   free_of_those : (x : StackEntry y) (r : ℕ → Bool) (a : List (StackEntry y)) → ((t : ℕ) → r t ≡ true → FreeOf y x (only t a)) → FreeOf y x (keep r a)
   free_of_those x r [] h = tt
   free_of_those x r (z ∷ a) h =
-      free_put x z (keep r a) (r (owner z)) (λ e. free_one x z a (h (owner z) e)) (free_of_those x r a (λ t e. free_tail y x z (only t a) (owner z == t) (h t e)))
+      free_of_put x z (keep r a) (r (owner z)) (λ e. free_one x z a (h (owner z) e)) (free_of_those x r a (λ t e. free_tail y x z (only t a) (owner z == t) (h t e)))
 
   -- the stack entries of some transactions on top of those of others
   gather_those : (r q : ℕ → Bool) → ((u : ℕ) → r u ≡ true → q u ≡ false) → (a : List (StackEntry y)) → ((t : ℕ) → r t ≡ true → Apart y t a) → Same y o (keep (λ u. r u || q u) a) (keep r a ++ keep q a)

@@ -81,6 +81,6 @@ abbrev pub Passes : {y : System} → (ℕ → Bool) → List (StackEntry y) → 
 Passes p [] = Unit {0}
 Passes p (x ∷ a) = (p (owner x) ≡ true) × Passes p a
 
-abbrev pub Agree : {y : System} → (ℕ → Bool) → (ℕ → Bool) → List (StackEntry y) → Type 0
-Agree p q [] = Unit {0}
-Agree p q (x ∷ a) = (p (owner x) ≡ q (owner x)) × Agree p q a
+abbrev pub PassAlike : {y : System} → (ℕ → Bool) → (ℕ → Bool) → List (StackEntry y) → Type 0
+PassAlike p q [] = Unit {0}
+PassAlike p q (x ∷ a) = (p (owner x) ≡ q (owner x)) × PassAlike p q a

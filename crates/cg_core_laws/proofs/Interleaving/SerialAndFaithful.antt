@@ -19,7 +19,7 @@ use Rattle.cg_core_laws.proofs.Interleaving.UnrecordedSteps.{quiet_step}
 use Rattle.cg_core_laws.proofs.Interleaving.LeastHolder.{Falls, falls_without, least_holder, Falling}
 use Rattle.cg_core_laws.proofs.Interleaving.AnswersAreReplies.{tree_is, held_is, step_answer}
 use Rattle.cg_core_laws.proofs.Interleaving.AfterSteps.{Invariant, defined}
-use Rattle.cg_core_laws.proofs.Interleaving.HistoryBound.{HasRoom}
+use Rattle.cg_core_laws.proofs.Interleaving.HistoryBound.{IsWithinBound}
 use Rattle.cg_core_laws.proofs.Interleaving.Unwinding.{unwinds}
 use Rattle.cg_core_laws.proofs.Interleaving.MachineOfLog.{machine_of}
 use Rattle.cg_core_laws.proofs.Interleaving.MachineRunsAsLog.{step_is}
@@ -72,18 +72,18 @@ module _ (y : System) (laws : SystemLaws y) (o : y.State) where
       let n = c.begun + 1 in
       least_holder y o f c.history n (without t ps) (falls_without t n ps (subst (Falls n) d.opens fall))
 
-  room : (c : Log y) → Tied y o c → HasRoom c → slots c.history ≤ c.bound
-  room c d has =
+  within_bound : (c : Log y) → Tied y o c → IsWithinBound c → slots c.history ≤ c.bound
+  within_bound c d has =
       let e : length c.opens + held c.opens c.log ≡ length (opens c.history) + live_count (opens c.history) c.history =
       ap (λ n. length c.opens + n) (held_is y laws o c c.opens d) ∙ ap (λ ps. length ps + live_count ps c.history) d.opens in
       subst (λ n. length c.history + n ≤ c.bound) e has
 
-  pub faithful_from : (c : Log y) → Invariant y o c → Falling c → (2 ≤ c.bound → HasRoom c) → IsFaithful y o (machine_of c)
+  pub faithful_from : (c : Log y) → Invariant y o c → Falling c → (2 ≤ c.bound → IsWithinBound c) → IsFaithful y o (machine_of c)
   faithful_from c i fall has = record {
     legal = i.legal;
     replies = λ s r. sym (ap (λ (q : Machine y × Answer). q.1) (step_is y c s r i.kept.owners)) ∙ step_answer y laws o c s r i.kept i.tied;
     recorded = λ s r. grows c s r i;
     unrecorded = λ s r. quiet c s r i;
     busy = λ t f. busy c t f i.tied fall;
-    room = λ le. room c i.tied (has le);
+    within_bound = λ le. within_bound c i.tied (has le);
   }

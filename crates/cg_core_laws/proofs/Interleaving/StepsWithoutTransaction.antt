@@ -1,4 +1,4 @@
--- What holds of a refusal, and of a Begin that finds room, holds of each step of a session without an open transaction.
+-- What holds of a refusal, and of a Begin that isn't refused, holds of each step of a session without an open transaction.
 use Rattle.std.proofs.Common.{◌≡◌, ℕ, false, ◌+◌, ◌∷◌, refl}
 use Rattle.std.proofs.lemmas.Bool.{cond_both}
 use Rattle.cg_name.specs.declared.refusal.Refusal.{Refusal}

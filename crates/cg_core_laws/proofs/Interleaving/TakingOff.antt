@@ -4,7 +4,7 @@ use Rattle.std.proofs.lemmas.Bool.{eqb-true}
 use Rattle.cg_model.specs.Live.{joined_if}
 use Rattle.cg_model.specs.System.{System}
 use Rattle.cg_model.specs.Machine.{StackEntry}
-use Rattle.cg_core_laws.proofs.Interleaving.RunsOfStackEntries.{owner, FreeOf, keep, only, skip, cut, Apart, Passes, Agree}
+use Rattle.cg_core_laws.proofs.Interleaving.RunsOfStackEntries.{owner, FreeOf, keep, only, skip, cut, Apart, Passes, PassAlike}
 
 module _ (y : System) where
   pub free_tail : (z x : StackEntry y) (l : List (StackEntry y)) (c : Bool) → FreeOf y z (joined_if c x l) → FreeOf y z l
@@ -55,6 +55,6 @@ module _ (y : System) where
   keep_all p (x ∷ a) h = rw h.0 (ap (λ l. x ∷ l) (keep_all p a h.1))
 
   -- two tests that agree on its owners
-  pub keep_same : (p q : ℕ → Bool) (a : List (StackEntry y)) → Agree p q a → keep p a ≡ keep q a
+  pub keep_same : (p q : ℕ → Bool) (a : List (StackEntry y)) → PassAlike p q a → keep p a ≡ keep q a
   keep_same p q [] h = refl
   keep_same p q (x ∷ a) h = rw h.0 (ap (λ l. joined_if (q (owner x)) x l) (keep_same p q a h.1))

@@ -11,7 +11,7 @@ use Rattle.cg_core_laws.proofs.Interleaving.SystemLaws.{SystemLaws}
 use Rattle.cg_core_laws.proofs.Interleaving.LogMachine.{Log, log_opened, log_steps}
 use Rattle.cg_core_laws.proofs.Interleaving.UnchangedBySteps.{bound_steps}
 use Rattle.cg_core_laws.proofs.Interleaving.LeastHolder.{falling}
-use Rattle.cg_core_laws.proofs.Interleaving.HistoryBound.{HasRoom, rooms}
+use Rattle.cg_core_laws.proofs.Interleaving.HistoryBound.{IsWithinBound, within_bound}
 use Rattle.cg_core_laws.proofs.Interleaving.AfterSteps.{Invariant, invariant}
 use Rattle.cg_core_laws.proofs.Interleaving.MachineOfLog.{machine_of}
 use Rattle.cg_core_laws.proofs.Interleaving.MachineRunsAsLog.{steps_are}
@@ -36,8 +36,8 @@ module _ (y : System) (laws : SystemLaws y) (o : y.State) (sound : y.Sound o) (b
 
   pub faithful : IsFaithful y o after
   faithful =
-      let room : 2 ≤ log_after.bound → HasRoom log_after = λ le. rooms y laws o bound rs proper (subst (λ n. 2 ≤ n) (bound_steps y rs (log_opened y o bound)) le) in
-      subst (IsFaithful y o) (steps_are y laws o bound rs proper) (faithful_from y laws o log_after (invariant y laws o bound rs proper) (falling y o bound rs) room)
+      let is_within : 2 ≤ log_after.bound → IsWithinBound log_after = λ le. within_bound y laws o bound rs proper (subst (λ n. 2 ≤ n) (bound_steps y rs (log_opened y o bound)) le) in
+      subst (IsFaithful y o) (steps_are y laws o bound rs proper) (faithful_from y laws o log_after (invariant y laws o bound rs proper) (falling y o bound rs) is_within)
 
   pub of_history : IsOfHistory y o after
   of_history = by_log (IsOfHistory y o) (λ c i. tied.of_history y o c i.tied)
