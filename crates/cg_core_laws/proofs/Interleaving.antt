@@ -5,7 +5,7 @@ pub mod SystemLaws
 pub mod RunsOfStackEntries
 -- what is left when a transaction's newest stack entry is taken off
 mod TakingOff
--- stack entries that don't clash change places, so those of one transaction can be gathered
+-- stack entries that don't clash can be swapped, so those of one transaction can be gathered
 mod Gathering
 -- the open transactions: each once, and without one of them
 mod OpenTransactions

@@ -53,7 +53,7 @@ NewestClashesWithNone y o m = (newer older : Items y) (t : ℕ) (h : History y) 
 abbrev pub not_pulled : {y : System} → List ℕ → History y → Items y
 not_pulled ts h = of_those (λ t. among t (numbers (opens h)) && not (among t ts)) (survivors h)
 
--- open transactions may be pulled one after another, each to the place right after what was committed and those that were
+-- open transactions may be pulled one after another, each to right after what was committed and those that were
 -- pulled before it: the whole is accepted with its recorded outcomes, and gives the tree
 abbrev pub PulledToTheFront : (y : System) → y.State → Machine y → Type 0
 PulledToTheFront y o m = (ts : List ℕ) → OnceEach ts → AreOpen ts m.history

@@ -1,4 +1,4 @@
--- Changes under footprints that don't clash change places.
+-- Changes under footprints that don't clash can be swapped.
 use Rattle.std.proofs.Common.{◌≡◌, true, false, ◌&&◌, List, [], ◌∷◌, refl, ap, subst, ◌∙◌, Option}
 use Rattle.std.proofs.lemmas.Bool.{both_ways, false_from_ne_true}
 use Rattle.std.specs.List.{AllByRecursion}

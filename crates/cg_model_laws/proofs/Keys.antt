@@ -1,4 +1,4 @@
--- Puts: what was put is there, puts of keys that don't touch change places, and a put of the value before undoes a put.
+-- Puts: what was put is there, puts of keys that don't touch can be swapped, and a put of the value before undoes a put.
 use Rattle.std.proofs.Common.{◌≡◌, ℕ, true, false, ◌&&◌, ◌==◌, ◌≢◌, refl, sym, ap, subst, ◌∙◌, inl, inr, true≢false, Option, Some, None, option_map, eq-eqb}
 use Rattle.std.specs.Option.{is_some}
 use Rattle.std.specs.Cmp.{IsTotalOrder, nat_cmp_total}
@@ -124,7 +124,7 @@ regroup p h T = with_group T p (h (group T p))
 groups_swap : (p q : Path) (h g : Option Settings → Option Settings) (T : Tree) → p ≢ q → regroup q g (regroup p h T) ≡ regroup p h (regroup q g T)
 groups_swap p q h g T ne = ap (λ m. record T { groups = m }) (remade_swap path_cmp_total path_cmp_exact T.groups p q h g ne)
 
--- puts of keys that don't touch change places
+-- puts of keys that don't touch can be swapped
 pub put_swap : (k l : Key) (v : Option (ValueOf k)) (w : Option (ValueOf l)) (T : Tree) → touch k l ≡ false → put l w (put k v T) ≡ put k v (put l w T)
 put_swap (Group p) (Group q) v w T e = groups_swap p q (λ _. v) (λ _. w) T (paths_differ p q e)
 put_swap (Group p) (Part q g) v w T e = groups_swap p q (λ _. v) (part_replaced g w) T (paths_differ p q e)

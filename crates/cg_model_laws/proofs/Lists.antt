@@ -30,7 +30,7 @@ any_nothing : {A : Type 0} (xs : List A) → list_any (λ _. false) xs ≡ false
 any_nothing [] = refl
 any_nothing (x ∷ xs) = any_nothing xs
 
--- of four tests the inner two change places
+-- of four tests the inner two are swapped
 inner_swapped : (a b c d : Bool) → ((a || b) || (c || d)) ≡ ((a || c) || (b || d))
 inner_swapped true b c d = refl
 inner_swapped false true true d = refl
@@ -41,7 +41,7 @@ any_either : {A : Type 0} (p q : A → Bool) (xs : List A) → (list_any p xs ||
 any_either p q [] = refl
 any_either p q (x ∷ xs) = inner_swapped (p x) (list_any p xs) (q x) (list_any q xs) ∙ ap (λ b. (p x || q x) || b) (any_either p q xs)
 
--- some item of the one list and some item of the other pass a test: the lists may change places
+-- some item of the one list and some item of the other pass a test: the lists may be swapped
 pub any_swapped : {A B : Type 0} (r : A → B → Bool) (f : List A) (g : List B) → list_any (λ m. list_any (r m) g) f ≡ list_any (λ n. list_any (λ m. r m n) f) g
 any_swapped r [] g = sym (any_nothing g)
 any_swapped r (m ∷ f) g = ap (λ b. list_any (r m) g || b) (any_swapped r f g) ∙ any_either (r m) (λ n. list_any (λ m. r m n) f) g

@@ -40,7 +40,7 @@ clashes-swapped f g = any_swapped clash f g ∙ (λ i. list_any (λ n. list_any 
 pub apart_from_test : (f g : List Mark) → clashes f g ≡ false → AllApart f g
 apart_from_test f g e = all_map (λ m h. none_pass (λ a. clash a m) f h) g (none_pass (λ m. list_any (λ a. clash a m) f) g (sym (any_swapped clash f g) ∙ e))
 
--- what holds of all that stands along a path holds of what stands at each place
+-- what holds of all that stands along a path holds of what stands at each path above it
 pub all_along : (P : Mark → Type 0) (f : Path → List Mark) (p a : Path) → is_above a p ≡ true → AllByRecursion P (joined_marks (along f p)) → AllByRecursion P (f a)
 all_along P f [] a e h = absurd (false≢true e)
 all_along P f (n ∷ p) [] e h = all_left P (f []) _ h

@@ -1,4 +1,4 @@
--- Two commands that don't clash: each does the same whether the other ran before or not, and they change places.
+-- Two commands that don't clash: each does the same whether the other ran before or not, and they can be swapped.
 use Rattle.std.proofs.Common.{◌≡◌, false, List, sym, ap, ◌∙◌}
 use Rattle.cg_model.specs.Tree.{Tree}
 use Rattle.cg_model.specs.Change.{Change, done}

@@ -116,7 +116,7 @@ effective_needs_cpuset T p e = ap (λ b. cond b (Some (effective_cpus T p)) None
 pub effective_of_root : EffectiveOfRoot
 effective_of_root T s e = ap (λ a. cond (with_cpuset a) (Some T.online) None) (available_root T s e)
 
--- along a child's path there is one more place, that of the parent
+-- along a child's path there is one path more, that of the parent
 along_child : {A : Type 0} (f : Path → A) (p q : Path) → is_parent p q ≡ true → along f q ≡ along f p ++ f p ∷ []
 along_child f p [] e = never e
 along_child f [] (m ∷ []) e = refl

@@ -80,7 +80,7 @@ FrameOfCommands = (c d : Command) (T : Tree) (o : Outcome) (cs : List Change) �
     → (clashes (footprint c T) (footprint d T) ≡ false → AgreeOn (footprint d T) T (done cs T))
     × (clashes (footprint c T) (footprint d (done cs T)) ≡ false → AgreeOn (footprint d (done cs T)) T (done cs T))
 
--- two neighbours c and d have changed places: same answers, same changes, same footprints, same tree
+-- two neighbours c and d are swapped: same answers, same changes, same footprints, same tree
 pub record Swapped (c d : Command) (T : Tree) (o q : Outcome) (cs ds : List Change) : Type 0 where
   pub second_first : effect d T ≡ Accept q ds
   pub second_marks : footprint d T ≡ footprint d (done cs T)
@@ -88,7 +88,7 @@ pub record Swapped (c d : Command) (T : Tree) (o q : Outcome) (cs ds : List Chan
   pub first_marks : footprint c (done ds T) ≡ footprint c T
   pub tree : done cs (done ds T) ≡ done ds (done cs T)
 
--- neighbours whose footprints don't clash may change places
+-- neighbours whose footprints don't clash may be swapped
 abbrev pub Swap : Type 0
 Swap = (c d : Command) (T : Tree) (o q : Outcome) (cs ds : List Change) → effect c T ≡ Accept o cs → effect d (done cs T) ≡ Accept q ds
     → clashes (footprint c T) (footprint d (done cs T)) ≡ false → Swapped c d T o q cs ds

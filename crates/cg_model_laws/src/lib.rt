@@ -63,7 +63,7 @@ pub fn accepted_commands_change_what_they_mark()
     ensures commands { FrameOfCommands }
 {}
 
-/// Neighbours whose footprints don't clash may change places.
+/// Neighbours whose footprints don't clash may be swapped.
 pub fn commands_that_do_not_clash_commute()
     ensures { Swap }
 {}

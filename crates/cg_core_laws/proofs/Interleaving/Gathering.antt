@@ -1,4 +1,4 @@
--- Stack entries that do not clash change places, and those of transactions can be gathered, one transaction on another.
+-- Stack entries that do not clash can be swapped, and those of transactions can be gathered, one transaction on another.
 use Rattle.std.proofs.Common.{◌≡◌, ℕ, Bool, true, false, List, [], ◌∷◌, ◌++◌, ◌==◌, ◌||◌, refl, sym, ap, ◌∙◌, subst}
 use Rattle.std.proofs.lemmas.Bool.{eqb-true, eq-eqb, or_from, or_right}
 use Rattle.std.proofs.Math.Bool.{or_assoc}
