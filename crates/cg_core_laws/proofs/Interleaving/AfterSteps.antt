@@ -1,11 +1,12 @@
 -- What holds of the machine with a log after any steps: what is kept, what ties it to its history, that the history is legal,
 -- and that what was committed runs by itself, through each commit.
-use Rattle.std.proofs.Common.{◌≡◌, ℕ, Bool, true, false, cond, List, [], ◌∷◌, ◌++◌, Option, refl, sym, ap, ◌∙◌, subst}
+use Rattle.std.proofs.Common.{◌≡◌, ℕ, Bool, true, false, List, [], ◌∷◌, ◌++◌, Option, refl, sym, ap, ◌∙◌, subst}
+use Rattle.std.proofs.lemmas.Bool.{cond_both}
 use Rattle.std.specs.Prelude.{nat_le}
 use Rattle.cg_model.specs.System.{System}
 use Rattle.cg_model.specs.History.{Request, Answer, Record, History, is_recorded, named_in, IsProperRequest}
 use Rattle.cg_model.specs.Opens.{numbers, among, transaction_in, commits}
-use Rattle.cg_model.specs.Live.{Items, committed}
+use Rattle.cg_model.specs.Live.{committed}
 use Rattle.cg_model.specs.Run.{Accepted, committed_through, Defined}
 use Rattle.cg_model.specs.Reply.{reply, Legal}
 use Rattle.cg_core_laws.specs.Headline.{AreProper}
@@ -45,14 +46,10 @@ module _ (y : System) (laws : SystemLaws y) (o : y.State) where
       subst (λ g. Legal y o p.0.bound (new ∷ g)) (sym i.0) (subst (λ n. Legal y o n (new ∷ c.history)) (sym i.1) all)
   legal_noted c s r h p false e w v i d runs legal = rw (i.0, i.1) legal
 
-  accepted_cond : (b : Bool) (l m : Items y) → Accepted y o l → Accepted y o m → Accepted y o (cond b l m)
-  accepted_cond true l m i j = i
-  accepted_cond false l m i j = j
-
   through_noted : (c : Log y) (s : ℕ) (r : Request y) (h : Option ℕ) (p : Log y × Answer) (b : Bool) → p.0.history ≡ c.history → Accepted y o (committed (log_noted b s r h p).0.history) → ((n : ℕ) → Accepted y o (committed_through n c.history)) → (n : ℕ) → Accepted y o (committed_through n (log_noted b s r h p).0.history)
   through_noted c s r h p true e now before n =
       let new : Record y = record { session = s; transaction = named_in h p.1; request = r; answer = p.1 } in
-      accepted_cond (nat_le (commits (new ∷ p.0.history)) n) _ _ now (subst (λ g. Accepted y o (committed_through n g)) (sym e) (before n))
+      cond_both (nat_le (commits (new ∷ p.0.history)) n) _ _ (Accepted y o) (λ _. now) (λ _. subst (λ g. Accepted y o (committed_through n g)) (sym e) (before n))
   through_noted c s r h p false e now before n = subst (λ g. Accepted y o (committed_through n g)) (sym e) (before n)
 
   step_holds : (c : Log y) (s : ℕ) (r : Request y) → IsProperRequest r → Invariant y o c → Invariant y o (log_step y c s r).0

@@ -1,7 +1,7 @@
 -- The history never outgrows its bound, where that is two at least.
 use Rattle.std.proofs.Common.{◌≡◌, ℕ, ◌+◌, ◌-◌, ◌≤◌, Bool, true, false, cond, List, [], ◌∷◌, length, ◌==◌, ◌||◌, Option, Some, None, refl, sym, ap, ◌∙◌, subst, arith}
 use Rattle.std.specs.Prelude.{nat_lt}
-use Rattle.std.proofs.lemmas.Bool.{eqb-true, eq-eqb, false_from_ne_true, or_right}
+use Rattle.std.proofs.lemmas.Bool.{cond_both, eqb-true, eq-eqb, false_from_ne_true, or_right}
 use Rattle.std.proofs.lemmas.Bool.Decides.{nat_tests}
 use Rattle.cg_name.specs.Name.{Name, same_name}
 use Rattle.cg_model.specs.System.{System, Attempt, Refuse, Accept}
@@ -113,10 +113,6 @@ module _ (y : System) where
   abbrev Placed : Request y → Log y × Answer → Type 0
   Placed r p = is_recorded r p.1 ≡ true → Spare p.0 1
 
-  placed_cond : (r : Request y) (b : Bool) (p q : Log y × Answer) → (b ≡ true → Placed r p) → (b ≡ false → Placed r q) → Placed r (cond b p q)
-  placed_cond r true p q i j = i refl
-  placed_cond r false p q i j = j refl
-
   -- one more stack entry of t
   held_more : (t : ℕ) (ps : Opens) (x : StackEntry y) (a : List (StackEntry y)) → OnceEach (numbers ps) → among t (numbers ps) ≡ true → owner x ≡ t → held ps a + 1 ≡ held ps (x ∷ a)
   held_more t ps x a once m e =
@@ -146,11 +142,11 @@ module _ (y : System) where
   placed_in : (c : Log y) (s t : ℕ) (r : Request y) → OnceEach (numbers c.opens) → among t (numbers c.opens) ≡ true → 2 ≤ c.bound → IsWithinBound c → Placed r (log_step_in y c s t r)
   placed_in c s t Begin once m le h w = absurd (cc w)
   placed_in c s t (Do b) once m le h w =
-      placed_cond (Do b) (is_full_log c) _ _ (λ e v. absurd (cc v)) (λ e. placed_do c t b (log_holder y (y.footprint b c.tree) c.log (others y c t)) once m (full_spare c le e)) w
+      cond_both (is_full_log c) _ _ (Placed (Do b)) (λ e v. absurd (cc v)) (λ e. placed_do c t b (log_holder y (y.footprint b c.tree) c.log (others y c t)) once m (full_spare c le e)) w
   placed_in c s t (Save n) once m le h w =
-      placed_cond (Save n) (stack_has_savepoint n (only t c.log)) _ _ (λ e v. absurd (cc v))
-      (λ e. placed_cond (Save n) (is_full_log c) _ _ (λ k v. absurd (cc v)) (λ k v. let q = held_more t c.opens (Savepoint t c.history n) c.log once m refl in let z = full_spare c le k in omega arith)) w
-  placed_in c s t (Back n) once m le h w = placed_cond (Back n) (stack_has_savepoint n (only t c.log)) _ _ (λ e. placed_back c t n once m h e) (λ e v. absurd (cc v)) w
+      cond_both (stack_has_savepoint n (only t c.log)) _ _ (Placed (Save n)) (λ e v. absurd (cc v))
+      (λ e. cond_both (is_full_log c) _ _ (Placed (Save n)) (λ k v. absurd (cc v)) (λ k v. let q = held_more t c.opens (Savepoint t c.history n) c.log once m refl in let z = full_spare c le k in omega arith)) w
+  placed_in c s t (Back n) once m le h w = cond_both (stack_has_savepoint n (only t c.log)) _ _ (Placed (Back n)) (λ e. placed_back c t n once m h e) (λ e v. absurd (cc v)) w
   placed_in c s t Undo once m le h w = placed_undo c t (only t c.log) once m refl h w
   placed_in c s t Commit once m le h w = let q = held_without t c.opens c.log m in omega arith
   placed_in c s t Abort once m le h w =

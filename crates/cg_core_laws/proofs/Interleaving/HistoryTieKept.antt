@@ -1,5 +1,6 @@
 -- Each step of the machine with a log leaves it tied to its history.
 use Rattle.std.proofs.Common.{◌≡◌, ℕ, ◌+◌, ◌||◌, Bool, true, false, cond, List, [], ◌∷◌, ◌++◌, drop, Option, Some, None, refl, sym, ap, ◌∙◌, subst}
+use Rattle.std.proofs.lemmas.Bool.{cond_both}
 use Rattle.cg_name.specs.Name.{Name, same_name}
 use Rattle.cg_name.specs.declared.refusal.Refusal.{Refusal}
 use Rattle.cg_name.specs.declared.refusal.Refusal.TheVariants.{Full, Busy, NoSavepoint, NameTaken}
@@ -110,15 +111,12 @@ module _ (y : System) (laws : SystemLaws y) (o : y.State) where
       subst (λ (x : Answer). TiedStep s (Back n) t (p.0, x)) (sym a)
       (tie_in c p.0 s t (Back n) (WentBack j) (below n (as_items (only t c.log))) d u.history m (ap (below n) (sym (d.lives t))) u.opens u.begun u.commits (ap as_items u.done))
 
-  cond_tied : (s t : ℕ) (r : Request y) (b : Bool) (p q : Log y × Answer) → TiedStep s r t p → TiedStep s r t q → TiedStep s r t (cond b p q)
-  cond_tied s t r true p q i j = i
-  cond_tied s t r false p q i j = j
-
   in_tied : (c : Log y) (s t : ℕ) (r : Request y) → Kept y o c → Tied y o c → TiedStep s r t (log_step_in y c s t r)
   in_tied c s t Begin k d = d
-  in_tied c s t (Do b) k d = cond_tied s t (Do b) (is_full_log c) (c, Refused Full) _ d (do_tied c s t b (log_holder y (y.footprint b c.tree) c.log (others y c t)) k d)
+  in_tied c s t (Do b) k d = cond_both (is_full_log c) (c, Refused Full) _ (TiedStep s (Do b) t) (λ _. d) (λ _. do_tied c s t b (log_holder y (y.footprint b c.tree) c.log (others y c t)) k d)
   in_tied c s t (Save n) k d =
-      cond_tied s t (Save n) (stack_has_savepoint n (only t c.log)) (c, Refused NameTaken) _ d (cond_tied s t (Save n) (is_full_log c) (c, Refused Full) _ d (save_tied c s t n d))
+      cond_both (stack_has_savepoint n (only t c.log)) (c, Refused NameTaken) _ (TiedStep s (Save n) t) (λ _. d)
+      (λ _. cond_both (is_full_log c) (c, Refused Full) _ (TiedStep s (Save n) t) (λ _. d) (λ _. save_tied c s t n d))
   in_tied c s t (Back n) k d = back_tied c s t n (stack_has_savepoint n (only t c.log)) refl d
   in_tied c s t Undo k d = undo_tied c s t (only t c.log) d refl
   in_tied c s t Commit k d =

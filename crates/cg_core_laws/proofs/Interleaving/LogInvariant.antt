@@ -1,5 +1,6 @@
 -- What every step keeps, and that taking stack entries off keeps it.
-use Rattle.std.proofs.Common.{◌≡◌, ℕ, ◌+◌, ◌≤◌, Bool, true, false, cond, List, [], ◌∷◌, ◌==◌, not, refl, sym, ap, ◌∙◌, subst}
+use Rattle.std.proofs.Common.{◌≡◌, ℕ, ◌+◌, ◌≤◌, Bool, true, false, List, [], ◌∷◌, ◌==◌, not, refl, sym, ap, ◌∙◌, subst}
+use Rattle.std.proofs.lemmas.Bool.{cond_both}
 use Rattle.cg_name.specs.Name.{Name, same_name}
 use Rattle.cg_model.specs.System.{System}
 use Rattle.cg_model.specs.History.{Answer}
@@ -37,6 +38,10 @@ pub record Kept (y : System) (o : y.State) (c : Log y) : Type 0 where
   pub range : (t : ℕ) → among t (numbers c.opens) ≡ true → t ≤ c.begun
   pub once : OnceEach (numbers c.opens)
 
+-- a step keeps it
+abbrev pub Keeps : (y : System) → y.State → Log y × Answer → Type 0
+Keeps y o p = Kept y o p.0
+
 module _ (y : System) (laws : SystemLaws y) (o : y.State) where
   goes_back : (s : y.State) (x : StackEntry y) → Accepts y s x → FitsNow y x (moved y x s) × (unmoved y x (moved y x s) ≡ s)
   goes_back s (Did t th c a d f) h =
@@ -51,10 +56,6 @@ module _ (y : System) (laws : SystemLaws y) (o : y.State) where
   owners_cut : (t n : ℕ) (a : List (StackEntry y)) → OwnersUpTo n a → OwnersUpTo n (cut t a)
   owners_cut t n [] h = h
   owners_cut t n (x ∷ a) h = owners_cut_step t n x a (owner x == t) (owners_cut t n a) h
-
-  pub stop_kept : (b : Bool) (p q : Log y × Answer) → Kept y o p.0 → Kept y o q.0 → Kept y o (cond b p q).0
-  stop_kept true p q h i = h
-  stop_kept false p q h i = i
 
   -- one stack entry is taken off
   pub pop_kept : (c : Log y) (t : ℕ) (x : StackEntry y) (r : List (StackEntry y)) → Kept y o c → among t (numbers c.opens) ≡ true → only t c.log ≡ x ∷ r → FitsNow y x c.tree × Kept y o (pop y c t x)
@@ -85,4 +86,4 @@ module _ (y : System) (laws : SystemLaws y) (o : y.State) where
       back_kept t n l (pop y c t (Did u uh b a d f)) (j + 1) (pop_kept c t (Did u uh b a d f) l k m e).1 m (cut_own y t _ c.log l e)
   back_kept t n (Savepoint u uh i ∷ l) c j k m e =
       let p = (pop_kept c t (Savepoint u uh i) l k m e).1 in
-      stop_kept (same_name i n) _ _ p (back_kept t n l (pop y c t (Savepoint u uh i)) j p m (cut_own y t _ c.log l e))
+      cond_both (same_name i n) _ _ (Keeps y o) (λ _. p) (λ _. back_kept t n l (pop y c t (Savepoint u uh i)) j p m (cut_own y t _ c.log l e))

@@ -1,6 +1,6 @@
 -- Each step of the machine with a log keeps it, and so does each list of steps.
 use Rattle.std.proofs.Common.{◌≡◌, ℕ, ◌+◌, Bool, true, false, List, [], ◌∷◌, ◌++◌, ◌==◌, not, Option, Some, None, refl, sym, ap, ◌∙◌, subst, arith, inl, inr, ◌≤◌}
-use Rattle.std.proofs.lemmas.Bool.{eqb-true, or_parts, false_from_ne_true, or_cases}
+use Rattle.std.proofs.lemmas.Bool.{cond_both, eqb-true, or_parts, false_from_ne_true, or_cases}
 use Rattle.std.proofs.lemmas.Bool.Decides.{nat_tests}
 use Rattle.std.specs.Cmp.{nat_eq_equiv}
 use Rattle.cg_name.specs.Name.{Name}
@@ -19,7 +19,7 @@ use Rattle.cg_core_laws.proofs.Interleaving.Gathering.{same_refl, same_trans, sa
 use Rattle.cg_core_laws.proofs.Interleaving.TakingOff.{keep_same}
 use Rattle.cg_core_laws.proofs.Interleaving.AnswersInParts.{clear_free}
 use Rattle.cg_core_laws.proofs.Interleaving.OpenTransactions.{closed, among_without, still_open, closed_without, once_without, transaction_open}
-use Rattle.cg_core_laws.proofs.Interleaving.LogInvariant.{OwnersUpTo, Kept, stop_kept, pop_kept, pop_all_kept, back_kept}
+use Rattle.cg_core_laws.proofs.Interleaving.LogInvariant.{OwnersUpTo, Kept, Keeps, pop_kept, pop_all_kept, back_kept}
 
 -- no hit, no clash
 clear_from : (y : System) (f : y.Footprint) (l : List (StackEntry y)) → hits y f l ≡ false → Clear y f l
@@ -156,12 +156,12 @@ module _ (y : System) (laws : SystemLaws y) (o : y.State) where
   in_kept : (c : Log y) (s t : ℕ) (r : Request y) → IsProperRequest r → Kept y o c → among t (numbers c.opens) ≡ true → Kept y o (log_step_in y c s t r).0
   in_kept c s t Begin proper k m = k
   in_kept c s t (Do b) proper k m =
-      stop_kept y laws o (is_full_log c) _ _ k (do_kept c t b (log_holder y (y.footprint b c.tree) c.log (others y c t)) proper refl k m)
+      cond_both (is_full_log c) _ _ (Keeps y o) (λ _. k) (λ _. do_kept c t b (log_holder y (y.footprint b c.tree) c.log (others y c t)) proper refl k m)
   in_kept c s t (Save n) proper k m =
-      stop_kept y laws o (stack_has_savepoint n (only t c.log)) _ _ k
-      (stop_kept y laws o (is_full_log c) _ _ k (push_kept c (Savepoint t c.history n) k m tt (λ u i f. savepoint_free t c.history n (only u c.log))))
+      cond_both (stack_has_savepoint n (only t c.log)) _ _ (Keeps y o) (λ _. k)
+      (λ _. cond_both (is_full_log c) _ _ (Keeps y o) (λ _. k) (λ _. push_kept c (Savepoint t c.history n) k m tt (λ u i f. savepoint_free t c.history n (only u c.log))))
   in_kept c s t (Back n) proper k m =
-      stop_kept y laws o (stack_has_savepoint n (only t c.log)) _ _ (back_kept y laws o t n (only t c.log) c 0 k m refl) k
+      cond_both (stack_has_savepoint n (only t c.log)) _ _ (Keeps y o) (λ _. back_kept y laws o t n (only t c.log) c 0 k m refl) (λ _. k)
   in_kept c s t Undo proper k m = undo_kept c t (only t c.log) k m refl
   in_kept c s t Commit proper k m = commit_kept c s t k m
   in_kept c s t Abort proper k m = abort_kept c s t k m

@@ -1,6 +1,6 @@
 -- A session has one open transaction at most, as the answers of a legal history have it.
 use Rattle.std.proofs.Common.{◌≡◌, ℕ, Bool, true, false, cond, List, [], ◌∷◌, ◌++◌, ◌==◌, ◌||◌, Option, Some, None, refl, sym, ap, ◌∙◌, subst, true≢false}
-use Rattle.std.proofs.lemmas.Bool.{eq-eqb, or_parts, or_from}
+use Rattle.std.proofs.lemmas.Bool.{cond_both, eq-eqb, or_parts, or_from}
 use Rattle.std.specs.Cmp.{nat_eq_equiv}
 use Rattle.cg_name.specs.declared.refusal.Refusal.TheVariants.{Full, NoSavepoint, NameTaken}
 use Rattle.cg_model.specs.System.{System, Attempt, Refuse, Accept}
@@ -21,10 +21,6 @@ abbrev is_begun : Answer → Bool
 is_begun (Begun u) = true
 is_begun _ = false
 
-begun_cond : (b : Bool) (p q : Answer) → is_begun p ≡ false → is_begun q ≡ false → is_begun (cond b p q) ≡ false
-begun_cond true p q i j = i
-begun_cond false p q i j = j
-
 begun_command : {D : Type 0} (h : Option ℕ) (e : Attempt D) → is_begun (command_reply h e) ≡ false
 begun_command (Some u) e = refl
 begun_command None (Refuse r) = refl
@@ -38,9 +34,11 @@ module _ (y : System) (o : y.State) (bound : ℕ) where
 
   begun_in : (h : History y) (t : ℕ) (r : Request y) → is_begun (reply_in y o bound h t r) ≡ false
   begun_in h t Begin = refl
-  begun_in h t (Do c) = begun_cond (is_full bound h) (Refused Full) _ refl (begun_command _ (y.effect c (own_tree y o t h)))
-  begun_in h t (Save n) = begun_cond (has_savepoint n (live t h)) (Refused NameTaken) _ refl (begun_cond (is_full bound h) (Refused Full) Saved refl refl)
-  begun_in h t (Back n) = begun_cond (has_savepoint n (live t h)) (WentBack (commands_above n 0 (live t h))) (Refused NoSavepoint) refl refl
+  begun_in h t (Do c) = cond_both (is_full bound h) (Refused Full) _ (λ a. is_begun a ≡ false) (λ _. refl) (λ _. begun_command _ (y.effect c (own_tree y o t h)))
+  begun_in h t (Save n) =
+      cond_both (has_savepoint n (live t h)) (Refused NameTaken) _ (λ a. is_begun a ≡ false) (λ _. refl)
+      (λ _. cond_both (is_full bound h) (Refused Full) Saved (λ a. is_begun a ≡ false) (λ _. refl) (λ _. refl))
+  begun_in h t (Back n) = cond_both (has_savepoint n (live t h)) (WentBack (commands_above n 0 (live t h))) (Refused NoSavepoint) (λ a. is_begun a ≡ false) (λ _. refl) (λ _. refl)
   begun_in h t Undo = begun_undo (live t h)
   begun_in h t Commit = refl
   begun_in h t Abort = refl

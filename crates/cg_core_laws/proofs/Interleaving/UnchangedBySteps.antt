@@ -1,6 +1,7 @@
 -- What the steps of a transaction leave as it is: all but the tree and the stack entries, until it ends; and the history and
 -- the bound always.
-use Rattle.std.proofs.Common.{◌≡◌, ℕ, ◌+◌, Bool, true, false, cond, List, [], ◌∷◌, Option, Some, None, refl, ◌∙◌}
+use Rattle.std.proofs.Common.{◌≡◌, ℕ, ◌+◌, Bool, true, false, List, [], ◌∷◌, Option, Some, None, refl, ◌∙◌}
+use Rattle.std.proofs.lemmas.Bool.{cond_both}
 use Rattle.cg_name.specs.Name.{Name, same_name}
 use Rattle.cg_model.specs.System.{System, Attempt, Refuse, Accept}
 use Rattle.cg_model.specs.History.{Request, Begin, Do, Save, Back, Undo, Commit, Abort, Answer, is_recorded}
@@ -20,16 +21,16 @@ pub record Unchanged (y : System) (c c' : Log y) : Type 0 where
   pub bound : c'.bound ≡ c.bound
 
 module _ (y : System) where
+  -- a step leaves all these as they are
+  abbrev Leaves : Log y → Log y × Answer → Type 0
+  Leaves c p = Unchanged y c p.0
+
   pub unchanged_refl : (c : Log y) → Unchanged y c c
   unchanged_refl c = record { opens = refl; begun = refl; commits = refl; done = refl; history = refl; bound = refl }
 
   -- what is unchanged from the machine with other stack entries is unchanged from this one
   pub unchanged_pop : (c c' : Log y) (t : ℕ) (x : StackEntry y) → Unchanged y (pop y c t x) c' → Unchanged y c c'
   unchanged_pop c c' t x u = record { opens = u.opens; begun = u.begun; commits = u.commits; done = u.done; history = u.history; bound = u.bound }
-
-  unchanged_cond : (c : Log y) (b : Bool) (p q : Log y × Answer) → Unchanged y c p.0 → Unchanged y c q.0 → Unchanged y c (cond b p q).0
-  unchanged_cond c true p q i j = i
-  unchanged_cond c false p q i j = j
 
   pub unchanged_all : (t : ℕ) (l : List (StackEntry y)) (c : Log y) → Unchanged y c (pop_all y t l c)
   unchanged_all t [] c = unchanged_refl c
@@ -41,7 +42,7 @@ module _ (y : System) where
       unchanged_pop c _ t (Did u h b a d f) (unchanged_back t n l (pop y c t (Did u h b a d f)) (k + 1))
   unchanged_back t n (Savepoint u h m ∷ l) c k =
       let x : StackEntry y = Savepoint u h m in
-      unchanged_pop c _ t x (unchanged_cond (pop y c t x) (same_name m n) _ _ (unchanged_refl (pop y c t x)) (unchanged_back t n l (pop y c t x) k))
+      unchanged_pop c _ t x (cond_both (same_name m n) _ _ (Leaves (pop y c t x)) (λ _. unchanged_refl (pop y c t x)) (λ _. unchanged_back t n l (pop y c t x) k))
 
   unchanged_try : (c : Log y) (t : ℕ) (b : y.Command) (r : Attempt y.Change) → Unchanged y c (try_do y c t b r).0
   unchanged_try c t b (Refuse x) = unchanged_refl c
@@ -65,11 +66,11 @@ module _ (y : System) where
   pub unchanged_in : (c : Log y) (s t : ℕ) (r : Request y) → GoesOn r → Unchanged y c (log_step_in y c s t r).0
   unchanged_in c s t Begin g = unchanged_refl c
   unchanged_in c s t (Do b) g =
-      unchanged_cond c (is_full_log c) _ _ (unchanged_refl c) (unchanged_do c t b (log_holder y (y.footprint b c.tree) c.log (others y c t)))
+      cond_both (is_full_log c) _ _ (Leaves c) (λ _. unchanged_refl c) (λ _. unchanged_do c t b (log_holder y (y.footprint b c.tree) c.log (others y c t)))
   unchanged_in c s t (Save n) g =
-      unchanged_cond c (stack_has_savepoint n (only t c.log)) _ _ (unchanged_refl c)
-      (unchanged_cond c (is_full_log c) _ _ (unchanged_refl c) (record { opens = refl; begun = refl; commits = refl; done = refl; history = refl; bound = refl }))
-  unchanged_in c s t (Back n) g = unchanged_cond c (stack_has_savepoint n (only t c.log)) _ _ (unchanged_back t n (only t c.log) c 0) (unchanged_refl c)
+      cond_both (stack_has_savepoint n (only t c.log)) _ _ (Leaves c) (λ _. unchanged_refl c)
+      (λ _. cond_both (is_full_log c) _ _ (Leaves c) (λ _. unchanged_refl c) (λ _. record { opens = refl; begun = refl; commits = refl; done = refl; history = refl; bound = refl }))
+  unchanged_in c s t (Back n) g = cond_both (stack_has_savepoint n (only t c.log)) _ _ (Leaves c) (λ _. unchanged_back t n (only t c.log) c 0) (λ _. unchanged_refl c)
   unchanged_in c s t Undo g = unchanged_undo c t (only t c.log)
   unchanged_in c s t Commit g = absurd g
   unchanged_in c s t Abort g = absurd g

@@ -1,5 +1,6 @@
 -- Going back to a savepoint that is there is answered with what went, and a step that isn't recorded leaves the machine.
 use Rattle.std.proofs.Common.{◌≡◌, ℕ, ◌+◌, ◌||◌, Bool, true, false, cond, List, [], ◌∷◌, Option, Some, None, refl, ap}
+use Rattle.std.proofs.lemmas.Bool.{cond_both}
 use Rattle.cg_name.specs.Name.{Name, same_name}
 use Rattle.cg_name.specs.declared.refusal.Refusal.TheVariants.{NoSavepoint}
 use Rattle.cg_model.specs.System.{System, Attempt, Refuse, Accept}
@@ -32,10 +33,6 @@ module _ (y : System) where
   abbrev Quiet : Request y → Log y → Log y × Answer → Type 0
   Quiet r c p = is_recorded r p.1 ≡ false → p.0 ≡ c
 
-  quiet_cond : (r : Request y) (c : Log y) (b : Bool) (p q : Log y × Answer) → Quiet r c p → Quiet r c q → Quiet r c (cond b p q)
-  quiet_cond r c true p q i j = i
-  quiet_cond r c false p q i j = j
-
   quiet_try : (c : Log y) (t : ℕ) (b : y.Command) (r : Attempt y.Change) → Quiet (Do b) c (try_do y c t b r)
   quiet_try c t b (Refuse x) e = refl
   quiet_try c t b (Accept a d) e = absurd (cc e)
@@ -56,9 +53,10 @@ module _ (y : System) where
 
   quiet_in : (c : Log y) (s t : ℕ) (r : Request y) → Quiet r c (log_step_in y c s t r)
   quiet_in c s t Begin e = refl
-  quiet_in c s t (Do b) e = quiet_cond (Do b) c (is_full_log c) _ _ (λ i. refl) (quiet_do c t b (log_holder y (y.footprint b c.tree) c.log (others y c t))) e
+  quiet_in c s t (Do b) e = cond_both (is_full_log c) _ _ (Quiet (Do b) c) (λ _ i. refl) (λ _. quiet_do c t b (log_holder y (y.footprint b c.tree) c.log (others y c t))) e
   quiet_in c s t (Save n) e =
-      quiet_cond (Save n) c (stack_has_savepoint n (only t c.log)) _ _ (λ i. refl) (quiet_cond (Save n) c (is_full_log c) _ _ (λ i. refl) (λ i. absurd (cc i))) e
+      cond_both (stack_has_savepoint n (only t c.log)) _ _ (Quiet (Save n) c) (λ _ i. refl)
+      (λ _. cond_both (is_full_log c) _ _ (Quiet (Save n) c) (λ _ i. refl) (λ _ i. absurd (cc i))) e
   quiet_in c s t (Back n) e = quiet_back c t n (stack_has_savepoint n (only t c.log)) refl e
   quiet_in c s t Undo e = quiet_undo c t (only t c.log) e
   quiet_in c s t Commit e = absurd (cc e)
