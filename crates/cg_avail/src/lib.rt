@@ -5,10 +5,8 @@ ghost use Rattle.std.specs.Prelude.{◌≡◌, ◌&&◌, not, find};
 ghost use Rattle.cg_text.specs.Controllers.{has, all_controllers};
 ghost use Rattle.cg_model.specs.Control.{plan, not_available, in_use};
 
-use cg_name::controller::Controller;
-use cg_name::refusal::Refusal;
-use cg_text::control_ops::ControlOps;
-use cg_text::controllers::Controllers;
+use cg_name::{Controller, Refusal};
+use cg_text::{ControlOps, Controllers};
 
 /// The set that a write to `cgroup.subtree_control` leaves: by what is available to the group, the set that it has
 /// enabled, the operations, what its children have enabled, whether it has processes of its own, and whether it is

@@ -9,9 +9,8 @@ ghost use Rattle.cg_model.specs.Command as model;
 
 use crate::limits::{too_deep, too_many};
 use crate::tree::Tree;
-use cg_name::path::Path;
-use cg_name::refusal::Refusal;
-use cg_text::settings::Settings;
+use cg_name::{Path, Refusal};
+use cg_text::Settings;
 use std::alloc::{AllocError, Global};
 
 /// A change of a tree.

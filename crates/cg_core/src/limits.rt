@@ -5,8 +5,8 @@ ghost use Rattle.cg_model.specs.Derived.{descendants};
 ghost use Rattle.cg_model.specs.Groups.{reaches_descendants, exceeds_depth, too_many, too_deep};
 
 use crate::tree::Tree;
-use cg_name::path::Path;
-use cg_text::limit::Limit;
+use cg_name::Path;
+use cg_text::Limit;
 use std::alloc::{AllocError, Global};
 
 /// Whether some group above the path has as many descendants as it may have.

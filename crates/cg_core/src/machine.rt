@@ -14,8 +14,8 @@ use crate::command::Command;
 use crate::history::History;
 use crate::record::{Answer, Record, Request, SessionId};
 use crate::tree::Tree;
-use cg_name::refusal::{Refusal, TxnNumber};
-use cg_world::world::World;
+use cg_name::{Refusal, TxnNumber};
+use cg_world::World;
 use std::alloc::{AllocError, Global};
 use std::marker::Model;
 

@@ -2,7 +2,7 @@
 ghost use Rattle.std.specs.Prelude.{◌≡◌, IfOk, IfErr};
 
 use crate::command::Command;
-use cg_name::refusal::{Refusal, TxnNumber};
+use cg_name::{Refusal, TxnNumber};
 use std::alloc::{AllocError, Global};
 
 /// A session of the machine.

@@ -6,10 +6,9 @@ ghost use Rattle.cg_model.specs.Tree.{group};
 ghost use Rattle.cg_model.specs.Derived.{descendants};
 ghost use Rattle.cg_world.specs.World.{IsRepresentable, world_text};
 
-use cg_name::path::Path;
-use cg_text::settings::Settings;
-use cg_world::plain::PlainTree;
-use cg_world::world::World;
+use cg_name::Path;
+use cg_text::Settings;
+use cg_world::{PlainTree, World};
 use std::alloc::{AllocError, Global};
 use std::marker::Model;
 

@@ -11,7 +11,7 @@ ghost use Rattle.cg_cpus.specs.Ascending.{runs_from};
 ghost use Rattle.cg_cpus.specs.CpuList.{cpus_text, SpellsCpus};
 
 use crate::list;
-use cg_name::refusal::Refusal;
+use cg_name::Refusal;
 use std::alloc::AllocError;
 use std::marker::Model;
 

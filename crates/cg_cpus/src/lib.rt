@@ -1,7 +1,10 @@
 //! Sets of CPU numbers, and the lists in which they are read and written.
 #![tactic(auto)]
 
-pub mod blanks;
-pub mod cpu_set;
+mod blanks;
+mod cpu_set;
 pub mod laws;
 mod list;
+
+pub use blanks::{is_blank, trim};
+pub use cpu_set::CpuSet;

@@ -8,7 +8,7 @@ ghost use Rattle.cg_cpus.specs.CpuList.{cpus_text, IsCpuNumber, run_text, Spells
 
 use crate::blanks::trim;
 use crate::cpu_set::CpuSet;
-use cg_name::refusal::Refusal;
+use cg_name::Refusal;
 use itoa::Buffer;
 use std::alloc::AllocError;
 

@@ -1,6 +1,10 @@
 //! Whole runs of the program over sources and sinks, and the words that name the sources.
 #![tactic(auto)]
 
-pub mod inputs;
-pub mod named;
-pub mod replaying;
+mod inputs;
+mod named;
+mod replaying;
+
+pub use inputs::{Inputs, OpenFault};
+pub use named::replay_named;
+pub use replaying::{replay_to, stop};

@@ -11,9 +11,7 @@ ghost use Rattle.cg_program.specs.Program.{status_of, fault_line, Plays, Stops, 
 
 use crate::inputs::{Inputs, OpenFault};
 use crate::replaying::{replay_to, stop};
-use cg_script::device::{Sink, Source};
-use cg_script::fault::ScriptFault;
-use cg_script::lines::LineReader;
+use cg_script::{LineReader, ScriptFault, Sink, Source};
 use std::alloc::Global;
 
 /// Replays what two words name: `-` is standard input, and any other word the file of this name, as it stands. Where both

@@ -8,11 +8,7 @@ ghost use Rattle.cg_script.specs.declared.fault.ScriptFault.{ScriptFault};
 ghost use Rattle.cg_script.specs.declared.fault.ScriptFault.TheVariants as faults;
 ghost use Rattle.cg_program.specs.Program.{status_of, fault_line, AreBroken, DoneOver, IsBroken, Plays, Stops, WritesUnlessFailed};
 
-use cg_script::device::{Sink, Source, write_all};
-use cg_script::fault::ScriptFault;
-use cg_script::lines::LineReader;
-use cg_script::replay::replay;
-use cg_script::world_reader::read_world;
+use cg_script::{LineReader, ScriptFault, Sink, Source, read_world, replay, write_all};
 use std::alloc::Global;
 
 /// The most records of a history.

@@ -5,9 +5,9 @@ ghost use Rattle.cg_name.specs.Refusal.{argument_of, refusal_text};
 ghost use Rattle.cg_core.specs.Meaning.{answer_of};
 ghost use Rattle.cg_script.specs.Answer.{answer_text};
 
-use cg_core::record::Answer;
-use cg_name::refusal::{Refusal, TxnNumber};
-use cg_text::writing::write_quoted;
+use cg_core::Answer;
+use cg_name::{Refusal, TxnNumber};
+use cg_text::write_quoted;
 use itoa::Buffer;
 use std::alloc::AllocError;
 

@@ -2,7 +2,7 @@
 ghost use Rattle.std.specs.Prelude.{◌≡◌};
 ghost use Rattle.cg_script.specs.Fault.{refusal_of};
 
-use cg_name::refusal::Refusal;
+use cg_name::Refusal;
 use thiserror::Error;
 
 /// Why a text was not read or written to its end.

@@ -10,10 +10,9 @@ ghost use Rattle.cg_script.specs.Replay.{Answers, Asked, ending_text, opened, ne
 use crate::answer::write_answer;
 use crate::request::read_line;
 use crate::session::SessionName;
-use cg_core::machine::Core;
-use cg_core::record::{Answer, Request, SessionId};
-use cg_name::refusal::Refusal;
-use cg_world::world::World;
+use cg_core::{Answer, Core, Request, SessionId};
+use cg_name::Refusal;
+use cg_world::World;
 use indexmap::IndexSet;
 use std::alloc::{AllocError, Global};
 use std::marker::Model;

@@ -8,11 +8,9 @@ ghost use Rattle.cg_core.specs.Record as model;
 ghost use Rattle.cg_script.specs.Request.{SpellsCall, SpellsLine, SpellsRequest, line_text, request_text, OneCall, WrittenLinesAreSpelled};
 
 use crate::session::SessionName;
-use cg_core::command::Command;
-use cg_core::record::Request;
-use cg_name::path::Path;
-use cg_name::refusal::Refusal;
-use cg_text::words::read_words;
+use cg_core::{Command, Request};
+use cg_name::{Path, Refusal};
+use cg_text::read_words;
 use std::alloc::{AllocError, Global};
 
 /// Which session asks for what by this line: `None` where the line is blank or a comment. `Syntax` where it

@@ -8,8 +8,7 @@ ghost use Rattle.std.proofs.Common.{rules};
 ghost use Rattle.cg_name.specs.SaveName.{IsSaveName};
 ghost use Rattle.cg_name.specs.declared.refusal.Refusal.TheVariants.{Syntax};
 
-use cg_name::refusal::Refusal;
-use cg_name::save_name::SaveName;
+use cg_name::{Refusal, SaveName};
 use std::hash::{Hash, Hasher};
 use std::marker::Model;
 

@@ -13,9 +13,8 @@ ghost use Rattle.cg_script.specs.declared.fault.ScriptFault.TheVariants as fault
 use crate::device::Source;
 use crate::fault::ScriptFault;
 use crate::lines::{LineKind, LineReader};
-use cg_name::refusal::Refusal;
-use cg_world::reader::WorldReader;
-use cg_world::world::World;
+use cg_name::Refusal;
+use cg_world::{World, WorldReader};
 use std::alloc::Global;
 
 /// The most bytes of a world's text, through the line that ends it and that line's newline, where it has one.

@@ -1,6 +1,6 @@
 //! The lines of answers that no request of a schedule has yet.
-use cg_core::record::Answer;
-use cg_script::answer::write_answer;
+use cg_core::Answer;
+use cg_script::write_answer;
 use std::alloc::{AllocError, Global};
 
 // Appends the line of an answer's copy.

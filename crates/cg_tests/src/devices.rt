@@ -1,6 +1,7 @@
 //! Readers and writers that fail in mid-stream, and go on failing.
-use cg_script::device::{DeviceFault, FromRead, FromWrite, Sink, write_all};
-use cg_script::lines::{LineFault, LineKind, LineReader};
+use cg_script::{
+    DeviceFault, FromRead, FromWrite, LineFault, LineKind, LineReader, Sink, write_all,
+};
 use std::io::{self, Read, Write};
 
 /// A reader of newlines, one a call, and a writer that takes at most two bytes a call. It fails where no call is left.

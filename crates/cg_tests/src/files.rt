@@ -1,11 +1,9 @@
 //! What interface files show, and what is written to them.
-use cg_cpus::cpu_set::CpuSet;
-use cg_name::refusal::Refusal;
-use cg_text::controllers::Controllers;
-use cg_text::reading::{read_limit, read_ops};
-use cg_text::writing::{
-    write_controllers, write_cpus, write_events, write_flag, write_limit, write_ops, write_procs,
-    write_quoted,
+use cg_cpus::CpuSet;
+use cg_name::Refusal;
+use cg_text::{
+    Controllers, read_limit, read_ops, write_controllers, write_cpus, write_events, write_flag,
+    write_limit, write_ops, write_procs, write_quoted,
 };
 use std::alloc::AllocError;
 

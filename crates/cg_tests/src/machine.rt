@@ -1,10 +1,7 @@
 //! The worlds that a machine gives: of its tree, and the one that it was opened on.
-use cg_core::command::Command;
-use cg_core::machine::Core;
-use cg_core::record::{Request, SessionId};
-use cg_name::path::Path;
-use cg_name::refusal::Refusal;
-use cg_world::world::World;
+use cg_core::{Command, Core, Request, SessionId};
+use cg_name::{Path, Refusal};
+use cg_world::World;
 use std::alloc::{AllocError, Global};
 
 const OPENING: &str = "world 1\ncontrollers cpu\nonline 0\ngroup / - 0 -\nproc 10 /\nend\n";

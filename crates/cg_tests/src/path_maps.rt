@@ -1,7 +1,5 @@
 //! Maps by paths, and the paths that they lend.
-use cg_name::path::Path;
-use cg_name::path_map::PathMap;
-use cg_name::refusal::Refusal;
+use cg_name::{Path, PathMap, Refusal};
 use std::alloc::{AllocError, Global};
 
 // In no order, one of them twice, so that the last counts.

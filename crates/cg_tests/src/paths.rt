@@ -1,7 +1,5 @@
 //! Paths that are made from others.
-use cg_name::name::Name;
-use cg_name::path::Path;
-use cg_name::refusal::Refusal;
+use cg_name::{Name, Path, Refusal};
 use std::alloc::Global;
 
 // A copy of the name that a text spells.

@@ -1,7 +1,6 @@
 //! The printed texts of refusals and faults.
-use cg_name::controller::Controller;
-use cg_name::refusal::{Refusal, TxnNumber};
-use cg_script::fault::ScriptFault;
+use cg_name::{Controller, Refusal, TxnNumber};
+use cg_script::ScriptFault;
 use std::alloc::AllocError;
 
 // Whether this was printed.

@@ -1,8 +1,7 @@
 //! Lines of requests that are read, and written in their one form.
-use cg_core::record::Request;
-use cg_name::refusal::Refusal;
-use cg_script::request::{read_line, write_line};
-use cg_script::session::SessionName;
+use cg_core::Request;
+use cg_name::Refusal;
+use cg_script::{SessionName, read_line, write_line};
 use std::alloc::{AllocError, Global};
 
 // Appends the line that is written for a copy of a session's request.

@@ -2,7 +2,7 @@
 ghost use Rattle.cg_text.specs.Controllers.{AreApart};
 
 use crate::controllers::Controllers;
-use cg_name::controller::Controller;
+use cg_name::Controller;
 
 /// The controllers to be enabled and those to be disabled, none of them both.
 #[derive(Clone, Copy, Debug, PartialEq, Eq)]

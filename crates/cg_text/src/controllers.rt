@@ -2,7 +2,7 @@
 ghost use Rattle.std.specs.Prelude.{◌≡◌, ◌↔◌, ◌&&◌, ◌||◌, not, IsTrue, true, false, Bool};
 ghost use Rattle.cg_text.specs.Controllers.{has, such_that, no_controllers, with_controller, without_controller, is_no_controllers, is_within};
 
-use cg_name::controller::Controller;
+use cg_name::Controller;
 
 /// A set of controllers.
 #[derive(Clone, Copy, Debug, PartialEq, Eq)]

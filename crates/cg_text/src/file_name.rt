@@ -4,7 +4,7 @@ ghost use Rattle.std.specs.Result.{IsErrOf};
 ghost use Rattle.cg_name.specs.declared.refusal.Refusal.TheVariants.{Syntax};
 ghost use Rattle.cg_text.specs.Reading.{file_word};
 
-use cg_name::refusal::Refusal;
+use cg_name::Refusal;
 
 /// One of the nine interface files that a group may show.
 #[derive(Clone, Copy, Debug, PartialEq, Eq)]

@@ -1,12 +1,24 @@
 //! What interface files hold, and the lines and words of texts.
 #![tactic(auto)]
 
-pub mod control_ops;
-pub mod controllers;
-pub mod file_name;
+mod control_ops;
+mod controllers;
+mod cutting;
+mod file_name;
 pub mod laws;
-pub mod limit;
-pub mod reading;
-pub mod settings;
-pub mod words;
-pub mod writing;
+mod limit;
+mod reading;
+mod settings;
+mod writing;
+
+pub use cg_name::write_quoted;
+pub use control_ops::ControlOps;
+pub use controllers::Controllers;
+pub use cutting::{LONGEST_LINE, read_words, words};
+pub use file_name::FileName;
+pub use limit::{Limit, LimitNumber};
+pub use reading::{LAST_PID, read_flag, read_limit, read_ops, read_pid};
+pub use settings::Settings;
+pub use writing::{
+    write_controllers, write_cpus, write_events, write_flag, write_limit, write_ops, write_procs,
+};

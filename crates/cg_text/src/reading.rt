@@ -13,12 +13,11 @@ ghost use Rattle.cg_text.specs.declared.limit.Limit as limit;
 
 use crate::control_ops::ControlOps;
 use crate::limit::Limit;
-use cg_cpus::blanks::{is_blank, trim};
-use cg_name::controller::Controller;
-use cg_name::refusal::Refusal;
+use cg_cpus::{is_blank, trim};
+use cg_name::{Controller, Refusal};
 
-// The greatest PID: the kernel's limit is 4,194,304, which no PID reaches.
-const LAST_PID: u32 = 4_194_303;
+/// The greatest PID: the kernel's limit is 4,194,304, which no PID reaches.
+pub const LAST_PID: u32 = 4_194_303;
 
 // The number that stands for no limit: the greatest that the kernel's `int` holds.
 const NO_LIMIT: u32 = 2_147_483_647;

@@ -4,7 +4,7 @@ ghost use Rattle.cg_text.specs.Settings.{fresh};
 
 use crate::controllers::Controllers;
 use crate::limit::Limit;
-use cg_cpus::cpu_set::CpuSet;
+use cg_cpus::CpuSet;
 
 /// What the interface files of one group hold.
 #[derive(Clone, Copy)]

@@ -5,16 +5,14 @@ ghost use Rattle.std.specs.Fmt.{decimal};
 ghost use Rattle.cg_name.specs.Controller.{controller_word};
 ghost use Rattle.cg_name.specs.declared.refusal.Refusal.TheVariants.{Memory};
 ghost use Rattle.cg_text.specs.FileText.{controllers_text, cpus_line, events_text, flag_text, limit_text, line_text, ops_text, pids_text};
-ghost use Rattle.cg_name.specs.Word.{quoted_text};
 ghost use Rattle.cg_text.specs.Reading.{sign_byte};
 ghost use Rattle.cg_text.specs.Writing.{spaced};
 
 use crate::control_ops::ControlOps;
 use crate::controllers::Controllers;
 use crate::limit::Limit;
-use cg_cpus::cpu_set::CpuSet;
-use cg_name::controller::Controller;
-use cg_name::word;
+use cg_cpus::CpuSet;
+use cg_name::Controller;
 use itoa::Buffer;
 use std::alloc::AllocError;
 
@@ -110,15 +108,6 @@ pub fn write_limit(limit: Limit, out: &mut Vec<u8>) -> Result<(), AllocError>
         }
         Limit::UpTo(most) => append_number(most.number, out),
     }
-}
-
-/// Appends the text between quotation marks. A quotation mark and a backslash get a backslash before them, a
-/// newline is a backslash and an `n`, and every other byte stands for itself. An error, where there is no memory, leaves `out` as it was.
-pub fn write_quoted(text: &[u8], out: &mut Vec<u8>) -> Result<(), AllocError>
-    ensures text { OnOk result (out.new.items ≡ out.old.items ++ quoted_text text.now) }
-    ensures unchanged { OnErr result (out.new.items ≡ out.old.items) }
-{
-    Ok(word::write_quoted(text, out)?)
 }
 
 // What follows appends to `out`, and a refusal leaves what stood there at the front.

@@ -5,8 +5,8 @@ ghost use Rattle.cg_name.specs.Path.{is_above, path_cmp};
 ghost use Rattle.cg_model.specs.Derived.{descendants};
 
 use crate::plain::PlainTree;
-use cg_name::path::Path;
-use cg_text::settings::Settings;
+use cg_name::Path;
+use cg_text::Settings;
 use std::collections::BTreeMap;
 
 impl PlainTree {

@@ -7,10 +7,9 @@ ghost use Rattle.cg_world.specs.World.{cpus_fit_one, fits_version_one, settings_
 
 use crate::plain::PlainTree;
 use crate::version::Version;
-use cg_cpus::cpu_set::CpuSet;
-use cg_name::path::Path;
-use cg_text::limit::Limit;
-use cg_text::settings::Settings;
+use cg_cpus::CpuSet;
+use cg_name::Path;
+use cg_text::{Limit, Settings};
 use std::collections::BTreeMap;
 
 impl PlainTree {

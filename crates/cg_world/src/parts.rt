@@ -12,13 +12,9 @@ ghost use Rattle.cg_world.specs.Version.{last_cpu};
 ghost use Rattle.cg_world.specs.Parts.{SpellsSettings};
 
 use crate::version::Version;
-use cg_cpus::cpu_set::CpuSet;
-use cg_name::controller::Controller;
-use cg_name::refusal::Refusal;
-use cg_text::controllers::Controllers;
-use cg_text::limit::Limit;
-use cg_text::reading::{read_flag, read_limit};
-use cg_text::settings::Settings;
+use cg_cpus::CpuSet;
+use cg_name::{Controller, Refusal};
+use cg_text::{Controllers, Limit, Settings, read_flag, read_limit};
 
 // Adds the controller of that name; `Syntax` where there is none, or the set has it.
 fn add_controller(set: &mut Controllers, name: &str) -> Result<(), Refusal>

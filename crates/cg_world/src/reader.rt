@@ -10,8 +10,8 @@ ghost use Rattle.cg_world.specs.Reader.{BeginTree, HasTaken, SomeEnds, SpellTree
 use crate::stage::Stage;
 use crate::statement::Statement;
 use crate::world::World;
-use cg_name::refusal::Refusal;
-use cg_text::words::read_words;
+use cg_name::Refusal;
+use cg_text::read_words;
 use std::alloc::Global;
 use std::marker::Model;
 

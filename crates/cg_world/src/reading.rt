@@ -7,7 +7,7 @@ ghost use Rattle.cg_world.specs.World.{SpellsWorld};
 
 use crate::reader::WorldReader;
 use crate::world::World;
-use cg_name::refusal::Refusal;
+use cg_name::Refusal;
 use std::alloc::Global;
 
 // The most bytes of a world text.

@@ -7,9 +7,8 @@ ghost use Rattle.cg_model.specs.Sound.{Sound, IsChildOf, IsRootOf};
 ghost use Rattle.cg_world.specs.Soundness.{HasSoundRoot, HasSoundGroups, HasSoundPlaces, IsSoundGroup, IsSoundPlace};
 
 use crate::plain::PlainTree;
-use cg_name::path::Path;
-use cg_name::refusal::Refusal;
-use cg_text::settings::Settings;
+use cg_name::{Path, Refusal};
+use cg_text::Settings;
 use std::alloc::{AllocError, Global};
 
 impl PlainTree {

@@ -10,10 +10,8 @@ ghost use Rattle.cg_world.specs.World.{IsPid};
 use crate::plain::PlainTree;
 use crate::statement::Statement;
 use crate::version::Version;
-use cg_name::path::Path;
-use cg_name::refusal::Refusal;
-use cg_text::controllers::Controllers;
-use cg_text::settings::Settings;
+use cg_name::{Path, Refusal};
+use cg_text::{Controllers, Settings};
 use std::alloc::Global;
 
 /// What was read of a world text so far.

@@ -8,12 +8,9 @@ ghost use Rattle.cg_world.specs.Statement.{SpellsStatement};
 
 use crate::parts::{read_controllers, read_cpus, read_settings};
 use crate::version::Version;
-use cg_cpus::cpu_set::CpuSet;
-use cg_name::path::Path;
-use cg_name::refusal::Refusal;
-use cg_text::controllers::Controllers;
-use cg_text::reading::read_pid;
-use cg_text::settings::Settings;
+use cg_cpus::CpuSet;
+use cg_name::{Path, Refusal};
+use cg_text::{Controllers, Settings, read_pid};
 use std::alloc::Global;
 
 /// What one line of a world text says.

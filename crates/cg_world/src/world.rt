@@ -7,10 +7,9 @@ ghost use Rattle.cg_model.specs.Tree.{group, place_of};
 ghost use Rattle.cg_world.specs.World.{IsRepresentable};
 
 use crate::plain::PlainTree;
-use cg_cpus::cpu_set::CpuSet;
-use cg_name::path::Path;
-use cg_text::controllers::Controllers;
-use cg_text::settings::Settings;
+use cg_cpus::CpuSet;
+use cg_name::Path;
+use cg_text::{Controllers, Settings};
 use std::alloc::{AllocError, Global};
 use std::marker::Model;
 

@@ -6,10 +6,8 @@ mod host;
 
 use crate::host::Host;
 use cg_command_line::{Asked, Unasked, read_words};
-use cg_program::named::replay_named;
-use cg_program::replaying::stop;
-use cg_script::device::FromWrite;
-use cg_script::fault::ScriptFault;
+use cg_program::{replay_named, stop};
+use cg_script::{FromWrite, ScriptFault};
 use std::process::ExitCode;
 use std::{env, io};
 

@@ -1,0 +1,84 @@
+use Rattle.std.proofs.Common.{sym, subst, ◌∙◌}
+use Rattle.std.specs.Io.KnownBytes.{Appends}
+use Rattle.std.proofs.lemmas.Result.{err_from_is_err_and, on_ok_weaker, on_err_weaker}
+use Rattle.cg_script.specs.Device.{AppendsFront}
+use Rattle.cg_script.specs.Lines.{pending}
+use Rattle.cg_script.proofs.DeviceLemmas.{AppendsFront-whole}
+use Rattle.cg_script.proofs.OneLine.{on_any_err, when_err, when_ok}
+use Rattle.cg_script.proofs.WorldLemmas.{err_handed_on}
+use Rattle.cg_script.proofs.Playing.{answers_passed, front_waiting, front_end, whole_end, plays_known_more, plays_known_on, shown_at_end}
+use Rattle.cg_script.proofs.schedule.play.Goals as goal
+
+pub returns-in_err-answer_next-clause-front : goal.returns-in_err-answer_next-clause-front
+returns-in_err-answer_next-clause-front g c =
+    on_any_err c.from_residual.result
+    (front_waiting c.args.player.now c.lines.player (pending c.args.reader.now) (pending c.lines.reader) (g.K.Sink.taken c.args.sink.now) (g.K.Sink.taken c.lines.sink) (g.K.Sink.taken c.answer_next.new.sink)
+    c.lines.out.items c.lines.invariant.plays c.in_err-answer_next.ensures.front)
+
+pub returns-in_err-answer_next-clause-passed : goal.returns-in_err-answer_next-clause-passed
+returns-in_err-answer_next-clause-passed g c = λ broken.
+    let p = err_from_is_err_and c.from_residual.result c.from_residual.ensures.1 in
+    let same = err_handed_on c.from_residual.result p.0 c.in_err-answer_next.field-0.0 _ p.1 p.2 broken in
+    answers_passed c.args.player.now c.lines.player (pending c.args.reader.now) (pending c.lines.reader) (pending c.answer_next.new.reader) (g.K.Sink.taken c.args.sink.now) (g.K.Sink.taken c.lines.sink)
+    (g.K.Sink.taken c.answer_next.new.sink) c.lines.out.items c.lines.invariant.plays (c.in_err-answer_next.ensures.loses same) (c.in_err-answer_next.ensures.sent same)
+
+pub lines-preserved : goal.lines-preserved
+lines-preserved g c = record {
+  failed = c.in_ok-answer_next.ensures.counted ∙ c.lines.invariant.failed;
+  plays =
+      plays_known_more c.args.player.now c.lines.player c.answer_next.new.player (pending c.args.reader.now) (pending c.lines.reader) (pending c.answer_next.new.reader) (g.K.Sink.taken c.args.sink.now)
+      (g.K.Sink.taken c.lines.sink) (g.K.Sink.taken c.answer_next.new.sink) c.lines.out.items c.answer_next.new.out.items c.lines.invariant.plays (c.in_ok-answer_next.ensures.answered c.if-branch.true);
+}
+
+pub returns-in_err-send-clause-front : goal.returns-in_err-send-clause-front
+returns-in_err-send-clause-front g c =
+    let between = g.K.Sink.taken c.answer_next.new.sink in
+    let ended = c.in_ok-answer_next.ensures.ended c.if-branch.false in
+    let plays =
+    plays_known_on c.args.player.now c.lines.player (pending c.args.reader.now) (pending c.lines.reader) (g.K.Sink.taken c.args.sink.now) (g.K.Sink.taken c.lines.sink) between c.lines.out.items
+    c.answer_next.new.out.items c.lines.invariant.plays ended.2 in
+    let unchanged = when_err c.end.result (sym c.is_err.ensures.value ∙ c.if-is_err.true) c.end.ensures.err in
+    on_any_err c.from_residual-in_err-send.result
+    (front_waiting c.args.player.now c.lines.player (pending c.args.reader.now) (pending c.lines.reader) (g.K.Sink.taken c.args.sink.now) between (g.K.Sink.taken c.send.new.sink) c.answer_next.new.out.items plays
+    (subst (λ l. AppendsFront between (g.K.Sink.taken c.send.new.sink) l) unchanged c.in_err-send.ensures.front))
+
+pub returns-then-is_err-clause-front : goal.returns-then-is_err-clause-front
+returns-then-is_err-clause-front g c =
+    let between = g.K.Sink.taken c.answer_next.new.sink in
+    let ended = c.in_ok-answer_next.ensures.ended c.if-branch.false in
+    let plays =
+    plays_known_on c.args.player.now c.lines.player (pending c.args.reader.now) (pending c.lines.reader) (g.K.Sink.taken c.args.sink.now) (g.K.Sink.taken c.lines.sink) between c.lines.out.items
+    c.answer_next.new.out.items c.lines.invariant.plays ended.2 in
+    let unchanged = when_err c.end.result (sym c.is_err.ensures.value ∙ c.if-is_err.true) c.end.ensures.err in
+    front_waiting c.args.player.now c.lines.player (pending c.args.reader.now) (pending c.lines.reader) (g.K.Sink.taken c.args.sink.now) between (g.K.Sink.taken c.send.new.sink) c.answer_next.new.out.items plays
+    (AppendsFront-whole between (g.K.Sink.taken c.send.new.sink) c.answer_next.new.out.items (subst (λ l. Appends between (g.K.Sink.taken c.send.new.sink) l) unchanged c.in_ok-send.ensures.sent))
+
+pub returns-clause-front : goal.returns-clause-front
+returns-clause-front g c =
+    let between = g.K.Sink.taken c.answer_next.new.sink in
+    let ended = c.in_ok-answer_next.ensures.ended c.if-branch.false in
+    let plays =
+    plays_known_on c.args.player.now c.lines.player (pending c.args.reader.now) (pending c.lines.reader) (g.K.Sink.taken c.args.sink.now) (g.K.Sink.taken c.lines.sink) between c.lines.out.items
+    c.answer_next.new.out.items c.lines.invariant.plays ended.2 in
+    let shown = when_ok c.end.result (sym c.is_err.ensures.value ∙ c.if-is_err.false) c.end.ensures.ok in
+    let bytes = shown_at_end c.lines.player c.answer_next.new.player c.answer_next.new.out.items c.end.new.out.items ended.1 shown in
+    on_err_weaker c.send-2.result
+    (λ front.
+    front_end c.args.player.now c.lines.player (pending c.args.reader.now) (pending c.lines.reader) (g.K.Sink.taken c.args.sink.now) between (g.K.Sink.taken c.send-2.new.sink) c.answer_next.new.out.items plays
+    ended.0 (subst (λ l. AppendsFront between (g.K.Sink.taken c.send-2.new.sink) l) bytes front))
+    c.send-2.ensures.front
+
+pub returns-clause-output : goal.returns-clause-output
+returns-clause-output g c =
+    let between = g.K.Sink.taken c.answer_next.new.sink in
+    let ended = c.in_ok-answer_next.ensures.ended c.if-branch.false in
+    let plays =
+    plays_known_on c.args.player.now c.lines.player (pending c.args.reader.now) (pending c.lines.reader) (g.K.Sink.taken c.args.sink.now) (g.K.Sink.taken c.lines.sink) between c.lines.out.items
+    c.answer_next.new.out.items c.lines.invariant.plays ended.2 in
+    let shown = when_ok c.end.result (sym c.is_err.ensures.value ∙ c.if-is_err.false) c.end.ensures.ok in
+    let bytes = shown_at_end c.lines.player c.answer_next.new.player c.answer_next.new.out.items c.end.new.out.items ended.1 shown in
+    on_ok_weaker c.send-2.result
+    (λ sent.
+    whole_end c.args.player.now c.lines.player (pending c.args.reader.now) (pending c.lines.reader) (g.K.Sink.taken c.args.sink.now) between (g.K.Sink.taken c.send-2.new.sink) c.answer_next.new.out.items plays
+    ended.0 (subst (λ l. Appends between (g.K.Sink.taken c.send-2.new.sink) l) bytes sent))
+    c.send-2.ensures.sent

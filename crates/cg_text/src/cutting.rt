@@ -1,0 +1,163 @@
+//! How a line of a text is cut into words. A word is bare, of bytes that are neither blanks nor quotation marks nor
+//! backslashes, or it stands between quotation marks, where it may have blanks. A blank is a space or a tab.
+ghost use Rattle.std.specs.Prelude.{◌≡◌, ◌↔◌, ◌∷◌, IfErr, IfOk, IsTrue, List, MatchOption, Option, false, map, true, ℕ};
+ghost use Rattle.std.specs.Option.{option_map};
+ghost use Rattle.std.specs.Result.{IsErrOf};
+ghost use Rattle.std.specs.Str.Lines.{strip_carriage_return};
+ghost use Rattle.cg_name.specs.Refusal.{IsSyntaxOrMemory};
+ghost use Rattle.cg_name.specs.Word.{is_bare_byte, is_blank};
+ghost use Rattle.cg_text.specs.Cutting.{BeginsWith, Closes, behind, is_escaped, starts_blank};
+ghost use Rattle.cg_text.specs.Words.{Cuts, EndsWord, Line, Says, Word, is_silent};
+
+use cg_name::{Refusal, is_bare_byte};
+use std::alloc::Global;
+
+/// The most bytes of a line, its newline left out.
+pub const LONGEST_LINE: usize = 65_536;
+
+/// The words of a line, as they stand in it, with their quotation marks. Blanks separate them, and may stand before
+/// the first and behind the last. Between quotation marks a backslash stands before a quotation mark, a backslash or
+/// an `n`, for a newline, and before nothing else. `Syntax` where a quotation mark isn't closed, where a bare word has
+/// a mark, or where something but a blank stands behind a word.
+pub fn words(alloc: Global, line: &str) -> Result<Vec<&str>, Refusal>
+    ensures value { IfOk result (λ words. Cuts line.now (map (λ w. w.now) words.items)) }
+    ensures syntax { IsErrOf result Refusal.Syntax → (ws : List Word) → Cuts line.now ws → ⊥ }
+    ensures refusals { IfErr result IsSyntaxOrMemory }
+{
+    let mut words = Vec::new(alloc);
+    let mut rest = behind_blanks(line);
+    while !rest.is_empty() {
+        let Some((word, others)) = cut_word(rest) else {
+            return Err(Refusal::Syntax);
+        };
+        words.push(word)?;
+        rest = behind_blanks(others);
+    }
+    Ok(words)
+}
+
+/// What a line says: its words, or `None` where it says nothing, since it has no byte past its blanks, or a number
+/// sign, whatever stands behind that. One carriage return at the line's end is dropped. A line that is too long or
+/// isn't UTF-8 is `Syntax`, one that says nothing too, and so is a line that can't be cut into words.
+pub fn read_words(alloc: Global, line: &[u8]) -> Result<Option<Vec<&str>>, Refusal>
+    ensures value { IfOk result (λ said. Says line.now (option_map (λ words. map (λ w. w.now) words.items) said)) }
+    ensures syntax { IsErrOf result Refusal.Syntax → (said : Option (List Word)) → Says line.now said → ⊥ }
+    ensures refusals { IfErr result IsSyntaxOrMemory }
+{
+    if line.len() > LONGEST_LINE {
+        return Err(Refusal::Syntax);
+    }
+    let Ok(line) = std::str::from_utf8(without_carriage_return(line)) else {
+        return Err(Refusal::Syntax);
+    };
+    if is_silent(line) {
+        return Ok(None);
+    }
+    Ok(Some(words(alloc, line)?))
+}
+
+/// The line without one carriage return at its end.
+fn without_carriage_return(line: &[u8]) -> &[u8]
+    ensures { result.now ≡ strip_carriage_return line.now }
+{
+    match line {
+        [front @ .., b'\r'] => front,
+        _ => line,
+    }
+}
+
+/// Whether there is no byte past the line's blanks, or a number sign.
+fn is_silent(line: &str) -> bool
+    ensures { result ≡ is_silent line.now }
+{
+    match behind_blanks(line).as_bytes().first() {
+        None => true,
+        Some(byte) => *byte == b'#',
+    }
+}
+
+/// The text behind the blanks at its front.
+fn behind_blanks(text: &str) -> &str
+    ensures { result.now ≡ behind is_blank text.now }
+{
+    let mut rest = text;
+    while starts_blank(rest) {
+        rest = &rest[1..];
+    }
+    rest
+}
+
+/// The first word and what stands behind it, where the text begins with a word that a blank or the text's end
+/// follows.
+fn cut_word(text: &str) -> Option<(&str, &str)>
+    ensures { MatchOption result ((word : Word) (rest : Line) → BeginsWith text.now word rest → ⊥) (λ cut. BeginsWith text.now cut.0.now cut.1.now) }
+{
+    let rest = behind_word(text.as_bytes())?;
+    Some(text.split_at(text.len() - rest.len()))
+}
+
+/// What stands behind the first word.
+fn behind_word(text: &[u8]) -> Option<&[u8]>
+    ensures { MatchOption result ((word : Word) (rest : Line) → BeginsWith text.now word rest → ⊥) (λ rest. (word : Word) × BeginsWith text.now word rest.now) }
+{
+    let (first, others) = text.split_first()?;
+    let rest = match *first {
+        b'"' => behind_quoted(others)?,
+        byte if is_bare_byte(byte) => behind_bare(others),
+        _ => return None,
+    };
+    ends_word(rest).then_some(rest)
+}
+
+/// What stands behind the closing quotation mark of a text that follows an opening one.
+fn behind_quoted(text: &[u8]) -> Option<&[u8]>
+    ensures { MatchOption result ((rest : Line) → Closes text.now rest → ⊥) (λ rest. Closes text.now rest.now) }
+{
+    let mut rest = text;
+    while let Some((byte, others)) = rest.split_first() {
+        rest = match *byte {
+            b'"' => return Some(others),
+            b'\\' => behind_escaped(others)?,
+            _ => others,
+        };
+    }
+    None
+}
+
+/// What stands behind the byte that a backslash escapes.
+fn behind_escaped(text: &[u8]) -> Option<&[u8]>
+    ensures { MatchOption result ((byte : ℕ) (rest : Line) → text.now ≡ byte ∷ rest → is_escaped byte ≡ false) (λ rest. (byte : ℕ) × (text.now ≡ byte ∷ rest.now) × (is_escaped byte ≡ true)) }
+{
+    match text.split_first()? {
+        (b'"' | b'\\' | b'n', rest) => Some(rest),
+        _ => None,
+    }
+}
+
+/// The text behind the bytes at its front that a bare word may have.
+fn behind_bare(text: &[u8]) -> &[u8]
+    ensures { result.now ≡ behind is_bare_byte text.now }
+{
+    let mut rest = text;
+    while let [byte, others @ ..] = rest {
+        if !is_bare_byte(*byte) {
+            return rest;
+        }
+        rest = others;
+    }
+    rest
+}
+
+/// Whether the text begins with a blank.
+fn starts_blank(text: &str) -> bool
+    ensures { result ≡ starts_blank text.now }
+{
+    matches!(text.as_bytes(), [b' ' | b'\t', ..])
+}
+
+/// Whether a word may end before the text: it is empty or begins with a blank.
+fn ends_word(text: &[u8]) -> bool
+    ensures { IsTrue result ↔ EndsWord text.now }
+{
+    matches!(text, [] | [b' ' | b'\t', ..])
+}
