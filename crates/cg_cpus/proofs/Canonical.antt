@@ -9,8 +9,8 @@ use Rattle.std.proofs.lemmas.List.Splits.{slice_split_none, slice_split_at}
 use Rattle.std.proofs.lemmas.Str.Parse.{digit_from_value}
 use Rattle.cg_maps.specs.FiniteSet.{FiniteSet, has, members, no_members}
 use Rattle.cg_maps.proofs.Sets.{has-members, same_set, has-no_members}
-use Rattle.cg_cpus.specs.CpuList.{is_blank, without_leading_blanks, without_trailing_blanks, IsCpuNumber, SpellsRange, IsElement, StandsFor, SpellsElements, SpellsTrimmed, onto_runs, runs, run_text, cpus_text}
-use Rattle.cg_cpus.specs.Blanks.{starts_blank}
+use Rattle.cg_cpus.specs.CpuList.{is_white_space, without_leading_white_space, without_trailing_white_space, IsCpuNumber, SpellsRange, IsElement, StandsFor, SpellsElements, SpellsTrimmed, onto_runs, runs, run_text, cpus_text}
+use Rattle.cg_cpus.specs.WhiteSpace.{starts_white}
 use Rattle.cg_cpus.specs.Laws.{CanonicalSpells}
 use Rattle.cg_cpus.proofs.Ranges.{one_range}
 use Rattle.cg_cpus.proofs.Trimmed.{front_end, back_end, last_test}
@@ -187,20 +187,20 @@ cut e (f ∷ es) h = slice_split_at (λ c. c == 44) e 44 (join_with_byte 44 (f �
 
 -- ---- no blanks at the ends
 
-not_blank : (b : ℕ) → IsListByte b → is_blank b ≡ false
+not_white : (b : ℕ) → IsListByte b → is_white_space b ≡ false
 unfolding IsListByte
-not_blank b h = let l = h.0 in grind (arith, nat_tests)
+not_white b h = let l = h.0 in grind (arith, nat_tests)
 
-front : (bs : List ℕ) → AllByRecursion IsListByte bs → starts_blank bs ≡ false
+front : (bs : List ℕ) → AllByRecursion IsListByte bs → starts_white bs ≡ false
 front [] h = refl
-front (b ∷ bs) h = not_blank b h.0
+front (b ∷ bs) h = not_white b h.0
 
-back : (bs : List ℕ) → AllByRecursion IsListByte bs → starts_blank (reverse bs) ≡ false
+back : (bs : List ℕ) → AllByRecursion IsListByte bs → starts_white (reverse bs) ≡ false
 back [] h = refl
-back (b ∷ bs) h = last_test (b ∷ bs) (omega arith) ∙ not_blank _ (all_by_index IsListByte (b ∷ bs) h (length (b ∷ bs) - 1) 0 (omega arith))
+back (b ∷ bs) h = last_test (b ∷ bs) (omega arith) ∙ not_white _ (all_by_index IsListByte (b ∷ bs) h (length (b ∷ bs) - 1) 0 (omega arith))
 
-untrimmed : (bs : List ℕ) → AllByRecursion IsListByte bs → without_trailing_blanks (without_leading_blanks bs) ≡ bs
-untrimmed bs h = ap without_trailing_blanks (front_end bs (front bs h)) ∙ back_end bs (back bs h)
+untrimmed : (bs : List ℕ) → AllByRecursion IsListByte bs → without_trailing_white_space (without_leading_white_space bs) ≡ bs
+untrimmed bs h = ap without_trailing_white_space (front_end bs (front bs h)) ∙ back_end bs (back bs h)
 
 -- ---- the law
 

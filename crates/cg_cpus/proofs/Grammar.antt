@@ -5,7 +5,7 @@ use Rattle.std.specs.List.{All, Any, slice_split}
 use Rattle.std.proofs.lemmas.List.Quantifiers.{Any-push}
 use Rattle.cg_maps.specs.FiniteSet.{FiniteSet, has, no_members}
 use Rattle.cg_maps.proofs.Sets.{same_set, has-no_members}
-use Rattle.cg_cpus.specs.CpuList.{SpellsRange, IsElement, StandsFor, SpellsElements, SpellsTrimmed, without_leading_blanks, without_trailing_blanks}
+use Rattle.cg_cpus.specs.CpuList.{SpellsRange, IsElement, StandsFor, SpellsElements, SpellsTrimmed, without_leading_white_space, without_trailing_white_space}
 use Rattle.cg_cpus.specs.Laws.{OneSet}
 use Rattle.cg_cpus.proofs.Ranges.{one_range, ordered}
 
@@ -84,7 +84,7 @@ spelled_below (b ∷ bs) s h n m =
 
 -- a text spells one set
 pub one_set : OneSet
-one_set text s t = trimmed (without_trailing_blanks (without_leading_blanks text))
+one_set text s t = trimmed (without_trailing_white_space (without_leading_white_space text))
   where
     equal : (b c : Bool) → (IsTrue b → IsTrue c) → (IsTrue c → IsTrue b) → b ≡ c
     equal true c f g = sym (f refl)

@@ -3,27 +3,27 @@ use Rattle.std.proofs.Common.{◌≡◌, ℕ, suc, ◌-◌, ◌<◌, true, false
 use Rattle.std.proofs.lemmas.List.{reverse-append, reverse-reverse}
 use Rattle.std.proofs.lemmas.Bool.Decides.{nat_tests}
 use Rattle.std.proofs.Math.Seq.{take-suc, take-length}
-use Rattle.cg_cpus.specs.CpuList.{is_blank, without_leading_blanks, without_trailing_blanks}
-use Rattle.cg_cpus.specs.Blanks.{starts_blank}
+use Rattle.cg_cpus.specs.CpuList.{is_white_space, without_leading_white_space, without_trailing_white_space}
+use Rattle.cg_cpus.specs.WhiteSpace.{starts_white}
 
-pub blank_is_ascii : (b : ℕ) → is_blank b ≡ true → b < 128
-blank_is_ascii b e = grind (arith, nat_tests)
+pub white_is_ascii : (b : ℕ) → is_white_space b ≡ true → b < 128
+white_is_ascii b e = grind (arith, nat_tests)
 
-pub nonempty : (bs : List ℕ) → starts_blank bs ≡ true → 0 < length bs
+pub nonempty : (bs : List ℕ) → starts_white bs ≡ true → 0 < length bs
 nonempty [] e = absurd (true≢false (sym e))
 nonempty (b ∷ bs) e = omega arith
 
-pub first_is_blank : (bs : List ℕ) → starts_blank bs ≡ true → is_blank (get_or bs 0 0) ≡ true
-first_is_blank [] e = absurd (true≢false (sym e))
-first_is_blank (b ∷ bs) e = e
+pub first_is_white : (bs : List ℕ) → starts_white bs ≡ true → is_white_space (get_or bs 0 0) ≡ true
+first_is_white [] e = absurd (true≢false (sym e))
+first_is_white (b ∷ bs) e = e
 
-pub front_step : (bs : List ℕ) → starts_blank bs ≡ true → without_leading_blanks (drop 1 bs) ≡ without_leading_blanks bs
+pub front_step : (bs : List ℕ) → starts_white bs ≡ true → without_leading_white_space (drop 1 bs) ≡ without_leading_white_space bs
 front_step [] e = refl
-front_step (b ∷ bs) e = sym (ap (λ t. cond t (without_leading_blanks bs) (b ∷ bs)) e)
+front_step (b ∷ bs) e = sym (ap (λ t. cond t (without_leading_white_space bs) (b ∷ bs)) e)
 
-pub front_end : (bs : List ℕ) → starts_blank bs ≡ false → without_leading_blanks bs ≡ bs
+pub front_end : (bs : List ℕ) → starts_white bs ≡ false → without_leading_white_space bs ≡ bs
 front_end [] e = refl
-front_end (b ∷ bs) e = ap (λ t. cond t (without_leading_blanks bs) (b ∷ bs)) e
+front_end (b ∷ bs) e = ap (λ t. cond t (without_leading_white_space bs) (b ∷ bs)) e
 
 -- a text is its front and its last byte
 snoc : (bs : List ℕ) → 0 < length bs → bs ≡ take (length bs - 1) bs ++ get_or bs (length bs - 1) 0 ∷ []
@@ -34,19 +34,19 @@ snoc bs l =
 pub reversed : (bs : List ℕ) → 0 < length bs → reverse bs ≡ get_or bs (length bs - 1) 0 ∷ reverse (take (length bs - 1) bs)
 reversed bs l = ap reverse (snoc bs l) ∙ reverse-append (take (length bs - 1) bs) (get_or bs (length bs - 1) 0 ∷ [])
 
-pub reversed_nonempty : (bs : List ℕ) → starts_blank (reverse bs) ≡ true → 0 < length bs
+pub reversed_nonempty : (bs : List ℕ) → starts_white (reverse bs) ≡ true → 0 < length bs
 reversed_nonempty [] e = absurd (true≢false (sym e))
 reversed_nonempty (b ∷ bs) e = omega arith
 
 -- the test of the last byte
-pub last_test : (bs : List ℕ) → 0 < length bs → starts_blank (reverse bs) ≡ is_blank (get_or bs (length bs - 1) 0)
-last_test bs l = ap starts_blank (reversed bs l)
+pub last_test : (bs : List ℕ) → 0 < length bs → starts_white (reverse bs) ≡ is_white_space (get_or bs (length bs - 1) 0)
+last_test bs l = ap starts_white (reversed bs l)
 
-pub back_step : (bs : List ℕ) → starts_blank (reverse bs) ≡ true → without_trailing_blanks (take (length bs - 1) bs) ≡ without_trailing_blanks bs
+pub back_step : (bs : List ℕ) → starts_white (reverse bs) ≡ true → without_trailing_white_space (take (length bs - 1) bs) ≡ without_trailing_white_space bs
 back_step bs e =
     let l : 0 < length bs = reversed_nonempty bs e in
-    sym (ap (λ rs. reverse (without_leading_blanks rs)) (reversed bs l)
-    ∙ ap (λ t. reverse (cond t (without_leading_blanks (reverse (take (length bs - 1) bs))) (get_or bs (length bs - 1) 0 ∷ reverse (take (length bs - 1) bs)))) (sym (last_test bs l) ∙ e))
+    sym (ap (λ rs. reverse (without_leading_white_space rs)) (reversed bs l)
+    ∙ ap (λ t. reverse (cond t (without_leading_white_space (reverse (take (length bs - 1) bs))) (get_or bs (length bs - 1) 0 ∷ reverse (take (length bs - 1) bs)))) (sym (last_test bs l) ∙ e))
 
-pub back_end : (bs : List ℕ) → starts_blank (reverse bs) ≡ false → without_trailing_blanks bs ≡ bs
+pub back_end : (bs : List ℕ) → starts_white (reverse bs) ≡ false → without_trailing_white_space bs ≡ bs
 back_end bs e = ap reverse (front_end (reverse bs) e) ∙ reverse-reverse bs

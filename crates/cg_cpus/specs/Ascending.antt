@@ -3,6 +3,7 @@ use Rattle.std.specs.Prelude.{ℕ, zero, suc, ◌+◌, ◌-◌, Bool, cond, List
 use Rattle.std.specs.List.{join_with_byte}
 use Rattle.cg_maps.specs.FiniteSet.{FiniteSet, has}
 use Rattle.cg_cpus.specs.CpuList.{runs, run_text}
+use Rattle.cg_cpus.specs.Separated.{separated}
 
 -- of the d numbers from k on, those that pass a test
 unfoldable pub passing : ℕ → ℕ → (ℕ → Bool) → List ℕ
@@ -13,11 +14,7 @@ passing k (suc d) p = cond (p k) (k ∷ passing (k + 1) d p) (passing (k + 1) d 
 unfoldable pub runs_from : FiniteSet → ℕ → List (ℕ × ℕ)
 runs_from s k = runs (passing k (1024 - k) (has s))
 
--- a text with a comma before it, unless it begins the list
-abbrev pub separated : Bool → List ℕ → List ℕ
-separated behind text = cond behind (44 ∷ text) text
-
 -- the text of runs, behind others or as the whole list
 abbrev pub text_behind : Bool → List (ℕ × ℕ) → List ℕ
 text_behind behind [] = []
-text_behind behind (r ∷ rs) = separated behind (join_with_byte 44 (map run_text (r ∷ rs)))
+text_behind behind (r ∷ rs) = separated 44 behind (join_with_byte 44 (map run_text (r ∷ rs)))

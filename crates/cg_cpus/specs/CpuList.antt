@@ -5,22 +5,22 @@ use Rattle.std.specs.Str.Parse.{IsNumeral, digits_value}
 use Rattle.std.specs.Fmt.{decimal}
 use Rattle.cg_maps.specs.FiniteSet.{FiniteSet, has, members, no_members}
 
--- a space, a tab or a newline
-abbrev pub is_blank : ℕ → Bool
-is_blank b = (b == 32) || (b == 9) || (b == 10)
+-- white space: a space, a tab or a newline
+abbrev pub is_white_space : ℕ → Bool
+is_white_space b = (b == 32) || (b == 9) || (b == 10)
 
--- the text behind its leading blanks
-abbrev pub without_leading_blanks : List ℕ → List ℕ
-without_leading_blanks [] = []
-without_leading_blanks (b ∷ bs) = if is_blank b then without_leading_blanks bs else b ∷ bs
+-- the text behind its leading white space
+abbrev pub without_leading_white_space : List ℕ → List ℕ
+without_leading_white_space [] = []
+without_leading_white_space (b ∷ bs) = if is_white_space b then without_leading_white_space bs else b ∷ bs
 
--- the text before its trailing blanks
-abbrev pub without_trailing_blanks : List ℕ → List ℕ
-without_trailing_blanks bs = reverse (without_leading_blanks (reverse bs))
+-- the text before its trailing white space
+abbrev pub without_trailing_white_space : List ℕ → List ℕ
+without_trailing_white_space bs = reverse (without_leading_white_space (reverse bs))
 
--- the text without the blanks at both ends
+-- the text without the white space at both ends
 abbrev pub trimmed : List ℕ → List ℕ
-trimmed text = without_trailing_blanks (without_leading_blanks text)
+trimmed text = without_trailing_white_space (without_leading_white_space text)
 
 -- a CPU number: decimal digits, leading zeros allowed, of a value of at most 1,023
 abbrev pub IsCpuNumber : List ℕ → ℕ → Type 0
@@ -49,7 +49,7 @@ abbrev pub SpellsTrimmed : List ℕ → FiniteSet → Type 0
 SpellsTrimmed [] s = s ≡ no_members
 SpellsTrimmed (b ∷ bs) s = SpellsElements (slice_split (λ c. c == 44) (b ∷ bs)) s
 
--- a text spells a set; blanks at both ends don't count
+-- a text spells a set; white space at both ends doesn't count
 abbrev pub SpellsCpus : List ℕ → FiniteSet → Type 0
 SpellsCpus text s = SpellsTrimmed (trimmed text) s
 

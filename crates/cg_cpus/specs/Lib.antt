@@ -1,6 +1,7 @@
 pub mod Words
 pub mod WordsBack
 pub mod CpuList
+pub mod Separated
 pub mod Ascending
-pub mod Blanks
+pub mod WhiteSpace
 pub mod Laws

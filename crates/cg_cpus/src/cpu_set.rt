@@ -8,12 +8,14 @@ ghost use Rattle.std.specs.Int.{bit_at};
 ghost use Rattle.cg_maps.specs.FiniteSet.{FiniteSet, has, in_common, is_empty_set, members, no_members, with_member};
 ghost use Rattle.cg_name.specs.declared.refusal.Refusal.TheVariants.{Syntax};
 ghost use Rattle.cg_cpus.specs.Ascending.{runs_from};
+ghost use Rattle.cg_name.specs.Reads.{Reads};
 ghost use Rattle.cg_cpus.specs.CpuList.{cpus_text, SpellsCpus};
 
 use crate::list;
-use cg_name::Refusal;
+use cg_name::{Refusal, or_truncate};
 use std::alloc::AllocError;
 use std::marker::Model;
+use std::str::FromStr;
 
 /// A set of CPU numbers, each from 0 to 1,023.
 #[derive(Clone, Copy, Debug)]
@@ -54,6 +56,25 @@ impl Eq for CpuSet {
     ghost laws = { Prim.search (comparing, rules) };
 }
 
+/// The set of no number.
+impl Default for CpuSet {
+    ghost is_default = { λ s. s ≡ no_members };
+
+    fn default() -> CpuSet {
+        CpuSet::empty()
+    }
+}
+
+impl FromStr for CpuSet {
+    type Err = Refusal;
+
+    ghost from_str_gives = { Reads SpellsCpus };
+
+    fn from_str(text: &str) -> Result<CpuSet, Refusal> {
+        CpuSet::read(text)
+    }
+}
+
 impl CpuSet {
     /// One more than the greatest number that a set can have.
     pub const LIMIT: u16 = 1024;
@@ -80,7 +101,7 @@ impl CpuSet {
         self.words.iter().all(|word| *word == 0)
     }
 
-    /// Puts the number in.
+    /// Puts in the number, which is at most 1,023.
     pub fn insert(&mut self, cpu: u16)
         requires { cpu < 1024 }
         ensures { self.new ≡ with_member self.old cpu }
@@ -88,7 +109,7 @@ impl CpuSet {
         self.words[usize::from(cpu / 64)] |= 1 << (cpu % 64);
     }
 
-    /// Puts in every number from the first to the last.
+    // Puts in every number from the first to the last.
     pub(crate) fn insert_range(&mut self, first: u16, last: u16)
         requires order { first ≤ last }
         requires below { last < 1024 }
@@ -183,19 +204,17 @@ impl CpuSet {
         list::read(text)
     }
 
-    /// Appends the set's list: its runs, ascending; An error, where there is no memory, leaves `out` as it was.
+    /// Appends the set's list: its runs, ascending, as `0-4,6`. An error, where there is no memory, leaves `out` as it
+    /// was.
     pub fn write(&self, out: &mut Vec<u8>) -> Result<(), AllocError>
-        ensures text { OnOk result (out.new.items ≡ out.old.items ++ cpus_text self.now) }
-        ensures unchanged { OnErr result (out.new.items ≡ out.old.items) }
+        ensures ok { OnOk result (out.new.items ≡ out.old.items ++ cpus_text self.now) }
+        ensures err { OnErr result (out.new.items ≡ out.old.items) }
         ensures below { (n : ℕ) → IsTrue (has self.now n) → n < 1024 }
     {
         // What is known of the words bounds the numbers.
         let _ = &self.words;
         let start = out.len();
         let written = list::append_runs(self, out);
-        if written.is_err() {
-            out.truncate(start);
-        }
-        written
+        or_truncate(written, start, out)
     }
 }

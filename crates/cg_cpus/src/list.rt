@@ -3,11 +3,12 @@ ghost use Rattle.std.specs.Prelude.{◌≡◌, ◌++◌, ◌<◌, ◌≤◌, IsT
 ghost use Rattle.std.specs.Result.{IsErrOf};
 ghost use Rattle.cg_maps.specs.FiniteSet.{FiniteSet, has};
 ghost use Rattle.cg_name.specs.declared.refusal.Refusal.TheVariants.{Syntax};
-ghost use Rattle.cg_cpus.specs.Ascending.{separated};
-ghost use Rattle.cg_cpus.specs.CpuList.{cpus_text, IsCpuNumber, run_text, SpellsCpus, SpellsRange, SpellsTrimmed, without_leading_blanks, without_trailing_blanks};
+ghost use Rattle.cg_cpus.specs.Separated.{separated};
+ghost use Rattle.cg_cpus.specs.CpuList.{cpus_text, IsCpuNumber, run_text, SpellsCpus, SpellsRange, SpellsTrimmed, without_leading_white_space, without_trailing_white_space};
 
-use crate::blanks::trim;
 use crate::cpu_set::CpuSet;
+use crate::digits::read_digits;
+use crate::white_space::trim;
 use cg_name::Refusal;
 use itoa::Buffer;
 use std::alloc::AllocError;
@@ -18,12 +19,11 @@ fn read_number(digits: &str) -> Result<u16, Refusal>
     ensures syntax { OnErr result ((n : ℕ) → IsCpuNumber digits.now n → ⊥) }
     ensures refusals { IfErr result (λ e. e ≡ Syntax) }
 {
-    if digits.starts_with('+') {
-        return Err(Refusal::Syntax);
-    }
-    match digits.parse::<u16>() {
-        Ok(number) if number < CpuSet::LIMIT => Ok(number),
-        _ => Err(Refusal::Syntax),
+    let number = read_digits(digits)?;
+    if number < u32::from(CpuSet::LIMIT) {
+        Ok(number as u16)
+    } else {
+        Err(Refusal::Syntax)
     }
 }
 
@@ -47,7 +47,7 @@ fn read_range(element: &str) -> Result<(u16, u16), Refusal>
     }
 }
 
-// The set of a list with no blanks around it.
+// The set of a list with no white space around it.
 fn read_elements(text: &str) -> Result<CpuSet, Refusal>
     ensures value { IfOk result (λ s. SpellsTrimmed text.now s) }
     ensures syntax { OnErr result ((s : FiniteSet) → SpellsTrimmed text.now s → ⊥) }
@@ -76,7 +76,7 @@ pub(crate) fn read(text: &str) -> Result<CpuSet, Refusal>
 
 // Appends a run, with a comma before it where it stands behind another; a refusal leaves what stood there at the front.
 fn append_run(behind: bool, first: u16, last: u16, out: &mut Vec<u8>) -> Result<(), AllocError>
-    ensures text { OnOk result (out.new.items ≡ out.old.items ++ separated behind (run_text (first, last))) }
+    ensures ok { OnOk result (out.new.items ≡ out.old.items ++ separated 44 behind (run_text (first, last))) }
     ensures kept { OnErr result (take (length out.old.items) out.new.items ≡ out.old.items) }
 {
     let mut buffer = Buffer::new();
@@ -94,7 +94,7 @@ fn append_run(behind: bool, first: u16, last: u16, out: &mut Vec<u8>) -> Result<
 // Appends the set's runs; a refusal leaves what stood there at the front.
 pub(crate) fn append_runs(set: &CpuSet, out: &mut Vec<u8>) -> Result<(), AllocError>
     requires { (n : ℕ) → IsTrue (has set.now n) → n < 1024 }
-    ensures text { OnOk result (out.new.items ≡ out.old.items ++ cpus_text set.now) }
+    ensures ok { OnOk result (out.new.items ≡ out.old.items ++ cpus_text set.now) }
     ensures kept { OnErr result (take (length out.old.items) out.new.items ≡ out.old.items) }
 {
     let mut next = 0;

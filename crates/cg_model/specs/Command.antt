@@ -4,7 +4,7 @@ use Rattle.std.specs.Prelude.{◌≡◌, ℕ, Bool, false, List}
 use Rattle.cg_maps.specs.FiniteSet.{FiniteSet, is_empty_set}
 use Rattle.cg_name.specs.Path.{Path}
 use Rattle.cg_text.specs.declared.control_ops.ControlOps.{ControlOps}
-use Rattle.cg_text.specs.declared.file_name.FileName.{FileName}
+use Rattle.cg_name.specs.declared.file_name.FileName.{FileName}
 use Rattle.cg_text.specs.declared.limit.Limit.{Limit}
 use Rattle.cg_model.specs.System.{Attempt, Refuse, Accept}
 use Rattle.cg_model.specs.Tree.{Tree}

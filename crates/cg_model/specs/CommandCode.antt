@@ -7,8 +7,8 @@ use Rattle.cg_maps.specs.Code.{set_code}
 use Rattle.cg_maps.specs.FiniteSet.{FiniteSet}
 use Rattle.cg_name.specs.Path.{Path}
 use Rattle.cg_text.specs.declared.control_ops.ControlOps.{ControlOps}
-use Rattle.cg_text.specs.declared.file_name.FileName.{FileName}
-use Rattle.cg_text.specs.declared.file_name.FileName.TheVariants as files
+use Rattle.cg_name.specs.declared.file_name.FileName.{FileName}
+use Rattle.cg_name.specs.declared.file_name.FileName.TheVariants as files
 use Rattle.cg_text.specs.declared.limit.Limit.{Limit}
 use Rattle.cg_text.proofs.Operations.{same_ops}
 use Rattle.cg_model.specs.Code.{limit_code, controllers_code, path_code}

@@ -2,7 +2,7 @@
 use Rattle.std.specs.Prelude.{◌≡◌, true, [], ◌∷◌, ◌++◌, codes}
 use Rattle.cg_name.specs.declared.controller.Controller.TheVariants as controllers
 use Rattle.cg_name.specs.declared.refusal.Refusal.TheVariants.{NoGroup, IsRoot, HasChildren, HasProcesses, NoProcess, Controlled, Unavailable, NoFile, TooMany, TooDeep, Exists, AlreadyOpen, NoTransaction}
-use Rattle.cg_text.specs.declared.file_name.FileName.TheVariants as files
+use Rattle.cg_name.specs.declared.file_name.FileName.TheVariants as files
 use Rattle.cg_model.specs.System.{Done, Text}
 use Rattle.cg_model.specs.Command.{Create, Remove, Migrate, Subtree, Freeze, Cpus, Show, Online, MaxDescendants, MaxDepth}
 use Rattle.cg_model.specs.History.{Begin, Do, Undo, Commit, Abort, Begun, Gave, Committed, Aborted, Refused}

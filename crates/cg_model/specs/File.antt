@@ -7,8 +7,8 @@ use Rattle.cg_name.specs.declared.refusal.Refusal.TheVariants.{NoGroup, NoFile}
 use Rattle.cg_text.specs.FileText.{controllers_text, pids_text, flag_text, events_text, cpus_line, limit_text}
 use Rattle.cg_text.specs.declared.controllers.Controllers.{Controllers}
 use Rattle.cg_text.specs.declared.settings.Settings.{Settings}
-use Rattle.cg_text.specs.declared.file_name.FileName.{FileName}
-use Rattle.cg_text.specs.declared.file_name.FileName.TheVariants as files
+use Rattle.cg_name.specs.declared.file_name.FileName.{FileName}
+use Rattle.cg_name.specs.declared.file_name.FileName.TheVariants as files
 use Rattle.cg_model.specs.Tree.{Tree, group}
 use Rattle.cg_model.specs.Derived.{processes, available, with_cpuset, is_frozen, is_populated, effective_cpus}
 

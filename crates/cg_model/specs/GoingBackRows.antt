@@ -3,7 +3,7 @@ use Rattle.std.specs.Prelude.{◌≡◌, true, false, [], ◌∷◌, ◌++◌, c
 use Rattle.cg_name.specs.declared.controller.Controller.TheVariants as controllers
 use Rattle.cg_name.specs.declared.refusal.Refusal.TheVariants.{Full, InUse, NoFile, NoSavepoint, NameTaken, NothingToUndo}
 use Rattle.cg_text.specs.Settings.{fresh}
-use Rattle.cg_text.specs.declared.file_name.FileName.TheVariants as files
+use Rattle.cg_name.specs.declared.file_name.FileName.TheVariants as files
 use Rattle.cg_model.specs.Tree.{Tree}
 use Rattle.cg_model.specs.Command.{Create, Remove, Subtree, Cpus, Show}
 use Rattle.cg_model.specs.History.{Begin, Do, Save, Back, Undo, Commit, Abort, Begun, Saved, WentBack, Committed, Aborted, Refused}

@@ -3,7 +3,7 @@ use Rattle.std.specs.Prelude.{◌≡◌, ℕ, List, [], ◌∷◌, ◌++◌, map
 use Rattle.cg_name.specs.Path.{Path}
 use Rattle.cg_name.specs.declared.refusal.Refusal.TheVariants.{Busy, NothingToUndo, HasProcesses, TooMany, TooDeep}
 use Rattle.cg_text.specs.Settings.{fresh}
-use Rattle.cg_text.specs.declared.file_name.FileName.TheVariants as files
+use Rattle.cg_name.specs.declared.file_name.FileName.TheVariants as files
 use Rattle.cg_text.specs.declared.limit.Limit.TheVariants.{Max}
 use Rattle.cg_text.specs.declared.settings.Settings.{Settings}
 use Rattle.cg_model.specs.System.{Done, Text}

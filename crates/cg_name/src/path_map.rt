@@ -13,7 +13,7 @@ use std::alloc::{AllocError, Global};
 use std::collections::BTreeMap;
 use std::collections::btree_map::Range;
 use std::marker::Model;
-use std::mem;
+use std::{fmt, mem};
 
 /// A map by paths, whose entries stand in the order of the paths. A look-up takes no memory and copies no path.
 #[derive(Drop)]
@@ -71,7 +71,7 @@ impl<V: Drop> PathMap<V> {
         self.entries.get(path.text())
     }
 
-    /// The value at the path of the first names, so many as there are up to that number, if there is one.
+    /// The value at the path of the first `depth` names, or of all where there are fewer, if there is one.
     pub fn get_prefix(&self, path: &Path, depth: u32) -> Option<&V>
         ensures { option_copied result ≡ get self.now (take depth path.now) }
     {
@@ -136,6 +136,24 @@ impl<V: Drop> PathMap<V> {
         Some(Entries {
             rest: self.entries.range(key..),
         })
+    }
+}
+
+impl<'a, V: Drop> IntoIterator for &'a PathMap<V> {
+    type Item = (PathRef<'a>, &'a V);
+
+    type IntoIter = Entries<'a, V>;
+
+    ghost into_iter_gives = { λ map es. es ≡ entries map.now };
+
+    fn into_iter(self) -> Entries<'a, V> {
+        self.iter()
+    }
+}
+
+impl<V: fmt::Debug + Drop> fmt::Debug for PathMap<V> {
+    fn fmt<W: fmt::Write>(&self, f: &mut fmt::Formatter<W>) -> fmt::Result {
+        f.debug_map().entries(self.iter()).finish()
     }
 }
 

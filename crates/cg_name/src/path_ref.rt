@@ -1,15 +1,17 @@
 //! A path that is borrowed from where it is kept.
-ghost use Rattle.std.specs.Prelude.{◌≡◌, ◌∷◌, ◌++◌, List, ℕ, IfOk, OnOk, OnErr, length, take, vec_len};
+ghost use Rattle.std.specs.Prelude.{◌≡◌, ◌∷◌, ◌++◌, List, ℕ, IfOk, OnOk, OnErr, length, take};
 ghost use Rattle.std.specs.List.{flat_map, list_all};
 ghost use Rattle.cg_name.specs.Packed.{names_in, packed_text, IsPacked};
 ghost use Rattle.cg_name.specs.Path.{is_root, is_prefix, path_word, IsPath};
 ghost use Rattle.cg_name.specs.Word.{is_plain_byte, quoted_byte};
 
+use crate::appending::or_truncate;
 use crate::names::Names;
 use crate::packed::{begins_with, count_names};
 use crate::path::Path;
 use crate::word::{append_escaped, are_plain};
 use std::alloc::{AllocError, Global};
+use std::fmt;
 use std::marker::Model;
 
 /// The path of a group, borrowed from a map or from a `Path`.
@@ -58,7 +60,7 @@ impl<'a> PathRef<'a> {
         Names::new(self.bytes)
     }
 
-    /// The path as one text: for each name a zero byte and the name's bytes.
+    /// The path as one text, of at most 16,384 bytes: for each name a zero byte and the name's bytes.
     pub fn as_bytes(&self) -> &'a [u8]
         ensures value { result.now ≡ packed_text self.now }
         ensures valid { IsPath self.now }
@@ -89,10 +91,13 @@ impl<'a> PathRef<'a> {
     {
         let start = out.len();
         let written = write_word(self, out);
-        if written.is_err() {
-            out.truncate(start);
-        }
-        written
+        or_truncate(written, start, out)
+    }
+}
+
+impl fmt::Debug for PathRef<'_> {
+    fn fmt<W: fmt::Write>(&self, f: &mut fmt::Formatter<W>) -> fmt::Result {
+        f.debug_list().entries(self.names()).finish()
     }
 }
 
@@ -101,7 +106,7 @@ impl<'a> PathRef<'a> {
 // The word of the path.
 fn write_word(path: &PathRef<'_>, out: &mut Vec<u8>) -> Result<(), AllocError>
     ensures ok { OnOk result (out.new.items ≡ out.old.items ++ path_word path.now) }
-    ensures kept { take (vec_len out.old) out.new.items ≡ out.old.items }
+    ensures kept { OnErr result (take (length out.old.items) out.new.items ≡ out.old.items) }
 {
     if path.is_root() {
         out.push(b'/')?;
@@ -126,7 +131,7 @@ fn has_plain_names(path: &PathRef<'_>) -> bool
 // Each name with a slash before it.
 fn write_names(path: &PathRef<'_>, out: &mut Vec<u8>) -> Result<(), AllocError>
     ensures ok { OnOk result (out.new.items ≡ out.old.items ++ flat_map (λ n. 47 ∷ n) path.now) }
-    ensures kept { take (vec_len out.old) out.new.items ≡ out.old.items }
+    ensures kept { OnErr result (take (length out.old.items) out.new.items ≡ out.old.items) }
 {
     for name in path.names() {
         out.push(b'/')?;
@@ -138,7 +143,7 @@ fn write_names(path: &PathRef<'_>, out: &mut Vec<u8>) -> Result<(), AllocError>
 // The same, as it stands between quotation marks.
 fn write_escaped_names(path: &PathRef<'_>, out: &mut Vec<u8>) -> Result<(), AllocError>
     ensures ok { OnOk result (out.new.items ≡ out.old.items ++ flat_map quoted_byte (flat_map (λ n. 47 ∷ n) path.now)) }
-    ensures kept { take (vec_len out.old) out.new.items ≡ out.old.items }
+    ensures kept { OnErr result (take (length out.old.items) out.new.items ≡ out.old.items) }
 {
     for name in path.names() {
         out.push(b'/')?;

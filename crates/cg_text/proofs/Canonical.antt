@@ -3,35 +3,35 @@ use Rattle.std.proofs.Common.{◌≡◌, Bool, true, false, cond, not, ◌||◌,
 use Rattle.std.specs.List.{All, list_all, join_with_byte}
 use Rattle.std.proofs.lemmas.List.Splits.{slice_split_none, slice_split_at}
 use Rattle.std.proofs.lemmas.List.Sums.{AllPass-from_list_all}
-use Rattle.cg_cpus.specs.CpuList.{is_blank}
+use Rattle.cg_cpus.specs.CpuList.{is_white_space}
 use Rattle.cg_name.specs.Controller.{controller_word}
 use Rattle.cg_name.specs.declared.controller.Controller.{Controller}
 use Rattle.cg_name.specs.declared.controller.Controller.TheVariants.{Cpuset, Cpu, Io, Memory, Hugetlb, Pids, Rdma, Misc}
 use Rattle.cg_text.specs.Controllers.{has, all_controllers, no_controllers}
 use Rattle.cg_text.specs.Laws.{OpsAreSpelled}
-use Rattle.cg_text.specs.Reading.{blank_words, no_ops, sign_byte, SpellsOpsAfter, with_op}
+use Rattle.cg_text.specs.Reading.{white_space_words, no_ops, sign_byte, SpellsOpsAfter, with_op}
 use Rattle.cg_text.specs.Words.{Word, is_filled}
 use Rattle.cg_text.specs.declared.control_ops.ControlOps.{ControlOps}
 use Rattle.cg_text.proofs.Operations.{same_ops}
 use Rattle.cg_text.proofs.Sets.{has_none, has_with, has_without, is, same_set}
 
 -- no byte of a name is a blank
-name_without_blanks : (c : Controller) → list_all (λ b. not (is_blank b)) (controller_word c) ≡ true
-name_without_blanks Cpuset = refl
-name_without_blanks Cpu = refl
-name_without_blanks Io = refl
-name_without_blanks Memory = refl
-name_without_blanks Hugetlb = refl
-name_without_blanks Pids = refl
-name_without_blanks Rdma = refl
-name_without_blanks Misc = refl
+name_without_white_space : (c : Controller) → list_all (λ b. not (is_white_space b)) (controller_word c) ≡ true
+name_without_white_space Cpuset = refl
+name_without_white_space Cpu = refl
+name_without_white_space Io = refl
+name_without_white_space Memory = refl
+name_without_white_space Hugetlb = refl
+name_without_white_space Pids = refl
+name_without_white_space Rdma = refl
+name_without_white_space Misc = refl
 
-word_without_blanks : (enables : Bool) (c : Controller) → list_all (λ b. not (is_blank b)) (cond enables 43 45 ∷ controller_word c) ≡ true
-word_without_blanks true c = name_without_blanks c
-word_without_blanks false c = name_without_blanks c
+word_without_white_space : (enables : Bool) (c : Controller) → list_all (λ b. not (is_white_space b)) (cond enables 43 45 ∷ controller_word c) ≡ true
+word_without_white_space true c = name_without_white_space c
+word_without_white_space false c = name_without_white_space c
 
-no_blanks : (enables : Bool) (c : Controller) → All (λ b. is_blank b ≡ false) (cond enables 43 45 ∷ controller_word c)
-no_blanks enables c = λ k d l. other (is_blank (get_or (cond enables 43 45 ∷ controller_word c) k d)) (AllPass-from_list_all (λ b. not (is_blank b)) (cond enables 43 45 ∷ controller_word c) (word_without_blanks enables c) k d l)
+no_white_space : (enables : Bool) (c : Controller) → All (λ b. is_white_space b ≡ false) (cond enables 43 45 ∷ controller_word c)
+no_white_space enables c = λ k d l. other (is_white_space (get_or (cond enables 43 45 ∷ controller_word c) k d)) (AllPass-from_list_all (λ b. not (is_white_space b)) (cond enables 43 45 ∷ controller_word c) (word_without_white_space enables c) k d l)
   where
     other : (b : Bool) → not b ≡ true → b ≡ false
     other true e = sym e
@@ -45,11 +45,11 @@ module _ (ops : ControlOps) where
   is_named c = has ops.plus c || has ops.minus c
 
   -- the words are cut as they were joined
-  cut : (cs : List Controller) → blank_words (join_with_byte 32 (map word cs)) ≡ map word cs
+  cut : (cs : List Controller) → white_space_words (join_with_byte 32 (map word cs)) ≡ map word cs
   cut [] = refl
-  cut (c ∷ []) = ap (filter is_filled) (slice_split_none is_blank (word c) (no_blanks (has ops.plus c) c))
+  cut (c ∷ []) = ap (filter is_filled) (slice_split_none is_white_space (word c) (no_white_space (has ops.plus c) c))
   cut (c ∷ d ∷ cs) =
-      ap (filter is_filled) (slice_split_at is_blank (word c) 32 (join_with_byte 32 (map word (d ∷ cs))) (no_blanks (has ops.plus c) c) refl)
+      ap (filter is_filled) (slice_split_at is_white_space (word c) 32 (join_with_byte 32 (map word (d ∷ cs))) (no_white_space (has ops.plus c) c) refl)
       ∙ ap (λ ws. word c ∷ ws) (cut (d ∷ cs))
 
   -- ---- what the words spell
@@ -154,7 +154,7 @@ module _ (ops : ControlOps) where
       (same_set (set_all all_controllers no_ops).plus ops.plus plus_is)
       (same_set (set_all all_controllers no_ops).minus ops.minus minus_is)
 
-  ops_spelled : SpellsOpsAfter no_ops (blank_words (join_with_byte 32 (map word (filter is_named all_controllers)))) ops
+  ops_spelled : SpellsOpsAfter no_ops (white_space_words (join_with_byte 32 (map word (filter is_named all_controllers)))) ops
   ops_spelled =
       subst (λ ws. SpellsOpsAfter no_ops ws ops) (sym (cut (filter is_named all_controllers)))
       (subst (SpellsOpsAfter no_ops (map word (filter is_named all_controllers))) (after_named all_controllers no_ops ∙ all_set) (spelled (filter is_named all_controllers) no_ops))

@@ -1,7 +1,7 @@
 -- How a quoted word is closed: byte by byte, and in one way.
 use Rattle.std.proofs.Common.{◌≡◌, ◌≢◌, ◌⊎◌, inl, inr, ◌↔◌, ℕ, ◌==◌, ◌||◌, Bool, true, false, List, [], ◌∷◌, ◌++◌, refl, ap, sym, subst, ◌∙◌, true≢false, arith}
 use Rattle.std.proofs.lemmas.Bool.Decides.{nat_tests}
-use Rattle.cg_name.specs.Word.{is_mark, StandFor}
+use Rattle.cg_name.specs.Word.{is_special, StandFor}
 use Rattle.cg_text.specs.Cutting.{is_escaped, Closes}
 
 same_head : {x y : ℕ} {xs ys : List ℕ} → x ∷ xs ≡ y ∷ ys → x ≡ y
@@ -15,7 +15,7 @@ record Plain (text rest : List ℕ) : Type 0 where
   pub byte : ℕ
   pub others : List ℕ
   pub parts : text ≡ byte ∷ others
-  pub unmarked : is_mark byte ≡ false
+  pub unmarked : is_special byte ≡ false
   pub closes : Closes others rest
 
 record Escape (text rest : List ℕ) : Type 0 where
@@ -28,7 +28,7 @@ record Escape (text rest : List ℕ) : Type 0 where
 abbrev Next : List ℕ → List ℕ → Type 0
 Next text rest = (text ≡ 34 ∷ rest) ⊎ (Plain text rest ⊎ Escape text rest)
 
-mark_is_escaped : (b : ℕ) → is_mark b ≡ true → is_escaped b ≡ true
+mark_is_escaped : (b : ℕ) → is_special b ≡ true → is_escaped b ≡ true
 mark_is_escaped b e = ap (λ m. m || (b == 110)) e
 
 next_in : (text rest body bytes : List ℕ) → text ≡ body ++ 34 ∷ rest → StandFor body bytes → Next text rest
@@ -48,11 +48,11 @@ next_in text rest body (b ∷ bytes) e s =
 next : (text rest : List ℕ) → Closes text rest → Next text rest
 next text rest c = next_in text rest c.body c.bytes c.parts c.stand
 
-mark_34 : (b : ℕ) → b ≡ 34 → is_mark b ≡ true
-mark_34 b e = ap is_mark e
+mark_34 : (b : ℕ) → b ≡ 34 → is_special b ≡ true
+mark_34 b e = ap is_special e
 
-mark_92 : (b : ℕ) → b ≡ 92 → is_mark b ≡ true
-mark_92 b e = ap is_mark e
+mark_92 : (b : ℕ) → b ≡ 92 → is_special b ≡ true
+mark_92 b e = ap is_special e
 
 -- ---- each step
 
@@ -74,11 +74,11 @@ mark_closed text rest c = elim (next (34 ∷ text) rest c) [
   ]
 ]
 
-pub plain_closes : (b : ℕ) (text rest : List ℕ) → is_mark b ≡ false → Closes text rest → Closes (b ∷ text) rest
+pub plain_closes : (b : ℕ) (text rest : List ℕ) → is_special b ≡ false → Closes text rest → Closes (b ∷ text) rest
 plain_closes b text rest unmarked c =
     record { body = b ∷ c.body; bytes = b ∷ c.bytes; parts = ap (λ z. b ∷ z) c.parts; stand = (b ∷ [], c.body, refl, inl (refl, unmarked), c.stand) }
 
-pub plain_closed : (b : ℕ) (text rest : List ℕ) → is_mark b ≡ false → Closes (b ∷ text) rest → Closes text rest
+pub plain_closed : (b : ℕ) (text rest : List ℕ) → is_special b ≡ false → Closes (b ∷ text) rest → Closes text rest
 plain_closed b text rest unmarked c = elim (next (b ∷ text) rest c) [
   | inl e ↦ absurd (true≢false (sym (mark_34 b (same_head e)) ∙ unmarked))
   | inr m ↦ elim m [
@@ -88,9 +88,9 @@ plain_closed b text rest unmarked c = elim (next (b ∷ text) rest c) [
 ]
 
 pub escape_closes : (b : ℕ) (text rest : List ℕ) → is_escaped b ≡ true → Closes text rest → Closes (92 ∷ b ∷ text) rest
-escape_closes b text rest escaped c = by_mark (is_mark b) refl
+escape_closes b text rest escaped c = by_mark (is_special b) refl
   where
-    by_mark : (m : Bool) → is_mark b ≡ m → Closes (92 ∷ b ∷ text) rest
+    by_mark : (m : Bool) → is_special b ≡ m → Closes (92 ∷ b ∷ text) rest
     by_mark true e =
         record { body = 92 ∷ b ∷ c.body; bytes = b ∷ c.bytes; parts = ap (λ z. 92 ∷ b ∷ z) c.parts; stand = (92 ∷ b ∷ [], c.body, refl, inr (inl (refl, e)), c.stand) }
     by_mark false e =
@@ -119,7 +119,7 @@ lone_backslash rest c = elim (next (92 ∷ []) rest c) [
 ]
 
 -- a step over a byte, or over an escape, of a rest that closes as the text does
-pub plain_step : (rest text others behind : List ℕ) (b : ℕ) → rest ≡ b ∷ others → is_mark b ≡ false → (Closes rest behind ↔ Closes text behind) → Closes others behind ↔ Closes text behind
+pub plain_step : (rest text others behind : List ℕ) (b : ℕ) → rest ≡ b ∷ others → is_special b ≡ false → (Closes rest behind ↔ Closes text behind) → Closes others behind ↔ Closes text behind
 plain_step rest text others behind b e unmarked same =
     (λ h. same.0 (subst (λ z. Closes z behind) (sym e) (plain_closes b others behind unmarked h)), λ h. plain_closed b others behind unmarked (subst (λ z. Closes z behind) e (same.1 h)))
 
@@ -127,7 +127,7 @@ pub escape_step : (rest text others behind : List ℕ) (b : ℕ) → rest ≡ 92
 escape_step rest text others behind b e escaped same =
     (λ h. same.0 (subst (λ z. Closes z behind) (sym e) (escape_closes b others behind escaped h)), λ h. (escape_closed b others behind (subst (λ z. Closes z behind) e (same.1 h))).1)
 
-pub other_is_no_mark : (b : ℕ) → b ≢ 34 → b ≢ 92 → is_mark b ≡ false
+pub other_is_no_mark : (b : ℕ) → b ≢ 34 → b ≢ 92 → is_special b ≡ false
 other_is_no_mark b quotation backslash = grind (arith, nat_tests)
 
 -- what follows a backslash is no escape

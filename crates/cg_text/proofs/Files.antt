@@ -1,9 +1,9 @@
 -- Interface files are told apart by the lengths of their names and one byte.
 use Rattle.std.proofs.Common.{◌≡◌, ℕ, ◌==◌, cond, List, length, get_or, refl, sym, ap, ◌∙◌}
 use Rattle.cg_text.specs.Laws.{OneFile}
-use Rattle.cg_text.specs.Reading.{file_word}
-use Rattle.cg_text.specs.declared.file_name.FileName.{FileName}
-use Rattle.cg_text.specs.declared.file_name.FileName.TheVariants.{Procs, Controllers, SubtreeControl, Events, Freeze, Cpus, EffectiveCpus, MaxDescendants, MaxDepth}
+use Rattle.cg_name.specs.FileName.{file_word}
+use Rattle.cg_name.specs.declared.file_name.FileName.{FileName}
+use Rattle.cg_name.specs.declared.file_name.FileName.TheVariants.{Procs, Controllers, SubtreeControl, Events, Freeze, Cpus, EffectiveCpus, MaxDescendants, MaxDepth}
 
 abbrev long : ℕ → ℕ → FileName
 long n eighth = cond (n == 21) EffectiveCpus (cond (n == 16) MaxDepth (cond (eighth == 115) SubtreeControl MaxDescendants))

@@ -5,7 +5,7 @@ use Rattle.std.proofs.Math.Seq.{take_at, drop_at}
 use Rattle.std.proofs.lemmas.Bool.{and_parts}
 use Rattle.std.proofs.lemmas.List.{append_cancel_right}
 use Rattle.std.specs.List.{list_all}
-use Rattle.cg_name.specs.Word.{is_blank, is_mark, is_bare_byte, IsBare, StandFor, IsWord}
+use Rattle.cg_name.specs.Word.{is_blank, is_special, is_bare_byte, IsBare, StandFor, IsWord}
 use Rattle.cg_text.specs.Cutting.{behind, Closes, BeginsWith}
 use Rattle.cg_text.specs.Words.{Line, Word, EndsWord}
 use Rattle.cg_text.proofs.Lists.{behind_none, behind_row, front_row}
@@ -26,7 +26,7 @@ pub record QuotedFirst (text rest : Line) : Type 0 where
 
 -- a blank is no bare byte, and neither is a mark
 blank_is_no_bare : (b : ℕ) → is_blank b ≡ true → is_bare_byte b ≡ false
-blank_is_no_bare b e = ap (λ k. not (k || is_mark b)) e
+blank_is_no_bare b e = ap (λ k. not (k || is_special b)) e
 
 bare_is_no_blank : (b : ℕ) → is_bare_byte b ≡ true → is_blank b ≡ false
 bare_is_no_blank b e = by_test (is_blank b) refl

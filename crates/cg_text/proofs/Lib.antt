@@ -1,4 +1,5 @@
 pub mod Lists
+mod Readers
 mod Files
 mod TrimmedLines
 mod Closing

@@ -1,8 +1,9 @@
 -- Sets of controllers, controller by controller.
-use Rattle.std.proofs.Common.{◌≡◌, ◌↔◌, ℕ, ◌==◌, Bool, true, false, IsTrue, cond, refl, sym, ap, ◌∙◌, true≢false}
+use Rattle.std.proofs.Common.{◌≡◌, ◌↔◌, ℕ, ◌==◌, Bool, true, false, not, IsTrue, cond, refl, sym, ap, ◌∙◌, true≢false}
+use Rattle.cg_maps.specs.FiniteMap.{is_nonempty}
 use Rattle.cg_name.specs.declared.controller.Controller.{Controller}
 use Rattle.cg_name.specs.declared.controller.Controller.TheVariants.{Cpuset, Cpu, Io, Memory, Hugetlb, Pids, Rdma, Misc}
-use Rattle.cg_text.specs.Controllers.{has, such_that, no_controllers, is_no_controllers, with_controller, without_controller}
+use Rattle.cg_text.specs.Controllers.{has, such_that, no_controllers, is_no_controllers, members, with_controller, without_controller}
 use Rattle.cg_text.specs.declared.controllers.Controllers.{Controllers}
 
 abbrev index : Controller → ℕ
@@ -80,3 +81,20 @@ left false false false false false false false false other = absurd (other refl)
 pub tells_none : (s : Controllers) (r : Bool) → (IsTrue r ↔ (s ≡ no_controllers)) → is_no_controllers s ≡ r
 tells_none s true h = ap is_no_controllers (h.0 refl)
 tells_none s false h = left s.cpuset s.cpu s.io s.memory s.hugetlb s.pids s.rdma s.misc (λ e. true≢false (sym (h.1 e)))
+
+-- whether there is a member
+some_of : (a b c d e f g h : Bool)
+    → is_nonempty (members (record { cpuset = a; cpu = b; io = c; memory = d; hugetlb = e; pids = f; rdma = g; misc = h }))
+    ≡ not (is_no_controllers (record { cpuset = a; cpu = b; io = c; memory = d; hugetlb = e; pids = f; rdma = g; misc = h }))
+some_of true b c d e f g h = refl
+some_of false true c d e f g h = refl
+some_of false false true d e f g h = refl
+some_of false false false true e f g h = refl
+some_of false false false false true f g h = refl
+some_of false false false false false true g h = refl
+some_of false false false false false false true h = refl
+some_of false false false false false false false true = refl
+some_of false false false false false false false false = refl
+
+pub some_member : (s : Controllers) → is_nonempty (members s) ≡ not (is_no_controllers s)
+some_member s = some_of s.cpuset s.cpu s.io s.memory s.hugetlb s.pids s.rdma s.misc

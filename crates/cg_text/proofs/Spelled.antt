@@ -6,28 +6,28 @@ use Rattle.std.proofs.lemmas.Bool.Decides.{nat_tests}
 use Rattle.std.proofs.lemmas.Fmt.{decimal_is_IsNumeral}
 use Rattle.std.proofs.lemmas.List.{reverse-reverse}
 use Rattle.std.proofs.lemmas.Str.Parse.{digit_from_value, digit_at}
-use Rattle.cg_cpus.specs.Blanks.{starts_blank}
-use Rattle.cg_cpus.specs.CpuList.{is_blank, without_trailing_blanks, trimmed}
+use Rattle.cg_cpus.specs.WhiteSpace.{starts_white}
+use Rattle.cg_cpus.specs.CpuList.{is_white_space, without_trailing_white_space, trimmed}
 use Rattle.cg_cpus.proofs.Trimmed.{front_end, last_test}
 use Rattle.cg_text.specs.Laws.{LimitIsSpelled, OneOps, PidIsSpelled}
-use Rattle.cg_text.specs.Reading.{blank_words, no_ops}
+use Rattle.cg_text.specs.Reading.{white_space_words, no_ops}
 use Rattle.cg_text.specs.declared.limit.Limit.TheVariants.{Max, UpTo}
 use Rattle.cg_text.proofs.Operations.{one_result}
 use Rattle.cg_text.proofs.TrimmedLines.{trimmed_line}
 
 pub one_ops : OneOps
-one_ops text x y h k = one_result (blank_words text) no_ops x y h k
+one_ops text x y h k = one_result (white_space_words text) no_ops x y h k
 
 -- ---- PIDs and limits
 
-digit_is_no_blank : (b : ℕ) → 48 ≤ b → b ≤ 57 → is_blank b ≡ false
+digit_is_no_blank : (b : ℕ) → 48 ≤ b → b ≤ 57 → is_white_space b ≡ false
 digit_is_no_blank b l m = grind (arith, nat_tests)
 
-no_blank_first : (ds : List ℕ) → AllDigits 10 ds → starts_blank ds ≡ false
+no_blank_first : (ds : List ℕ) → AllDigits 10 ds → starts_white ds ≡ false
 no_blank_first [] h = refl
 no_blank_first (d ∷ ds) h = let r = digit_from_value d h.0 in digit_is_no_blank d r.0 r.1
 
-last_digit : (d : ℕ) (ds : List ℕ) → AllDigits 10 (d ∷ ds) → starts_blank (reverse (d ∷ ds)) ≡ false
+last_digit : (d : ℕ) (ds : List ℕ) → AllDigits 10 (d ∷ ds) → starts_white (reverse (d ∷ ds)) ≡ false
 last_digit d ds h = let r = digit_at (d ∷ ds) (length (d ∷ ds) - 1) h (omega arith) in last_test (d ∷ ds) (omega arith) ∙ digit_is_no_blank _ r.0 r.1
 
 -- the digits of a line are the line, trimmed
@@ -35,7 +35,7 @@ line_of_digits : (ds : List ℕ) → IsNumeral 10 ds → trimmed (ds ++ 10 ∷ [
 line_of_digits [] h = absurd (omega (arith, h.0))
 line_of_digits (d ∷ ds) h =
     trimmed_line (d ∷ ds)
-    ∙ ap without_trailing_blanks (front_end (d ∷ ds) (no_blank_first (d ∷ ds) h.1))
+    ∙ ap without_trailing_white_space (front_end (d ∷ ds) (no_blank_first (d ∷ ds) h.1))
     ∙ ap reverse (front_end (reverse (d ∷ ds)) (last_digit d ds h.1))
     ∙ reverse-reverse (d ∷ ds)
 

@@ -1,6 +1,6 @@
 -- The first word of a text, for the functions that cut lines.
 use Rattle.std.specs.Prelude.{◌≡◌, ◌==◌, ◌||◌, ℕ, Bool, false, cond, List, [], ◌∷◌, ◌++◌}
-use Rattle.cg_name.specs.Word.{is_blank, is_mark, IsWord, StandFor}
+use Rattle.cg_name.specs.Word.{is_blank, is_special, IsWord, StandFor}
 use Rattle.cg_text.specs.Words.{Line, Word, EndsWord}
 
 -- the text behind the bytes at its front that pass a test
@@ -15,7 +15,7 @@ starts_blank (b ∷ bs) = is_blank b
 
 -- a byte that may stand behind a backslash: a mark, or an `n` for a newline
 abbrev pub is_escaped : ℕ → Bool
-is_escaped b = is_mark b || (b == 110)
+is_escaped b = is_special b || (b == 110)
 
 -- the text behind an opening quotation mark is quoted bytes, the closing one and the rest
 pub record Closes (text rest : List ℕ) : Type 0 where

@@ -20,6 +20,10 @@ abbrev pub words_text : List (List ℕ) → List ℕ
 words_text [] = []
 words_text (w ∷ ws) = line_text (join_with_byte 32 (w ∷ ws))
 
+-- the names of a set's controllers, in the profile's order, with a byte between them
+abbrev pub names_text : ℕ → Controllers → List ℕ
+names_text separator s = join_with_byte separator (map controller_word (members s))
+
 -- a set of controllers, in the profile's order
 abbrev pub controllers_text : Controllers → List ℕ
 controllers_text s = words_text (map controller_word (members s))

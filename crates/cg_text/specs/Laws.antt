@@ -4,14 +4,15 @@ use Rattle.std.specs.List.{AllByRecursion}
 use Rattle.std.specs.Fmt.{decimal}
 use Rattle.cg_maps.specs.FiniteSet.{FiniteSet}
 use Rattle.cg_maps.specs.FiniteSet as sets
+use Rattle.cg_name.specs.FileName.{file_word}
 use Rattle.cg_cpus.specs.CpuList.{SpellsCpus}
 use Rattle.cg_text.specs.Controllers.{AreApart}
 use Rattle.cg_text.specs.FileText.{line_text, cpus_line, flag_text, limit_text, ops_text}
 use Rattle.cg_text.specs.Limit.{number_of}
 use Rattle.cg_text.specs.Words.{Line, Word, lines_of, Cuts, Says, SayAll, text_of, IsWrittenLine}
-use Rattle.cg_text.specs.Reading.{SpellsFlag, SpellsPid, SpellsLimit, SpellsOps, file_word}
+use Rattle.cg_text.specs.Reading.{SpellsFlag, SpellsPid, SpellsLimit, SpellsOps}
 use Rattle.cg_text.specs.declared.control_ops.ControlOps.{ControlOps}
-use Rattle.cg_text.specs.declared.file_name.FileName.{FileName}
+use Rattle.cg_name.specs.declared.file_name.FileName.{FileName}
 use Rattle.cg_text.specs.declared.limit.Limit.{Limit}
 
 -- a text spells at most one value

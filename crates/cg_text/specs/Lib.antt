@@ -7,4 +7,3 @@ pub mod Words
 pub mod Cutting
 pub mod Reading
 pub mod Laws
-pub mod Writing

@@ -4,14 +4,12 @@ use Rattle.std.specs.List.{slice_split}
 use Rattle.std.specs.Str.Parse.{IsNumeral, digits_value}
 use Rattle.cg_name.specs.Controller.{controller_word}
 use Rattle.cg_name.specs.declared.controller.Controller.{Controller}
-use Rattle.cg_cpus.specs.CpuList.{is_blank, trimmed}
+use Rattle.cg_cpus.specs.CpuList.{is_white_space, trimmed}
 use Rattle.cg_text.specs.Controllers.{with_controller, without_controller, no_controllers}
 use Rattle.cg_text.specs.Apart.{none_apart, apart_turned, apart_moved}
 use Rattle.cg_text.specs.FileText.{flag_word}
 use Rattle.cg_text.specs.Words.{Word, is_filled}
 use Rattle.cg_text.specs.declared.control_ops.ControlOps.{ControlOps}
-use Rattle.cg_text.specs.declared.file_name.FileName.{FileName}
-use Rattle.cg_text.specs.declared.file_name.FileName.TheVariants as files
 use Rattle.cg_text.specs.declared.limit.Limit.{Limit}
 use Rattle.cg_text.specs.declared.limit.Limit.TheVariants.{Max, UpTo}
 
@@ -60,21 +58,9 @@ SpellsOpsAfter ops [] all = all ≡ ops
 SpellsOpsAfter ops (w ∷ ws) all = (enables : Bool) × (c : Controller) × (w ≡ sign_byte enables ∷ controller_word c) × SpellsOpsAfter (with_op enables c ops) ws all
 
 -- the parts of a text between spaces, tabs and newlines
-abbrev pub blank_words : List ℕ → List Word
-blank_words text = filter is_filled (slice_split is_blank text)
+abbrev pub white_space_words : List ℕ → List Word
+white_space_words text = filter is_filled (slice_split is_white_space text)
 
 -- words that are operations, separated by spaces, tabs or newlines, possibly none (Core Interface Files: cgroup.subtree_control)
 abbrev pub SpellsOps : List ℕ → ControlOps → Type 0
-SpellsOps text ops = SpellsOpsAfter no_ops (blank_words text) ops
-
--- the name of an interface file
-abbrev pub file_word : FileName → List ℕ
-file_word files.Procs = codes "cgroup.procs"
-file_word files.Controllers = codes "cgroup.controllers"
-file_word files.SubtreeControl = codes "cgroup.subtree_control"
-file_word files.Events = codes "cgroup.events"
-file_word files.Freeze = codes "cgroup.freeze"
-file_word files.Cpus = codes "cpuset.cpus"
-file_word files.EffectiveCpus = codes "cpuset.cpus.effective"
-file_word files.MaxDescendants = codes "cgroup.max.descendants"
-file_word files.MaxDepth = codes "cgroup.max.depth"
+SpellsOps text ops = SpellsOpsAfter no_ops (white_space_words text) ops

@@ -2,14 +2,43 @@
 ghost use Rattle.cg_text.specs.Controllers.{AreApart};
 
 use crate::controllers::Controllers;
-use cg_name::Controller;
+use crate::reading::read_ops;
+use cg_name::{Controller, Refusal};
+use std::str::FromStr;
 
 /// The controllers to be enabled and those to be disabled, none of them both.
 #[derive(Clone, Copy, Debug, PartialEq, Eq)]
 pub struct ControlOps {
+    /// Those to be enabled.
     pub plus: Controllers,
+    /// Those to be disabled.
     pub minus: Controllers,
     pub ghost apart: { AreApart plus minus },
+}
+
+/// No operation.
+impl Default for ControlOps {
+    ghost use Rattle.std.specs.Prelude.{◌≡◌};
+    ghost use Rattle.cg_text.specs.Reading.{no_ops};
+
+    ghost is_default = { λ ops. ops ≡ no_ops };
+
+    fn default() -> ControlOps {
+        ControlOps::none()
+    }
+}
+
+impl FromStr for ControlOps {
+    ghost use Rattle.cg_name.specs.Reads.{Reads};
+    ghost use Rattle.cg_text.specs.Reading.{SpellsOps};
+
+    type Err = Refusal;
+
+    ghost from_str_gives = { Reads SpellsOps };
+
+    fn from_str(text: &str) -> Result<ControlOps, Refusal> {
+        read_ops(text)
+    }
 }
 
 impl ControlOps {

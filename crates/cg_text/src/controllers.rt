@@ -7,14 +7,31 @@ use cg_name::Controller;
 /// A set of controllers.
 #[derive(Clone, Copy, Debug, PartialEq, Eq)]
 pub struct Controllers {
+    /// Whether it has `cpuset`.
     pub cpuset: bool,
+    /// Whether it has `cpu`.
     pub cpu: bool,
+    /// Whether it has `io`.
     pub io: bool,
+    /// Whether it has `memory`.
     pub memory: bool,
+    /// Whether it has `hugetlb`.
     pub hugetlb: bool,
+    /// Whether it has `pids`.
     pub pids: bool,
+    /// Whether it has `rdma`.
     pub rdma: bool,
+    /// Whether it has `misc`.
     pub misc: bool,
+}
+
+/// The set of none.
+impl Default for Controllers {
+    ghost is_default = { λ s. s ≡ no_controllers };
+
+    fn default() -> Controllers {
+        Controllers::empty()
+    }
 }
 
 impl Controllers {

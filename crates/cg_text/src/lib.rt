@@ -4,21 +4,20 @@
 mod control_ops;
 mod controllers;
 mod cutting;
-mod file_name;
 pub mod laws;
 mod limit;
 mod reading;
 mod settings;
 mod writing;
 
-pub use cg_name::write_quoted;
+pub use cg_name::{FileName, write_quoted};
 pub use control_ops::ControlOps;
 pub use controllers::Controllers;
 pub use cutting::{LONGEST_LINE, read_words, words};
-pub use file_name::FileName;
 pub use limit::{Limit, LimitNumber};
 pub use reading::{LAST_PID, read_flag, read_limit, read_ops, read_pid};
 pub use settings::Settings;
 pub use writing::{
-    write_controllers, write_cpus, write_events, write_flag, write_limit, write_ops, write_procs,
+    write_controllers, write_cpus, write_events, write_flag, write_limit, write_names, write_ops,
+    write_procs,
 };

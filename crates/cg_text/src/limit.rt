@@ -1,6 +1,11 @@
 //! Limits on descendants and on depth.
 ghost use Rattle.std.specs.Prelude.{◌≤◌};
 
+use crate::reading::read_limit;
+use cg_name::Refusal;
+use std::fmt;
+use std::str::FromStr;
+
 /// The number of a limit: at most 2,147,483,646, since the kernel keeps `max` as the number behind it.
 #[derive(Clone, Copy, Debug, PartialEq, Eq)]
 pub struct LimitNumber {
@@ -8,13 +13,41 @@ pub struct LimitNumber {
     pub ghost in_range: { number ≤ 2147483646 },
 }
 
-/// A limit: none, or a number.
+/// A limit of a group, on its descendants or on its depth.
 #[derive(Clone, Copy, Debug, PartialEq, Eq)]
 pub enum Limit {
     /// `max`: no limit.
     Max,
-    /// At most so many.
+    /// At most so many, from 0 to 2,147,483,646.
     UpTo(LimitNumber),
+}
+
+impl FromStr for Limit {
+    ghost use Rattle.cg_name.specs.Reads.{Reads};
+    ghost use Rattle.cg_text.specs.Reading.{SpellsLimit};
+
+    type Err = Refusal;
+
+    ghost from_str_gives = { Reads SpellsLimit };
+
+    fn from_str(text: &str) -> Result<Limit, Refusal> {
+        read_limit(text)
+    }
+}
+
+/// Shows `max` or the number.
+impl fmt::Display for Limit {
+    ghost use Rattle.std.specs.Prelude.{Some};
+    ghost use Rattle.cg_text.specs.FileText.{limit_word};
+
+    ghost output = { λ limit. Some (limit_word limit) };
+
+    fn fmt<W: fmt::Write>(&self, f: &mut fmt::Formatter<W>) -> fmt::Result {
+        match self {
+            Limit::Max => f.write_str("max"),
+            Limit::UpTo(most) => fmt::Display::fmt(&most.number, f),
+        }
+    }
 }
 
 impl Limit {

@@ -13,7 +13,7 @@ ghost use Rattle.cg_text.specs.declared.limit.Limit as limit;
 
 use crate::control_ops::ControlOps;
 use crate::limit::Limit;
-use cg_cpus::{is_blank, trim};
+use cg_cpus::{is_white_space, read_digits, trim};
 use cg_name::{Controller, Refusal};
 
 /// The greatest PID: the kernel's limit is 4,194,304, which no PID reaches.
@@ -22,7 +22,7 @@ pub const LAST_PID: u32 = 4_194_303;
 // The number that stands for no limit: the greatest that the kernel's `int` holds.
 const NO_LIMIT: u32 = 2_147_483_647;
 
-/// What is written to `cgroup.freeze`: `0` or `1`, with blanks around it; `Syntax` where the text is neither.
+/// What is written to `cgroup.freeze`: `0` or `1`, with white space around it; `Syntax` where the text is neither.
 pub fn read_flag(text: &str) -> Result<bool, Refusal>
     ensures value { IfOk result (λ flag. SpellsFlag text.now flag) }
     ensures syntax { IsErrOf result Syntax → (flag : Bool) → ¬ SpellsFlag text.now flag }
@@ -36,24 +36,20 @@ pub fn read_flag(text: &str) -> Result<bool, Refusal>
 }
 
 /// What is written to `cgroup.procs`: a PID from 1 to 4,194,303 in decimal digits alone, leading zeros allowed,
-/// with blanks around it; `Syntax` where the text spells none.
+/// with white space around it; `Syntax` where the text spells none.
 pub fn read_pid(text: &str) -> Result<u32, Refusal>
     ensures value { IfOk result (λ pid. SpellsPid text.now pid) }
     ensures syntax { IsErrOf result Syntax → (pid : ℕ) → ¬ SpellsPid text.now pid }
     ensures refusals { IfErr result (λ e. e ≡ Syntax) }
 {
-    let word = trim(text);
-    if word.starts_with('+') {
-        return Err(Refusal::Syntax);
-    }
-    match word.parse::<u32>() {
+    match read_digits(trim(text)) {
         Ok(pid) if 1 <= pid && pid <= LAST_PID => Ok(pid),
         _ => Err(Refusal::Syntax),
     }
 }
 
 /// What is written to `cgroup.max.descendants` and `cgroup.max.depth`: `max`, or a number up to 2,147,483,647 in
-/// decimal digits alone, leading zeros allowed, with blanks around it; `Syntax` where the text spells none. The
+/// decimal digits alone, leading zeros allowed, with white space around it; `Syntax` where the text spells none. The
 /// greatest number is no limit, since the kernel keeps `max` as that number.
 pub fn read_limit(text: &str) -> Result<Limit, Refusal>
     ensures value { IfOk result (λ limit. SpellsLimit text.now limit) }
@@ -64,17 +60,14 @@ pub fn read_limit(text: &str) -> Result<Limit, Refusal>
     if word == "max" {
         return Ok(Limit::Max);
     }
-    if word.starts_with('+') {
-        return Err(Refusal::Syntax);
-    }
-    match word.parse::<u32>() {
+    match read_digits(word) {
         Ok(number) if number <= Limit::LAST => Ok(Limit::up_to(number)),
         Ok(number) if number == NO_LIMIT => Ok(Limit::Max),
         _ => Err(Refusal::Syntax),
     }
 }
 
-/// What is written to `cgroup.subtree_control`: words that blanks separate, each a `+` or a `-` and the name of a
+/// What is written to `cgroup.subtree_control`: words that white space separates, each a `+` or a `-` and the name of a
 /// controller, possibly none; `Syntax` where a word is something else. Where several name one controller, the last
 /// counts, so no controller is both enabled and disabled.
 pub fn read_ops(text: &str) -> Result<ControlOps, Refusal>
@@ -83,13 +76,13 @@ pub fn read_ops(text: &str) -> Result<ControlOps, Refusal>
     ensures refusals { IfErr result (λ e. e ≡ Syntax) }
 {
     let mut ops = ControlOps::none();
-    for word in text.as_bytes().split(|byte| is_blank(*byte)) {
+    for word in text.as_bytes().split(|byte| is_white_space(*byte)) {
         add_word(&mut ops, word)?;
     }
     Ok(ops)
 }
 
-// Adds what stands between two blanks: an operation, or nothing.
+// Adds what stands between white space: an operation, or nothing.
 fn add_word(ops: &mut ControlOps, word: &[u8]) -> Result<(), Refusal>
     ensures value { OnOk result (SpellsOpsAfter ops.old (filter is_filled (word.now ∷ [])) ops.new) }
     ensures syntax { OnErr result ((words : List Word) (all : control_ops.ControlOps) → ¬ SpellsOpsAfter ops.old (filter is_filled (word.now ∷ words)) all) }

@@ -1,5 +1,5 @@
 -- Parts of the text that is written for a world.
-use Rattle.std.specs.Prelude.{ℕ, Bool, true, false, List, ◌∷◌, ◌++◌, codes}
+use Rattle.std.specs.Prelude.{ℕ, List, ◌++◌, codes}
 use Rattle.std.specs.List.{flat_map}
 use Rattle.cg_maps.specs.FiniteSet.{FiniteSet}
 use Rattle.cg_name.specs.Controller.{controller_word}
@@ -10,14 +10,9 @@ use Rattle.cg_world.specs.declared.version.Version.{Version}
 use Rattle.cg_world.specs.Version.{version_word}
 use Rattle.cg_world.specs.World.{newline, space}
 
--- the lines of the version, the machine's controllers and the CPUs that are online
-abbrev pub machine_lines : Version → Controllers → FiniteSet → List ℕ
-machine_lines v s online =
+-- the lines of the version, the controllers and the CPUs that are online
+abbrev pub head_lines : Version → Controllers → FiniteSet → List ℕ
+head_lines v s online =
     codes "world " ++ version_word v ++ newline
     ++ codes "controllers" ++ flat_map (λ c. space ++ controller_word c) (members s) ++ newline
     ++ codes "online " ++ cpus_text online ++ newline
-
--- a word, with a comma before it where it stands behind another
-abbrev pub separated : Bool → List ℕ → List ℕ
-separated false w = w
-separated true w = 44 ∷ w

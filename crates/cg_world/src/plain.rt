@@ -14,7 +14,7 @@ use std::alloc::{AllocError, Global};
 use std::collections::BTreeMap;
 use std::marker::Model;
 
-/// The machine's controllers and online CPUs, groups by path and processes by PID.
+/// The computer's controllers and online CPUs, groups by path and processes by PID.
 #[derive(Drop)]
 pub struct PlainTree {
     controllers: Controllers,
@@ -54,7 +54,7 @@ impl PlainTree {
         }
     }
 
-    /// The machine's controllers.
+    /// The computer's controllers.
     pub fn controllers(&self) -> Controllers
         ensures value { result ≡ self.now.controllers }
         ensures valid { IsRepresentable self.now }
@@ -62,7 +62,7 @@ impl PlainTree {
         self.controllers
     }
 
-    /// The CPUs that are online.
+    /// The CPUs that are online, none of them above 1,023.
     pub fn online(&self) -> CpuSet
         ensures { result ≡ self.now.online }
     {
@@ -83,8 +83,8 @@ impl PlainTree {
         self.places.get(&pid)
     }
 
-    /// Makes the group at this path, or gives it these settings. An error, where there is no memory, leaves the tree as it was, and comes
-    /// only at a path that has no group.
+    /// Makes the group at this path, or gives it these settings. An error, where there is no memory, leaves the tree as it
+    /// was.
     pub fn set_group(&mut self, path: Path, settings: Settings) -> Result<(), AllocError>
         ensures ok { OnOk result (self.new ≡ record self.old { groups = set_at self.old.groups path (Some settings) }) }
         ensures err { OnErr result (self.new ≡ self.old) }
@@ -96,8 +96,8 @@ impl PlainTree {
         Ok(())
     }
 
-    /// Puts the process with this PID, from 1 to 4,194,303, into the group at this path. An error, where there is no memory, leaves the tree as
-    /// it was.
+    /// Puts the process with this PID, from 1 to 4,194,303, into the group at this path. An error, where there is no
+    /// memory, leaves the tree as it was.
     pub fn set_place(&mut self, pid: u32, path: Path) -> Result<(), AllocError>
         requires { IsPid pid }
         ensures ok { OnOk result (self.new ≡ record self.old { places = set_at self.old.places pid (Some path) }) }
@@ -121,14 +121,14 @@ impl PlainTree {
         })
     }
 
-    /// The groups, by path.
+    // The groups, by path.
     pub(crate) fn groups(&self) -> &BTreeMap<Path, Settings>
         ensures { from_entries path_cmp result.now.entries ≡ self.now.groups }
     {
         &self.groups
     }
 
-    /// The groups of the processes, by PID.
+    // The groups of the processes, by PID.
     pub(crate) fn places(&self) -> &BTreeMap<u32, Path>
         ensures { from_entries nat_cmp result.now.entries ≡ self.now.places }
     {

@@ -21,7 +21,7 @@ pub(crate) enum Stage {
     Begun,
     /// The version.
     Versioned(Version),
-    /// The machine's controllers too.
+    /// The computer's controllers too.
     Controlled(Version, Controllers),
     /// The online CPUs too, and these groups.
     Groups(Version, PlainTree),

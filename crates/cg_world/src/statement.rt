@@ -18,7 +18,7 @@ use std::alloc::Global;
 pub enum Statement {
     /// `world` and the version.
     Version(Version),
-    /// `controllers` and the machine's controllers.
+    /// `controllers` and the computer's controllers.
     Controllers(Controllers),
     /// `online` and the CPUs that are online.
     Online(CpuSet),

@@ -73,7 +73,7 @@ impl World {
         })
     }
 
-    /// The machine's controllers.
+    /// The computer's controllers.
     pub fn controllers(&self) -> Controllers
         ensures { result ≡ self.now.controllers }
     {
@@ -101,8 +101,8 @@ impl World {
         self.tree.location(pid)
     }
 
-    /// The group with that many groups before it in the order of the paths, and its settings. So the root's is at
-    /// 0, and there is none from the number of groups on.
+    /// The group with that many groups before it in the order of the paths, and its settings: the root at 0, `None` from
+    /// the number of groups on.
     pub fn group_at(&self, index: u64) -> Option<(&Path, Settings)>
         ensures { option_map (λ e. (e.0.now, e.1)) result ≡ slice_get (entries self.now.groups) index }
     {
@@ -110,8 +110,8 @@ impl World {
         Some((path, *settings))
     }
 
-    /// The process with that many processes before it by ascending PID, and the path of its group. There is none
-    /// from the number of processes on.
+    /// The process with that many processes before it by ascending PID, and the path of its group; `None` from the number
+    /// of processes on.
     pub fn proc_at(&self, index: u64) -> Option<(u32, &Path)>
         ensures { option_map (λ e. (e.0, e.1.now)) result ≡ slice_get (entries self.now.places) index }
     {

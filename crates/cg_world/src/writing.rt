@@ -9,14 +9,14 @@ ghost use Rattle.cg_text.specs.Controllers.{members};
 ghost use Rattle.cg_text.specs.FileText.{flag_word, limit_word};
 ghost use Rattle.cg_world.specs.Version.{version_word};
 ghost use Rattle.cg_world.specs.World.{asked_cpus_text, control_text, group_line, limits_text, newline, process_line, space, text_of_version, world_text};
-ghost use Rattle.cg_world.specs.Writing.{machine_lines, separated};
+ghost use Rattle.cg_world.specs.Writing.{head_lines};
 
 use crate::plain::PlainTree;
 use crate::version::Version;
 use crate::world::World;
 use cg_cpus::CpuSet;
-use cg_name::{Controller, Path};
-use cg_text::{Controllers, Limit, Settings};
+use cg_name::{Path, or_truncate};
+use cg_text::{Controllers, Limit, Settings, write_names};
 use itoa::Buffer;
 use std::alloc::AllocError;
 use std::collections::BTreeMap;
@@ -41,35 +41,32 @@ impl PlainTree {
     {
         let start = out.len();
         let written = append_world(self.version(), self, out);
-        if written.is_err() {
-            out.truncate(start);
-        }
-        written
+        or_truncate(written, start, out)
     }
 }
 
-// What follows appends to `out`, and a refusal leaves what stood there at the front.
+// What follows appends to `out`, and an error leaves what stood there at the front.
 
 // All lines of the tree's text in one version.
 fn append_world(version: Version, tree: &PlainTree, out: &mut Vec<u8>) -> Result<(), AllocError>
     ensures ok { OnOk result (out.new.items ≡ out.old.items ++ text_of_version version tree.now) }
     ensures kept { OnErr result (take (length out.old.items) out.new.items ≡ out.old.items) }
 {
-    append_machine(version, &tree.controllers(), &tree.online(), out)?;
+    append_head(version, &tree.controllers(), &tree.online(), out)?;
     append_groups(version, tree.groups(), out)?;
     append_processes(tree.places(), out)?;
     out.extend_from_slice(b"end\n")?;
     Ok(())
 }
 
-// The first three lines: the version, the machine's controllers and the CPUs that are online.
-fn append_machine(
+// The first three lines: the version, the controllers and the CPUs that are online.
+fn append_head(
     version: Version,
     controllers: &Controllers,
     online: &CpuSet,
     out: &mut Vec<u8>,
 ) -> Result<(), AllocError>
-    ensures ok { OnOk result (out.new.items ≡ out.old.items ++ machine_lines version controllers.now online.now) }
+    ensures ok { OnOk result (out.new.items ≡ out.old.items ++ head_lines version controllers.now online.now) }
     ensures kept { OnErr result (take (length out.old.items) out.new.items ≡ out.old.items) }
 {
     append_version(version, out)?;
@@ -97,12 +94,11 @@ fn append_names(controllers: &Controllers, out: &mut Vec<u8>) -> Result<(), Allo
     ensures ok { OnOk result (out.new.items ≡ out.old.items ++ flat_map (λ c. 32 ∷ controller_word c) (members controllers.now)) }
     ensures kept { OnErr result (take (length out.old.items) out.new.items ≡ out.old.items) }
 {
-    for controller in &Controller::ALL {
-        if controllers.contains(*controller) {
-            out.push(b' ')?;
-            out.extend_from_slice(controller.word().as_bytes())?;
-        }
+    if controllers.is_empty() {
+        return Ok(());
     }
+    out.push(b' ')?;
+    write_names(*controllers, b' ', out)?;
     Ok(())
 }
 
@@ -179,28 +175,9 @@ fn append_control(control: &Controllers, out: &mut Vec<u8>) -> Result<(), AllocE
     ensures ok { OnOk result (out.new.items ≡ out.old.items ++ control_text control.now) }
     ensures kept { OnErr result (take (length out.old.items) out.new.items ≡ out.old.items) }
 {
-    let mut behind = false;
-    for controller in &Controller::ALL {
-        if control.contains(*controller) {
-            append_behind(behind, *controller, out)?;
-            behind = true;
-        }
-    }
-    if !behind {
+    if !write_names(*control, b',', out)? {
         out.push(b'-')?;
     }
-    Ok(())
-}
-
-// A controller's name, with a comma before it where it stands behind another.
-fn append_behind(behind: bool, controller: Controller, out: &mut Vec<u8>) -> Result<(), AllocError>
-    ensures ok { OnOk result (out.new.items ≡ out.old.items ++ separated behind (controller_word controller)) }
-    ensures kept { OnErr result (take (length out.old.items) out.new.items ≡ out.old.items) }
-{
-    if behind {
-        out.push(b',')?;
-    }
-    out.extend_from_slice(controller.word().as_bytes())?;
     Ok(())
 }
 

@@ -1,4 +1,4 @@
-//! The inputs of this machine: standard input and files.
+//! The inputs of this computer: standard input and files.
 ghost use Rattle.std.specs.Prelude.{None, false};
 
 use cg_program::{Inputs, OpenFault};
@@ -24,7 +24,7 @@ impl Read for Input {
     }
 }
 
-/// The machine that the program runs on. What its inputs hold isn't known before they are read.
+/// The computer that the program runs on. What its inputs hold isn't known before they are read.
 #[derive(Drop)]
 pub struct Host<'a>(pub &'a HostRuntime);
 

@@ -4,8 +4,9 @@ use Rattle.cg_name.specs.Controller.{controller_word}
 use Rattle.cg_name.specs.declared.controller.Controller.{Controller}
 use Rattle.cg_text.specs.Controllers.{has}
 use Rattle.cg_text.specs.Reading.{sign_byte}
-use Rattle.cg_text.specs.Writing.{spaced}
-use Rattle.cg_text.proofs.Appending.{begins, controller_at, joined, some_with, without_this, word_with}
+use Rattle.cg_cpus.specs.Separated.{separated}
+use Rattle.cg_name.proofs.Growing.{begins_itself}
+use Rattle.cg_text.proofs.Appending.{controller_at, joined, some_with, without_this, word_with}
 use Rattle.cg_text.proofs.writing.append_ops.Goals as goal
 use Rattle.cg_text.proofs.writing.append_ops.Goals.{then-enables+in_ok-append_op, then-enables-via-then-enables, then-enables-via-else-enables+then-contains, else-enables+else-contains}
 
@@ -37,16 +38,16 @@ loop-controller-preserved c =
             | then-enables-via-then-enables v ↦ first_or (has plus (controller_at i)) (has minus (controller_at i)) (sym c.contains-enables.ensures ∙ v.if-enables.true)
             | then-enables-via-else-enables+then-contains v ↦ second_or (has plus (controller_at i)) (has minus (controller_at i)) (sym v.contains.ensures ∙ v.if-contains.true)
           ] in
-          let word = w.in_ok-append_op.ensures.text ∙ ap (λ b. c.loop-controller.out.items ++ spaced c.loop-controller.behind (b ∷ controller_word (controller_at i))) (sign _ (has plus (controller_at i)) c.contains-enables.ensures) in
-          let text = ap (λ v. v.items) w.out-is ∙ word_with p i l f c.args.out.now.items c.loop-controller.out.items w.append_op.new.out.items c.loop-controller.behind holds c.loop-controller.invariant.text c.loop-controller.invariant.behind word in
-          record { text = text; behind = w.behind-is ∙ some_with p i l holds; kept = begins _ _ _ text; all = refl }
+          let word = w.in_ok-append_op.ensures.ok ∙ ap (λ b. c.loop-controller.out.items ++ separated 32 c.loop-controller.behind (b ∷ controller_word (controller_at i))) (sign _ (has plus (controller_at i)) c.contains-enables.ensures) in
+          let text = ap (λ v. v.items) w.out-is ∙ word_with p i l 32 f c.args.out.now.items c.loop-controller.out.items w.append_op.new.out.items c.loop-controller.behind holds c.loop-controller.invariant.text c.loop-controller.invariant.behind word in
+          record { text = text; behind = w.behind-is ∙ some_with p i l holds; kept = begins_itself _ _ _ text; all = refl }
       | else-enables+else-contains w ↦
           let no : p (controller_at i) ≡ false = neither (has plus (controller_at i)) (has minus (controller_at i)) (sym c.contains-enables.ensures ∙ w.if-enables.false) (sym w.contains.ensures ∙ w.if-contains.false) in
           let same = ap (λ v. v.items) w.out-is in
           record {
-            text = same ∙ c.loop-controller.invariant.text ∙ ap (λ cs. c.args.out.now.items ++ joined f cs) (without_this p i l no);
+            text = same ∙ c.loop-controller.invariant.text ∙ ap (λ cs. c.args.out.now.items ++ joined 32 f cs) (without_this p i l no);
             behind = w.behind-is ∙ c.loop-controller.invariant.behind ∙ ap is_nonempty (without_this p i l no);
-            kept = begins _ _ _ (same ∙ c.loop-controller.invariant.text);
+            kept = begins_itself _ _ _ (same ∙ c.loop-controller.invariant.text);
             all = refl;
           }
     ]

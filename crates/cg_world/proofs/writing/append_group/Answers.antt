@@ -2,7 +2,7 @@ use Rattle.std.proofs.Common.{◌++◌, ap, ◌∙◌, codes}
 use Rattle.cg_name.specs.Path.{path_word}
 use Rattle.cg_text.specs.FileText.{flag_word}
 use Rattle.cg_world.specs.World.{asked_cpus_text, control_text, limits_text, newline, space}
-use Rattle.cg_world.proofs.Appending.{first, more, refused, refused_same}
+use Rattle.cg_name.proofs.Growing.{first, more, refused, refused_same}
 use Rattle.cg_world.proofs.writing.append_group.Goals as goal
 
 pub returns-in_err-append_control-clause-kept : goal.returns-in_err-append_control-clause-kept

@@ -6,8 +6,5 @@ use Rattle.cg_cpus.proofs.cpu_set.CpuSet.write.Goals as goal
 pub append_runs-written-requires : goal.append_runs-written-requires
 append_runs-written-requires c = subst (λ s. (n : ℕ) → IsTrue (has s n) → n < 1024) c.self.view_is (below_limit _)
 
-pub returns-then-is_err-clause-below : goal.returns-then-is_err-clause-below
-returns-then-is_err-clause-below c = subst (λ s. (n : ℕ) → IsTrue (has s n) → n < 1024) c.self.view_is (below_limit _)
-
-pub returns-else-is_err-clause-below : goal.returns-else-is_err-clause-below
-returns-else-is_err-clause-below c = subst (λ s. (n : ℕ) → IsTrue (has s n) → n < 1024) c.self.view_is (below_limit _)
+pub returns-clause-below : goal.returns-clause-below
+returns-clause-below c = subst (λ s. (n : ℕ) → IsTrue (has s n) → n < 1024) c.self.view_is (below_limit _)

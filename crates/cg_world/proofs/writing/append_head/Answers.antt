@@ -1,8 +1,8 @@
 use Rattle.std.proofs.Common.{◌++◌, codes, append_assoc}
 use Rattle.cg_world.specs.Version.{version_word}
 use Rattle.cg_world.specs.World.{newline}
-use Rattle.cg_world.proofs.Appending.{first, more, refused}
-use Rattle.cg_world.proofs.writing.append_machine.Goals as goal
+use Rattle.cg_name.proofs.Growing.{first, more, refused}
+use Rattle.cg_world.proofs.writing.append_head.Goals as goal
 
 pub returns-in_err-append_names-clause-kept : goal.returns-in_err-append_names-clause-kept
 returns-in_err-append_names-clause-kept c =
@@ -11,4 +11,4 @@ returns-in_err-append_names-clause-kept c =
     refused _ word _ c.in_err-append_names.ensures.kept
 
 pub returns-clause-ok : goal.returns-clause-ok
-returns-clause-ok c = simp (c.in_ok-push.ensures.items, c.in_ok-write.ensures.text, c.in_ok-extend_from_slice-2.ensures.items, c.in_ok-append_names.ensures.ok, c.in_ok-extend_from_slice.ensures.items, c.in_ok-append_version.ensures.ok, append_assoc)
+returns-clause-ok c = simp (c.in_ok-push.ensures.items, c.in_ok-write.ensures.ok, c.in_ok-extend_from_slice-2.ensures.items, c.in_ok-append_names.ensures.ok, c.in_ok-extend_from_slice.ensures.items, c.in_ok-append_version.ensures.ok, append_assoc)

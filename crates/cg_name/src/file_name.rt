@@ -1,10 +1,14 @@
 //! The interface files of a group.
-ghost use Rattle.std.specs.Prelude.{◌≡◌, IfOk, IfErr};
+ghost use Rattle.std.specs.Prelude.{◌≡◌, IfOk, IfErr, Some};
 ghost use Rattle.std.specs.Result.{IsErrOf};
 ghost use Rattle.cg_name.specs.declared.refusal.Refusal.TheVariants.{Syntax};
-ghost use Rattle.cg_text.specs.Reading.{file_word};
+ghost use Rattle.std.specs.Fmt.{padded};
+ghost use Rattle.cg_name.specs.FileName.{file_word};
+ghost use Rattle.cg_name.specs.Reads.{Reads};
 
-use cg_name::Refusal;
+use crate::refusal::Refusal;
+use std::fmt;
+use std::str::FromStr;
 
 /// One of the nine interface files that a group may show.
 #[derive(Clone, Copy, Debug, PartialEq, Eq)]
@@ -65,5 +69,26 @@ impl FileName {
             "cgroup.max.depth" => Ok(FileName::MaxDepth),
             _ => Err(Refusal::Syntax),
         }
+    }
+}
+
+impl FromStr for FileName {
+    type Err = Refusal;
+
+    ghost from_str_gives = { Reads (λ text file. text ≡ file_word file) };
+
+    fn from_str(text: &str) -> Result<FileName, Refusal> {
+        FileName::read(text)
+    }
+}
+
+/// Shows the file's name.
+impl fmt::Display for FileName {
+    ghost output = { λ file. Some (file_word file) };
+
+    ghost styled_output = { λ file spec. Some (padded spec (file_word file)) };
+
+    fn fmt<W: fmt::Write>(&self, f: &mut fmt::Formatter<W>) -> fmt::Result {
+        f.pad(self.word())
     }
 }
