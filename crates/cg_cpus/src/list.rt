@@ -1,5 +1,5 @@
 //! Lists of CPU numbers, as `0-4,6,8-10`.
-ghost use Rattle.std.specs.Prelude.{◌≡◌, ◌++◌, ◌<◌, ◌≤◌, IsTrue, IfOk, IfErr, IfNone, IfSome, OnOk, OnErr, ℕ, length, reverse, take};
+ghost use Rattle.std.specs.Prelude.{◌≡◌, ◌++◌, ◌<◌, ◌≤◌, IsTrue, IfOk, IfErr, IfNone, IfSome, OnOk, OnErr, Some, ℕ, length, reverse, take};
 ghost use Rattle.std.specs.Result.{IsErrOf};
 ghost use Rattle.cg_maps.specs.FiniteSet.{FiniteSet, has};
 ghost use Rattle.cg_name.specs.declared.refusal.Refusal.TheVariants.{Syntax};
@@ -12,6 +12,7 @@ use crate::white_space::trim;
 use cg_name::Refusal;
 use itoa::Buffer;
 use std::alloc::AllocError;
+use std::fmt;
 
 // A number of decimal digits alone, below 1,024.
 fn read_number(digits: &str) -> Result<u16, Refusal>
@@ -103,4 +104,48 @@ pub(crate) fn append_runs(set: &CpuSet, out: &mut Vec<u8>) -> Result<(), AllocEr
         next = last + 1;
     }
     Ok(())
+}
+
+/// Shows the set's list, as `0-4,6`.
+impl fmt::Display for CpuSet {
+    ghost output = { λ s. Some (cpus_text s) };
+
+    fn fmt<W: fmt::Write>(&self, f: &mut fmt::Formatter<W>) -> fmt::Result {
+        // A set of CPUs tells of its numbers when it is asked for one.
+        let _ = self.contains(0);
+        let mut next = 0;
+        while let Some((first, last)) = self.run_from(next) {
+            f.write(Run {
+                behind: next > 0,
+                first,
+                last,
+            })?;
+            next = last + 1;
+        }
+        Ok(())
+    }
+}
+
+// A run, as it stands in a list.
+#[derive(Clone, Copy)]
+struct Run {
+    // Whether it stands behind another.
+    behind: bool,
+    first: u16,
+    last: u16,
+}
+
+impl fmt::Display for Run {
+    ghost output = { λ r. Some (separated 44 r.behind (run_text (r.first, r.last))) };
+
+    fn fmt<W: fmt::Write>(&self, f: &mut fmt::Formatter<W>) -> fmt::Result {
+        let first = self.first;
+        let last = self.last;
+        match (self.behind, first == last) {
+            (false, true) => write!(f, "{first}"),
+            (false, false) => write!(f, "{first}-{last}"),
+            (true, true) => write!(f, ",{first}"),
+            (true, false) => write!(f, ",{first}-{last}"),
+        }
+    }
 }
