@@ -13,14 +13,14 @@ abbrev pub machine_of : Inside → Machine
 machine_of c = record { opening = c.opening; limit = c.limit; tree = c.tree; open_one = option_map open_of c.current; history = c.history.0 }
 
 -- how many places of the history have memory: one for the end of the open transaction
-abbrev pub IsKept : Option Open → ℕ → Type 0
-IsKept None n = Unit {0}
-IsKept (Some o) n = (1 ≤ n) × Sound o.before
+abbrev pub IsReserved : Option Open → ℕ → Type 0
+IsReserved None n = Unit {0}
+IsReserved (Some o) n = (1 ≤ n) × Sound o.before
 
 pub record IsCore (c : Inside) : Type 0 where
   -- the tree and what Abort gives back are sound
   pub tree : Sound c.tree
-  pub kept : IsKept c.current c.history.1
-  -- the records and the places kept are within the limit
+  pub reserved : IsReserved c.current c.history.1
+  -- the records and the reserved slots are within the limit
   pub within : places (machine_of c) ≤ c.limit
   pub limit : c.limit ≤ 1048576

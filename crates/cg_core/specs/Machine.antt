@@ -23,7 +23,7 @@ pub record Machine : Type 0 where
   pub open_one : Option Open
   pub history : List Record
 
--- places of the history in use: the records, and those kept for the open transaction and for each of its commands
+-- slots of the history in use: the records, and those reserved for the open transaction and for each of its commands
 abbrev pub kept_places : Option Open → ℕ
 kept_places None = 0
 kept_places (Some o) = 1 + o.commands

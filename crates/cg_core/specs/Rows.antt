@@ -73,7 +73,7 @@ BeginBesideOpen =
     answers (opened 1048576) ((1, Begin) ∷ (2, Begin) ∷ (1, Commit) ∷ (2, Begin) ∷ (2, Commit) ∷ [])
     ≡ Begun 1 ∷ Refused (Busy (record { 0 = 1 })) ∷ Committed 1 ∷ Begun 2 ∷ Committed 2 ∷ []
 
--- a history of four places: one command fits beside Begin and the abort that is kept for it
+-- a history of four slots: one command fits beside Begin and the abort that a slot is reserved for
 abbrev pub FullAtFour : Type 0
 FullAtFour =
     answers (opened 4) ((1, Begin) ∷ (1, Do (Create a)) ∷ (1, Do (Create b)) ∷ (1, Abort) ∷ (1, Begin) ∷ [])

@@ -60,8 +60,8 @@ impl Command {
     }
 }
 
-/// The checks of Create: the path isn't the root's, its parent is there, it is free, and no group above it is full
-/// or too far above.
+// The checks of Create: the path isn't the root's, its parent is there, it is free, and no group above it is full
+// or too far above.
 fn check_create(alloc: Global, path: &Path, tree: &Tree) -> Result<(), Refusal>
     ensures accepted { OnOk result (IsAccepted (effect (model.Create path.now) tree.now)) }
     ensures refused { IfErr result (λ e. e ≢ Memory → effect (model.Create path.now) tree.now ≡ Refuse e) }
@@ -84,7 +84,7 @@ fn check_create(alloc: Global, path: &Path, tree: &Tree) -> Result<(), Refusal>
     Ok(())
 }
 
-/// Makes the group at this path, with the settings of a new one.
+// Makes the group at this path, with the settings of a new one.
 fn create(alloc: Global, path: &Path, tree: &mut Tree) -> Result<(), AllocError>
     requires { IsAccepted (effect (model.Create path.now) tree.old) }
     ensures ok { OnOk result (ChangesTo (effect (model.Create path.now) tree.old) tree.old tree.new) }

@@ -1,4 +1,4 @@
-//! The history of a machine, with places kept for records to come.
+//! The history of a machine, with slots reserved for records to come.
 ghost use Rattle.std.specs.Prelude.{◌≡◌, ◌+◌, ◌-◌, ◌<◌, ◌≤◌, ◌^◌, ◌++◌, ◌∷◌, [], length, IfErr, OnOk, OnErr};
 ghost use Rattle.cg_core.specs.Record.{begins, commits};
 
@@ -6,11 +6,11 @@ use crate::record::{Answer, Record};
 use std::alloc::{AllocError, Global};
 use std::marker::Model;
 
-/// The records so far, oldest first, and how many more there is memory for.
+/// The records so far, oldest first, and how many slots are reserved.
 #[derive(Drop)]
 pub struct History {
     records: Vec<Record>,
-    kept: usize,
+    reserved: usize,
     begun: u32,
     committed: u32,
 }
@@ -29,9 +29,9 @@ impl Model for History {
 
     ghost use Rattle.cg_core.specs.Meaning.{record_of};
 
-    ghost view = { λ h. (map record_of h.records.items, h.kept) };
+    ghost view = { λ h. (map record_of h.records.items, h.reserved) };
 
-    ghost invariant = { λ h. (vec_len h.records + h.kept ≤ vec_capacity h.records) × (h.begun ≡ begins (map record_of h.records.items)) × (h.committed ≡ commits (map record_of h.records.items)) };
+    ghost invariant = { λ h. (vec_len h.records + h.reserved ≤ vec_capacity h.records) × (h.begun ≡ begins (map record_of h.records.items)) × (h.committed ≡ commits (map record_of h.records.items)) };
 }
 
 impl History {
@@ -44,7 +44,7 @@ impl History {
     {
         History {
             records: Vec::new(alloc),
-            kept: 0,
+            reserved: 0,
             begun: 0,
             committed: 0,
         }
@@ -78,19 +78,19 @@ impl History {
         self.committed
     }
 
-    /// Keeps places for so many records from now on. An error, where there is no memory, leaves the history as it was.
-    pub fn keep(&mut self, count: usize) -> Result<(), AllocError>
+    /// Reserves slots for so many records from now on. An error, where there is no memory, leaves the history as it was.
+    pub fn reserve(&mut self, count: usize) -> Result<(), AllocError>
         ensures ok { OnOk result (self.new ≡ (self.old.0, count)) }
         ensures err { OnErr result (self.new ≡ self.old) }
     {
         self.records.reserve(count)?;
-        self.kept = count;
+        self.reserved = count;
         Ok(())
     }
 
-    /// Adds a record in a place that was kept for it.
+    /// Adds a record in a slot that was reserved for it.
     pub fn push(&mut self, entry: Record)
-        requires kept { 0 < self.old.1 }
+        requires reserved { 0 < self.old.1 }
         requires few { length self.old.0 < 2 ^ 32 - 1 }
         ensures { self.new ≡ (self.old.0 ++ record_of entry ∷ [], self.old.1 - 1) }
     {
@@ -100,6 +100,6 @@ impl History {
             _ => {}
         }
         self.records.push_reserved(entry);
-        self.kept -= 1;
+        self.reserved -= 1;
     }
 }

@@ -9,7 +9,7 @@ use cg_name::Path;
 use cg_text::Limit;
 use std::alloc::{AllocError, Global};
 
-/// Whether some group above the path has as many descendants as it may have.
+// Whether some group above the path has as many descendants as it may have.
 pub(crate) fn too_many(alloc: Global, path: &Path, tree: &Tree) -> Result<bool, AllocError>
     ensures { IfOk result (λ many. many ≡ too_many tree.now path.now) }
 {
@@ -23,7 +23,7 @@ pub(crate) fn too_many(alloc: Global, path: &Path, tree: &Tree) -> Result<bool, 
     Ok(false)
 }
 
-/// Whether the path is deeper below some group than that group allows.
+// Whether the path is deeper below some group than that group allows.
 pub(crate) fn too_deep(alloc: Global, path: &Path, tree: &Tree) -> Result<bool, AllocError>
     ensures { IfOk result (λ deep. deep ≡ too_deep tree.now path.now) }
 {

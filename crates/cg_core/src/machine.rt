@@ -19,7 +19,7 @@ use cg_world::World;
 use std::alloc::{AllocError, Global};
 use std::marker::Model;
 
-/// The open transaction.
+// The open transaction.
 #[derive(Drop)]
 struct Open {
     session: SessionId,
@@ -58,7 +58,8 @@ impl Model for Core {
 impl Core {
     ghost use Rattle.cg_core.specs.Meaning.{command_of, request_of, answer_of, record_of, is_memory, takes_memory};
 
-    /// A machine on this world's tree, whose history holds at most `limit` records, kept places included.
+    /// A machine on this world's tree, whose history has at most `limit` slots, from 2 to 1,048,576, reserved ones included;
+    /// an error where there is no memory for it.
     pub fn open(alloc: Global, world: World, limit: u32) -> Result<Core, AllocError>
         requires low { 2 ≤ limit }
         requires high { limit ≤ 1048576 }
@@ -109,7 +110,7 @@ impl Core {
         }
     }
 
-    /// How many transactions are open: 0 or 1.
+    /// How many transactions are open, 0 or 1.
     pub fn open_count(&self) -> u32
         ensures { result ≡ count_of self.now.open_one }
     {
@@ -162,7 +163,7 @@ impl Core {
         let Ok(before) = self.tree.copy(alloc) else {
             return Answer::Refused(Refusal::Memory);
         };
-        if self.history.keep(2).is_err() {
+        if self.history.reserve(2).is_err() {
             return Answer::Refused(Refusal::Memory);
         }
         let number = TxnNumber(self.history.begun() + 1);
@@ -263,7 +264,7 @@ impl Core {
         ensures state { OnFalse (is_memory result) (self.new ≡ stepped self.old session.0 (model.Do (command_of command))) }
         ensures memory { OnTrue (is_memory result) (self.new ≡ self.old) }
     {
-        if self.history.keep(2).is_err() {
+        if self.history.reserve(2).is_err() {
             return Answer::Refused(Refusal::Memory);
         }
         self.history.push(Record {
@@ -291,7 +292,7 @@ impl Core {
         ensures state { OnFalse (is_memory result) (self.new ≡ stepped self.old session.0 (model.Do (command_of command))) }
         ensures memory { OnTrue (is_memory result) (self.new ≡ self.old) }
     {
-        if self.history.keep(2).is_err() || command.apply(alloc, &mut self.tree).is_err() {
+        if self.history.reserve(2).is_err() || command.apply(alloc, &mut self.tree).is_err() {
             return Answer::Refused(Refusal::Memory);
         }
         if let Some(open) = &mut self.current {
@@ -309,10 +310,10 @@ impl Core {
     fn is_full(&self) -> bool
         ensures { result ≡ is_full_history self.now }
     {
-        let kept = match &self.current {
+        let reserved = match &self.current {
             Some(open) => open.commands as usize + 1,
             None => 0,
         };
-        self.history.len() + kept + 2 > self.limit as usize
+        self.history.len() + reserved + 2 > self.limit as usize
     }
 }

@@ -41,7 +41,7 @@ impl Tree {
         }
     }
 
-    /// The tree in plain maps.
+    // The tree in plain maps.
     pub(crate) fn plain(&self) -> &PlainTree
         ensures value { result.now ≡ self.now }
         ensures valid { IsRepresentable self.now }

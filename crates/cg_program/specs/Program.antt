@@ -41,7 +41,7 @@ DoneOver P world schedule = IfSome world (λ text. (T : Tree) × (rest : Option 
 
 -- a reader has broken
 abbrev pub IsBroken : Reading → Type 0
-IsBroken r = CanBreak r.opening r.failures r.reads
+IsBroken r = CanBreak r.failed_before r.failures r.reads
 
 -- one of the readers has
 abbrev pub AreBroken : Reading → Option Reading → Type 0

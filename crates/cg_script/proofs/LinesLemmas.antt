@@ -5,7 +5,7 @@ use Rattle.std.specs.List.{slice_range}
 use Rattle.std.specs.Io.KnownBytes.{prepend_known, Consumes, Keeps, IsAtEnd}
 use Rattle.std.proofs.lemmas.List.{drop-take}
 use Rattle.std.proofs.lemmas.List.Elements.{All-append}
-use Rattle.cg_script.specs.Lines.{HasNoNewline, IsLastLine, TakesLine, TakesKnownLine, LosesOfLine, Reading, pending, IsKept, TakesPiece, IsFirstNewline, kind_where, ending_kind_where, last_kind_where}
+use Rattle.cg_script.specs.Lines.{HasNoNewline, IsLastLine, TakesLine, TakesKnownLine, LosesOfLine, Reading, pending, IsGathered, TakesPiece, IsFirstNewline, kind_where, ending_kind_where, last_kind_where}
 use Rattle.cg_script.specs.declared.lines.LineKind.TheVariants.{End}
 
 -- nothing more is known than what is known
@@ -50,24 +50,24 @@ Consumes-kept (Some xs) None h = h
 Consumes-kept (Some xs) (Some ys) h = sym h
 
 -- a whole line is taken, with what follows its newline
-taken_at_newline : (text rest whole line : List ℕ) (fits : Bool) → HasNoNewline whole → text ≡ whole ++ 10 ∷ rest → IsKept whole fits line → TakesLine text (kind_where fits) line rest
+taken_at_newline : (text rest whole line : List ℕ) (fits : Bool) → HasNoNewline whole → text ≡ whole ++ 10 ∷ rest → IsGathered whole fits line → TakesLine text (kind_where fits) line rest
 taken_at_newline text rest whole line true n h k =
     subst (λ (l : List ℕ). (length l ≤ 65536) × HasNoNewline l × (text ≡ l ++ 10 ∷ rest)) (sym k.0) (k.1, n, h)
 taken_at_newline text rest whole line false n h k = (k.0, whole, k.1, (n, inl h))
 
 -- a whole line is taken, which has none
-taken_at_end : (text rest whole line : List ℕ) (fits : Bool) → HasNoNewline whole → IsLastLine text whole rest → IsKept whole fits line → TakesLine text (ending_kind_where fits) line rest
+taken_at_end : (text rest whole line : List ℕ) (fits : Bool) → HasNoNewline whole → IsLastLine text whole rest → IsGathered whole fits line → TakesLine text (ending_kind_where fits) line rest
 taken_at_end text rest whole line true n h k =
     subst (λ (l : List ℕ). (length l ≤ 65536) × HasNoNewline l × IsLastLine text l rest) (sym k.0) (k.1, n, h)
 taken_at_end text rest whole line false n h k = (k.0, whole, k.1, (n, inr h))
 
-pub takes_at_newline : (old new : Option (List ℕ)) (whole line : List ℕ) (fits : Bool) → HasNoNewline whole → Consumes old new (whole ++ 10 ∷ []) → IsKept whole fits line → TakesKnownLine old (kind_where fits) line new
+pub takes_at_newline : (old new : Option (List ℕ)) (whole line : List ℕ) (fits : Bool) → HasNoNewline whole → Consumes old new (whole ++ 10 ∷ []) → IsGathered whole fits line → TakesKnownLine old (kind_where fits) line new
 takes_at_newline None new whole line fits n h k = tt
 takes_at_newline (Some text) None whole line fits n h k = h
 takes_at_newline (Some text) (Some rest) whole line fits n h k =
     taken_at_newline text rest whole line fits n (h ∙ append_assoc whole (10 ∷ []) rest) k
 
-pub takes_at_end : (old new : Option (List ℕ)) (whole line : List ℕ) (fits : Bool) → HasNoNewline whole → Consumes old new whole → IsAtEnd new → 0 < length whole → IsKept whole fits line → TakesKnownLine old (ending_kind_where fits) line new
+pub takes_at_end : (old new : Option (List ℕ)) (whole line : List ℕ) (fits : Bool) → HasNoNewline whole → Consumes old new whole → IsAtEnd new → 0 < length whole → IsGathered whole fits line → TakesKnownLine old (ending_kind_where fits) line new
 takes_at_end None new whole line fits n h e p k = tt
 takes_at_end (Some text) None whole line fits n h e p k = h
 takes_at_end (Some text) (Some rest) whole line fits n h e p k =
@@ -80,18 +80,18 @@ takes_nothing (Some text) (Some rest) line h e k = (h ∙ e, k, e)
 
 -- the bytes that were gathered of a line between two states of its reader
 abbrev pub Gathered : Reading → Reading → Bool → Type 0
-Gathered old new fits = (bytes : List ℕ) × HasNoNewline bytes × Consumes (pending old) (pending new) bytes × IsKept bytes fits new.line
+Gathered old new fits = (bytes : List ℕ) × HasNoNewline bytes × Consumes (pending old) (pending new) bytes × IsGathered bytes fits new.line
 
 -- what one step over the bytes that are read adds to the bytes that are gathered
 abbrev pub Gathers : Reading → Reading → Bool → Bool → Bool → Type 0
 Gathers old new fits fits' ended =
-    (front : List ℕ) → IsKept front fits old.line
-    → (bytes : List ℕ) × HasNoNewline bytes × TakesPiece old.buffered bytes ended new.buffered × IsKept (front ++ bytes) fits' new.line
+    (front : List ℕ) → IsGathered front fits old.line
+    → (bytes : List ℕ) × HasNoNewline bytes × TakesPiece old.buffered bytes ended new.buffered × IsGathered (front ++ bytes) fits' new.line
 
 -- what a step over the bytes that are read leaves
 pub record KeepsSource (old new : Reading) : Type 0 where
   pub left : new.left ≡ old.left
-  pub opening : new.opening ≡ old.opening
+  pub failed_before : new.failed_before ≡ old.failed_before
   pub failures : new.failures ≡ old.failures
   pub reads : new.reads ≡ old.reads
   pub is_broken : new.is_broken ≡ old.is_broken
@@ -99,7 +99,7 @@ pub record KeepsSource (old new : Reading) : Type 0 where
 pub KeepsSource-gather : (r s : Reading) → s ≡ record r { buffered = s.buffered; line = s.line } → KeepsSource r s
 KeepsSource-gather r s e = record {
   left = ap (λ (x : Reading). x.left) e;
-  opening = ap (λ (x : Reading). x.opening) e;
+  failed_before = ap (λ (x : Reading). x.failed_before) e;
   failures = ap (λ (x : Reading). x.failures) e;
   reads = ap (λ (x : Reading). x.reads) e;
   is_broken = ap (λ (x : Reading). x.is_broken) e;
@@ -108,7 +108,7 @@ KeepsSource-gather r s e = record {
 -- what reading on leaves
 pub record KeepsLine (old new : Reading) : Type 0 where
   pub line : new.line ≡ old.line
-  pub opening : new.opening ≡ old.opening
+  pub failed_before : new.failed_before ≡ old.failed_before
   pub failures : new.failures ≡ old.failures
   pub reads : new.reads ≡ old.reads + 1
   pub is_broken : new.is_broken ≡ old.is_broken
@@ -116,7 +116,7 @@ pub record KeepsLine (old new : Reading) : Type 0 where
 pub KeepsLine-fill : (r s : Reading) → s ≡ record r { buffered = s.buffered; left = s.left; reads = r.reads + 1 } → KeepsLine r s
 KeepsLine-fill r s e = record {
   line = ap (λ (x : Reading). x.line) e;
-  opening = ap (λ (x : Reading). x.opening) e;
+  failed_before = ap (λ (x : Reading). x.failed_before) e;
   failures = ap (λ (x : Reading). x.failures) e;
   reads = ap (λ (x : Reading). x.reads) e;
   is_broken = ap (λ (x : Reading). x.is_broken) e;
@@ -157,7 +157,7 @@ pub Gathered-filled : (a r s : Reading) (fits : Bool) → Gathered a r fits → 
 Gathered-filled a r s fits h e c l =
     let moved = subst (λ p. Consumes p (pending s) []) (sym (pending-left r e)) (Consumes-moved r.left s.left s.buffered c) in
     let all = Consumes-append (pending a) (pending r) (pending s) h.0 [] h.2 moved in
-    (h.0, h.1, subst (Consumes (pending a) (pending s)) (append-nil h.0) all, subst (IsKept h.0 fits) (sym l) h.3)
+    (h.0, h.1, subst (Consumes (pending a) (pending s)) (append-nil h.0) all, subst (IsGathered h.0 fits) (sym l) h.3)
 
 -- no byte is read on: what was gathered is what is lost
 pub LosesOfLine-gathered : (a r s : Reading) (fits : Bool) → Gathered a r fits → r.buffered ≡ [] → s.buffered ≡ [] → Keeps r.left s.left → LosesOfLine (pending a) (pending s)
@@ -169,12 +169,12 @@ LosesOfLine-gathered a r s fits h e f k =
     (h.0, h.1, subst (Consumes (pending a) (pending s)) (append-nil h.0) all)
 
 -- where a line has some byte kept, or is too long, it has some byte
-IsKept-some : (whole : List ℕ) (fits : Bool) (line : List ℕ) → IsKept whole fits line → (0 < length line) ⊎ (fits ≡ false) → 0 < length whole
-IsKept-some whole true line k some = elim some [ inl p ↦ subst (λ (l : List ℕ). 0 < length l) k.0 p | inr e ↦ absurd_of e ]
+IsGathered-some : (whole : List ℕ) (fits : Bool) (line : List ℕ) → IsGathered whole fits line → (0 < length line) ⊎ (fits ≡ false) → 0 < length whole
+IsGathered-some whole true line k some = elim some [ inl p ↦ subst (λ (l : List ℕ). 0 < length l) k.0 p | inr e ↦ absurd_of e ]
   where
     absurd_of : true ≡ false → 0 < length whole
     absurd_of e = cc
-IsKept-some whole false line k some = let long = k.1 in omega arith
+IsGathered-some whole false line k some = let long = k.1 in omega arith
 
 -- at the end of the input
 IsAtEnd-pending : (left : Option (List ℕ)) → IsAtEnd left → IsAtEnd (prepend_known [] left)
@@ -183,7 +183,7 @@ IsAtEnd-pending (Some xs) h = h
 
 takes_last : (a s : Reading) (fits : Bool) → Gathered a s fits → s.buffered ≡ [] → IsAtEnd s.left → (0 < length s.line) ⊎ (fits ≡ false) → TakesKnownLine (pending a) (ending_kind_where fits) s.line (pending s)
 takes_last a s fits h e k some =
-    takes_at_end (pending a) (pending s) h.0 s.line fits h.1 h.2 (subst IsAtEnd (sym (pending-left s e)) (IsAtEnd-pending s.left k)) (IsKept-some h.0 fits s.line h.3 some) h.3
+    takes_at_end (pending a) (pending s) h.0 s.line fits h.1 h.2 (subst IsAtEnd (sym (pending-left s e)) (IsAtEnd-pending s.left k)) (IsGathered-some h.0 fits s.line h.3 some) h.3
 
 takes_end : (a s : Reading) → Gathered a s true → s.buffered ≡ [] → IsAtEnd s.left → s.line ≡ [] → TakesKnownLine (pending a) End s.line (pending s)
 takes_end a s h e k none =

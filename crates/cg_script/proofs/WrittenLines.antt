@@ -7,7 +7,7 @@ use Rattle.cg_name.specs.Word.{FitsLine, is_plain_byte}
 use Rattle.cg_text.specs.Words.{Word, IsWrittenLine, line_of}
 use Rattle.cg_model.specs.Command.{Command, Create, Remove, Migrate, Subtree, Freeze, Cpus, Show, Online, MaxDescendants, MaxDepth}
 use Rattle.cg_core.specs.Record.{Request, Begin, Do, Commit, Abort}
-use Rattle.cg_script.specs.Request.{SpellsRequest, SpellsLine, request_text, line_text, CanBeAsked, CanAskFor, WrittenLinesAreSpelled}
+use Rattle.cg_script.specs.Request.{SpellsRequest, SpellsLine, request_text, request_line, CanBeAsked, CanAskFor, WrittenLinesAreSpelled}
 use Rattle.cg_name.proofs.Written.{plain_fits}
 use Rattle.cg_name.proofs.WrittenPaths.{path_fits, spelled}
 use Rattle.cg_text.proofs.WrittenLines.{says_line}
@@ -50,11 +50,11 @@ request_written (Do c) h = command_written c h
 request_written Commit h = record { first = codes "commit"; more = []; joined = refl; fit = keyword (codes "commit") (omega arith) refl; short = omega arith; request = refl }
 request_written Abort h = record { first = codes "abort"; more = []; joined = refl; fit = keyword (codes "abort") (omega arith) refl; short = omega arith; request = refl }
 
-line_spelled : (n : List ℕ) (r : Request) → IsSaveName n → Written r → SpellsLine (line_text n r) (Some (n, r))
+line_spelled : (n : List ℕ) (r : Request) → IsSaveName n → Written r → SpellsLine (request_line n r) (Some (n, r))
 line_spelled n r h w =
     let ws : List Word = n ∷ w.first ∷ w.more in
-    let whole : line_of ws ≡ line_text n r = ap (λ t. n ++ 32 ∷ t) w.joined in
-    let short : length (line_text n r) ≤ 65536 = omega (arith, length-append n (32 ∷ request_text r), h.short, w.short) in
+    let whole : line_of ws ≡ request_line n r = ap (λ t. n ++ 32 ∷ t) w.joined in
+    let short : length (request_line n r) ≤ 65536 = omega (arith, length-append n (32 ∷ request_text r), h.short, w.short) in
     let good : IsWrittenLine ws = record {
       words = (save_name_fits n h, w.fit);
       says = save_name_says n (32 ∷ line_of (w.first ∷ w.more)) h;

@@ -61,7 +61,7 @@ pub record Reading : Type 0 where
   -- the bytes of the line that was given last
   pub line : List ℕ
   -- how many reads of the source had failed when the reader was made
-  pub opening : ℕ
+  pub failed_before : ℕ
   -- how many have failed now
   pub failures : ℕ
   -- how many reads the reader has made
@@ -74,22 +74,22 @@ abbrev pub pending : Reading → Option (List ℕ)
 pending r = prepend_known r.buffered r.left
 
 -- how many more bytes a reader can give at most, each read counted as one
-abbrev pub room_of : Reading → ℕ
-room_of r = (67108864 - r.reads) * 65537 + length r.buffered
+abbrev pub bytes_to_come : Reading → ℕ
+bytes_to_come r = (67108864 - r.reads) * 65537 + length r.buffered
 
 -- why a reader breaks: a read of the source failed since the reader was made, or it made all its reads
 abbrev pub CanBreak : ℕ → ℕ → ℕ → Type 0
-CanBreak opening failures reads = Failed opening failures ⊎ (reads ≡ 67108864)
+CanBreak failed_before failures reads = Failed failed_before failures ⊎ (reads ≡ 67108864)
 
 -- What breaks a reader in a call: it went on past all bytes that were read, and then one read of the source
 -- failed, or one more were too many.
 abbrev pub BreaksNow : Reading → Reading → Type 0
 BreaksNow old new = (new.buffered ≡ []) × ((new.failures ≡ more old.failures) ⊎ (new.reads ≡ 67108864))
 
--- The bytes of a line so far are kept: all of them where they are at most 65,536, and none where they are more.
-abbrev pub IsKept : List ℕ → Bool → List ℕ → Type 0
-IsKept bytes true kept = (kept ≡ bytes) × (length bytes ≤ 65536)
-IsKept bytes false kept = (kept ≡ []) × (65536 < length bytes)
+-- The bytes of a line so far are gathered: all of them where they are at most 65,536, and none where they are more.
+abbrev pub IsGathered : List ℕ → Bool → List ℕ → Type 0
+IsGathered bytes true line = (line ≡ bytes) × (length bytes ≤ 65536)
+IsGathered bytes false line = (line ≡ []) × (65536 < length bytes)
 
 -- bytes of a line were taken off a text: with the newline that ends it, or else all of the text
 abbrev pub TakesPiece : List ℕ → List ℕ → Bool → List ℕ → Type 0

@@ -43,8 +43,8 @@ request_text Commit = codes "commit"
 request_text Abort = codes "abort"
 
 -- the line in which a session asks, without its newline
-abbrev pub line_text : List ℕ → Request → List ℕ
-line_text n r = n ++ 32 ∷ request_text r
+abbrev pub request_line : List ℕ → Request → List ℕ
+request_line n r = n ++ 32 ∷ request_text r
 
 -- a command that can be asked for: a creation, at a path of a group
 abbrev pub CanAskFor : Command → Type 0
@@ -58,7 +58,7 @@ CanBeAsked _ = ⊤
 
 -- the law of written lines: each spells what it was written for
 abbrev pub WrittenLinesAreSpelled : Type 0
-WrittenLinesAreSpelled = (n : List ℕ) (r : Request) → IsSaveName n → CanBeAsked r → SpellsLine (line_text n r) (Some (n, r))
+WrittenLinesAreSpelled = (n : List ℕ) (r : Request) → IsSaveName n → CanBeAsked r → SpellsLine (request_line n r) (Some (n, r))
 
 -- the law of lines: each says one thing at most
 abbrev pub OneCall : Type 0

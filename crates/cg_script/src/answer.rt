@@ -6,7 +6,7 @@ ghost use Rattle.cg_core.specs.Meaning.{answer_of};
 ghost use Rattle.cg_script.specs.Answer.{answer_text};
 
 use cg_core::Answer;
-use cg_name::{Refusal, TxnNumber};
+use cg_name::{Refusal, TxnNumber, or_truncate};
 use cg_text::write_quoted;
 use itoa::Buffer;
 use std::alloc::AllocError;
@@ -18,13 +18,10 @@ pub fn write_answer(answer: &Answer, out: &mut Vec<u8>) -> Result<(), AllocError
 {
     let start = out.len();
     let written = append_answer(answer, out);
-    if written.is_err() {
-        out.truncate(start);
-    }
-    written
+    or_truncate(written, start, out)
 }
 
-// What follows appends to `out`, and a refusal leaves what stood there at the front.
+// What follows appends to `out`, and an error leaves what stood there at the front.
 
 // The line of an answer.
 fn append_answer(answer: &Answer, out: &mut Vec<u8>) -> Result<(), AllocError>

@@ -6,10 +6,28 @@ ghost use Rattle.cg_script.specs.Device.{more, WritesFront, Failed, WritesWhole}
 
 use std::io;
 use std::io::{ErrorKind, Read, Write};
+use thiserror::Error;
 
 /// A read or a write failed.
-#[derive(Clone, Copy, Debug, PartialEq, Eq)]
+#[derive(Clone, Copy, Debug, PartialEq, Eq, Error)]
+#[error("a read or a write failed")]
 pub struct DeviceFault;
+
+// How many reads or writes have failed, up to 2^64 - 1, where the count stays.
+#[derive(Drop)]
+struct Failures {
+    count: u64,
+}
+
+impl Failures {
+    // Counts one more, and gives the fault of it.
+    fn fail(&mut self) -> DeviceFault
+        ensures { self.new.count ≡ more self.old.count }
+    {
+        self.count = self.count.saturating_add(1);
+        DeviceFault
+    }
+}
 
 /// What bytes are read from. It counts its failed reads, up to 2^64 - 1, where the count stays.
 pub trait Source {
@@ -58,7 +76,7 @@ pub trait Sink {
 #[derive(Drop)]
 pub struct FromRead<R> {
     reader: R,
-    failures: u64,
+    failures: Failures,
 }
 
 impl<R: Read> FromRead<R> {
@@ -69,7 +87,7 @@ impl<R: Read> FromRead<R> {
     {
         FromRead {
             reader,
-            failures: 0,
+            failures: Failures { count: 0 },
         }
     }
 }
@@ -77,20 +95,17 @@ impl<R: Read> FromRead<R> {
 impl<R: Read> Source for FromRead<R> {
     ghost left = { λ f. R.remaining f.reader };
 
-    ghost failed = { λ f. f.failures };
+    ghost failed = { λ f. f.failures.count };
 
     fn failures(&self) -> u64 {
-        self.failures
+        self.failures.count
     }
 
     // A read that a signal interrupted is tried again, as std's own loops do.
     fn read(&mut self, buf: &mut [u8]) -> Result<usize, DeviceFault> {
         match read_uninterrupted(&mut self.reader, buf) {
             Ok(n) => Ok(n),
-            Err(_) => {
-                self.failures = self.failures.saturating_add(1);
-                Err(DeviceFault)
-            }
+            Err(_) => Err(self.failures.fail()),
         }
     }
 }
@@ -99,7 +114,7 @@ impl<R: Read> Source for FromRead<R> {
 #[derive(Drop)]
 pub struct FromWrite<W> {
     writer: W,
-    failures: u64,
+    failures: Failures,
 }
 
 impl<W: Write> FromWrite<W> {
@@ -110,36 +125,27 @@ impl<W: Write> FromWrite<W> {
     {
         FromWrite {
             writer,
-            failures: 0,
+            failures: Failures { count: 0 },
         }
-    }
-
-    // Counts a failed write.
-    fn fail(&mut self) -> DeviceFault
-        ensures writer { self.new.writer ≡ self.old.writer }
-        ensures counted { self.new.failures ≡ more self.old.failures }
-    {
-        self.failures = self.failures.saturating_add(1);
-        DeviceFault
     }
 }
 
 impl<W: Write> Sink for FromWrite<W> {
     ghost taken = { λ f. W.contents f.writer };
 
-    ghost failed = { λ f. f.failures };
+    ghost failed = { λ f. f.failures.count };
 
     fn failures(&self) -> u64 {
-        self.failures
+        self.failures.count
     }
 
     // A write that takes none of the bytes handed in is a failure, so that writing goes on or stops. One that a signal
     // interrupted is tried again.
     fn write(&mut self, bytes: &[u8]) -> Result<usize, DeviceFault> {
         match write_uninterrupted(&mut self.writer, bytes) {
-            Ok(0) if !bytes.is_empty() => Err(self.fail()),
+            Ok(0) if !bytes.is_empty() => Err(self.failures.fail()),
             Ok(n) => Ok(n),
-            Err(_) => Err(self.fail()),
+            Err(_) => Err(self.failures.fail()),
         }
     }
 }

@@ -2,29 +2,30 @@
 ghost use Rattle.std.specs.Prelude.{◌≡◌, ◌≢◌, ℕ, ◌+◌, ◌≤◌, ◌<◌, List, [], ◌∷◌, ◌++◌, length, take, drop, IfOk, IfErr, IfSome, OnOk, OnErr, IsOk, IsErr, IsTrue, MatchOption, is_err, true, false, vec_len, vec_capacity};
 ghost use Rattle.std.specs.Io.KnownBytes.{Consumes, Keeps, IsAtEnd, ReadConsumes};
 ghost use Rattle.cg_script.specs.Device.{Failed, more};
-ghost use Rattle.cg_script.specs.Lines.{HasNoNewline, room_of, TakesKnownLine, LosesOfLine, pending, CanBreak, BreaksNow, IsKept, TakesPiece, IsFirstNewline, kind_where, last_kind_where, StepsAreLines};
+ghost use Rattle.cg_script.specs.Lines.{HasNoNewline, bytes_to_come, TakesKnownLine, LosesOfLine, pending, CanBreak, BreaksNow, IsGathered, TakesPiece, IsFirstNewline, kind_where, last_kind_where, StepsAreLines};
 
 use crate::device::{DeviceFault, Source};
+use cg_text::LONGEST_LINE;
 use std::alloc::{AllocError, Global};
 use std::marker::Model;
+use thiserror::Error;
 
-/// The most bytes of a line that is given, without its newline.
-const LONGEST_LINE: usize = 65_536;
-
-/// How many bytes are read at most at a time.
+// How many bytes are read at most at a time.
 const CHUNK: usize = 65_536;
 
-/// How many reads a reader makes at most.
+// How many reads a reader makes at most.
 const MOST_READS: u32 = 67_108_864;
 
 const NEWLINE: u8 = b'\n';
 
 /// Why a reader of lines gave none.
-#[derive(Clone, Copy, Debug, PartialEq, Eq)]
+#[derive(Clone, Copy, Debug, PartialEq, Eq, Error)]
 pub enum LineFault {
     /// There was no memory for the buffers.
+    #[error("memory ran out")]
     Memory,
     /// A read of the source failed, or the reader has made all its reads.
+    #[error("the reader failed")]
     Read,
 }
 
@@ -52,7 +53,7 @@ pub struct LineReader<S: Source> {
     end: usize,
     // It has room for the longest line from the start on, so that reading takes no memory.
     line: Vec<u8>,
-    opening: u64,
+    failed_before: u64,
     reads: u32,
     is_broken: bool,
 }
@@ -67,15 +68,15 @@ impl<S: Source> Model for LineReader<S> {
       buffered = slice_range r.chunk.items r.start r.end;
       left = S.left r.source;
       line = r.line.items;
-      opening = r.opening;
+      failed_before = r.failed_before;
       failures = S.failed r.source;
       reads = r.reads;
       is_broken = r.is_broken;
     } };
 
     ghost invariant = { λ r. (vec_len r.chunk ≡ 65536) × (r.start ≤ r.end) × (r.end ≤ 65536)
-        × (65536 ≤ vec_capacity r.line) × (r.reads ≤ 67108864) × (r.opening ≤ S.failed r.source)
-        × (IsTrue r.is_broken → CanBreak r.opening (S.failed r.source) r.reads) };
+        × (65536 ≤ vec_capacity r.line) × (r.reads ≤ 67108864) × (r.failed_before ≤ S.failed r.source)
+        × (IsTrue r.is_broken → CanBreak r.failed_before (S.failed r.source) r.reads) };
 }
 
 impl From<AllocError> for LineFault {
@@ -95,12 +96,12 @@ impl<S: Source> LineReader<S> {
     where
         S: Drop,
         ensures pending { IfOk result (λ r. pending r ≡ S.left source) }
-        ensures opening { IfOk result (λ r. r.opening ≡ S.failed source) }
+        ensures failed_before { IfOk result (λ r. r.failed_before ≡ S.failed source) }
         ensures failures { IfOk result (λ r. r.failures ≡ S.failed source) }
         ensures fresh { IfOk result (λ r. (r.reads ≡ 0) × (r.line ≡ []) × (r.is_broken ≡ false)) }
         ensures err { IfErr result (λ e. e ≡ LineFault.Memory) }
     {
-        let opening = source.failures();
+        let failed_before = source.failures();
         let chunk = zeros(alloc, CHUNK)?;
         let line = Vec::with_capacity(alloc, LONGEST_LINE)?;
         Ok(LineReader {
@@ -109,7 +110,7 @@ impl<S: Source> LineReader<S> {
             start: 0,
             end: 0,
             line,
-            opening,
+            failed_before,
             reads: 0,
             is_broken: false,
         })
@@ -155,18 +156,18 @@ impl<S: Source> LineReader<S> {
 
         // The fault, why it comes, and that it stays.
         ensures err { IfErr result (λ e. e ≡ LineFault.Read) }
-        ensures cause { OnErr result (CanBreak self.new.opening self.new.failures self.new.reads) }
+        ensures cause { OnErr result (CanBreak self.new.failed_before self.new.failures self.new.reads) }
         ensures first { self.old.is_broken ≡ false → OnErr result (BreaksNow self.old self.new) }
         ensures breaks { self.new.is_broken ≡ is_err result }
         ensures stays { IsTrue self.old.is_broken → IsErr result × (self.new ≡ self.old) }
 
         // The counts.
-        ensures opening { self.new.opening ≡ self.old.opening }
+        ensures failed_before { self.new.failed_before ≡ self.old.failed_before }
         ensures failures { OnOk result (self.new.failures ≡ self.old.failures) }
         ensures reads { self.old.reads ≤ self.new.reads }
 
-        // Each line that is given leaves room for fewer.
-        ensures progress { IfOk result (λ kind. kind ≢ LineKind.End → room_of self.new < room_of self.old) }
+        // Each line that is given leaves fewer bytes to come.
+        ensures progress { IfOk result (λ kind. kind ≢ LineKind.End → bytes_to_come self.new < bytes_to_come self.old) }
     {
         if self.is_broken {
             return Err(LineFault::Read);
@@ -185,20 +186,20 @@ impl<S: Source> LineReader<S> {
 
     // Takes the bytes that are read up to the first newline, with it, or all where there is none.
     fn gather(&mut self, fits: &mut bool) -> bool
-        ensures taken { (front : List ℕ) → IsKept front fits.old self.old.line → (bytes : List ℕ) × HasNoNewline bytes
+        ensures taken { (front : List ℕ) → IsGathered front fits.old self.old.line → (bytes : List ℕ) × HasNoNewline bytes
             × TakesPiece self.old.buffered bytes result self.new.buffered
-            × IsKept (front ++ bytes) fits.new self.new.line }
+            × IsGathered (front ++ bytes) fits.new self.new.line }
         ensures rest { self.new ≡ record self.old { buffered = self.new.buffered; line = self.new.line } }
     {
         let bytes = &self.chunk[self.start..self.end];
         match newline_in(bytes) {
             Some(n) => {
-                *fits = keep(&mut self.line, *fits, &bytes[..n]);
+                *fits = append_fitting(&mut self.line, *fits, &bytes[..n]);
                 self.start += n + 1;
                 true
             }
             None => {
-                *fits = keep(&mut self.line, *fits, bytes);
+                *fits = append_fitting(&mut self.line, *fits, bytes);
                 self.start = self.end;
                 false
             }
@@ -219,10 +220,10 @@ impl<S: Source> LineReader<S> {
         ensures bound { OnOk result (length self.new.buffered ≤ 65536) }
         ensures err { IfErr result (λ e. e ≡ LineFault.Read) }
         ensures loses { OnErr result ((self.new.buffered ≡ []) × Keeps self.old.left self.new.left) }
-        ensures cause { OnErr result (CanBreak self.new.opening self.new.failures self.new.reads) }
+        ensures cause { OnErr result (CanBreak self.new.failed_before self.new.failures self.new.reads) }
         ensures first { OnErr result (BreaksNow self.old self.new) }
         ensures breaks { OnErr result (self.new.is_broken ≡ true) }
-        ensures opening { self.new.opening ≡ self.old.opening }
+        ensures failed_before { self.new.failed_before ≡ self.old.failed_before }
         ensures reads { self.old.reads ≤ self.new.reads }
     {
         self.start = 0;
@@ -284,11 +285,11 @@ fn newline_in(bytes: &[u8]) -> Option<usize>
     bytes.iter().position(|byte| *byte == NEWLINE)
 }
 
-// Keeps more bytes of a line that fits so far, and returns whether it still fits.
-fn keep(line: &mut Vec<u8>, fits: bool, bytes: &[u8]) -> bool
+// Appends more bytes of a line that fits so far, and tells whether it still fits; of a line that does not nothing stays.
+fn append_fitting(line: &mut Vec<u8>, fits: bool, bytes: &[u8]) -> bool
     requires { 65536 ≤ vec_capacity line.old }
     ensures room { 65536 ≤ vec_capacity line.new }
-    ensures kept { (front : List ℕ) → IsKept front fits line.old.items → IsKept (front ++ bytes.now) result line.new.items }
+    ensures gathered { (front : List ℕ) → IsGathered front fits line.old.items → IsGathered (front ++ bytes.now) result line.new.items }
 {
     if !fits {
         return false;

@@ -11,13 +11,13 @@ use crate::answer::write_answer;
 use crate::request::read_line;
 use crate::session::SessionName;
 use cg_core::{Answer, Core, Request, SessionId};
-use cg_name::Refusal;
+use cg_name::{Refusal, or_truncate};
 use cg_world::World;
 use indexmap::IndexSet;
 use std::alloc::{AllocError, Global};
 use std::marker::Model;
 
-/// The most session names of a schedule.
+// The most session names of a schedule.
 const MOST_NAMES: usize = 4_096;
 
 /// The sessions of a schedule by the numbers of their names, and the machine that answers them.
@@ -82,16 +82,13 @@ impl Player {
     {
         let start = out.len();
         let ended = self.append_end(alloc, out);
-        if ended.is_err() {
-            out.truncate(start);
-        }
-        ended
+        or_truncate(ended, start, out)
     }
 
-    // The same, where a refusal leaves what stood there at the front.
+    // The same, where an error leaves what stood there at the front.
     fn append_end(&mut self, alloc: Global, out: &mut Vec<u8>) -> Result<(), AllocError>
         ensures ok { OnOk result (out.new.items ≡ out.old.items ++ ending_text self.old.machine) }
-        ensures kept { take (length out.old.items) out.new.items ≡ out.old.items }
+        ensures kept { OnErr result (take (length out.old.items) out.new.items ≡ out.old.items) }
     {
         if let Some(session) = self.core.open_session() {
             let answer = self.core.step(alloc, session, Request::Abort);
@@ -138,17 +135,23 @@ impl Player {
     }
 }
 
-// Appends the line of an answer. A refusal leaves `out` as it was.
+// Appends the line of an answer. An error leaves `out` as it was.
 fn end_line(answer: &Answer, out: &mut Vec<u8>) -> Result<(), AllocError>
     ensures ok { OnOk result (out.new.items ≡ out.old.items ++ (answer_text (answer_of answer.now) ++ newline)) }
     ensures err { OnErr result (out.new.items ≡ out.old.items) }
 {
     let start = out.len();
+    let written = append_line(answer, out);
+    or_truncate(written, start, out)
+}
+
+// The same, where an error leaves what stood there at the front.
+fn append_line(answer: &Answer, out: &mut Vec<u8>) -> Result<(), AllocError>
+    ensures ok { OnOk result (out.new.items ≡ out.old.items ++ (answer_text (answer_of answer.now) ++ newline)) }
+    ensures kept { OnErr result (take (length out.old.items) out.new.items ≡ out.old.items) }
+{
     write_answer(answer, out)?;
-    if out.push(b'\n').is_err() {
-        out.truncate(start);
-        return Err(AllocError);
-    }
+    out.push(b'\n')?;
     Ok(())
 }
 

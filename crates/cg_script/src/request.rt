@@ -1,15 +1,15 @@
 //! The lines of a schedule.
-ghost use Rattle.std.specs.Prelude.{◌≡◌, ◌++◌, IfOk, IfErr, OnOk, OnErr, map, take, vec_len, Option, List, ℕ};
+ghost use Rattle.std.specs.Prelude.{◌≡◌, ◌++◌, IfOk, IfErr, OnOk, OnErr, map, take, length, Option, List, ℕ};
 ghost use Rattle.std.specs.Option.{option_map};
 ghost use Rattle.std.specs.Result.{IsErrOf};
 ghost use Rattle.cg_name.specs.Refusal.{IsSyntaxOrMemory};
 ghost use Rattle.cg_core.specs.Meaning.{request_of};
 ghost use Rattle.cg_core.specs.Record as model;
-ghost use Rattle.cg_script.specs.Request.{SpellsCall, SpellsLine, SpellsRequest, line_text, request_text, OneCall, WrittenLinesAreSpelled};
+ghost use Rattle.cg_script.specs.Request.{SpellsCall, SpellsLine, SpellsRequest, request_line, request_text, OneCall, WrittenLinesAreSpelled};
 
 use crate::session::SessionName;
 use cg_core::{Command, Request};
-use cg_name::{Path, Refusal};
+use cg_name::{Path, Refusal, or_truncate};
 use cg_text::read_words;
 use std::alloc::{AllocError, Global};
 
@@ -26,7 +26,7 @@ pub fn read_line(alloc: Global, line: &[u8]) -> Result<Option<(SessionName, Requ
     Ok(Some(read_call(alloc, words.as_slice())?))
 }
 
-/// The session and the request that the words of a line spell.
+// The session and the request that the words of a line spell.
 fn read_call(alloc: Global, words: &[&str]) -> Result<(SessionName, Request), Refusal>
     ensures value { IfOk result (λ c. SpellsCall (map (λ w. w.now) words.now) c.0 (request_of c.1)) }
     ensures syntax { IsErrOf result Refusal.Syntax → (n : List ℕ) (r : model.Request) → SpellsCall (map (λ w. w.now) words.now) n r → ⊥ }
@@ -40,7 +40,7 @@ fn read_call(alloc: Global, words: &[&str]) -> Result<(SessionName, Request), Re
     Ok((name, request))
 }
 
-/// The request that the words behind a session's name spell.
+// The request that the words behind a session's name spell.
 fn read_request(alloc: Global, words: &[&str]) -> Result<Request, Refusal>
     ensures value { IfOk result (λ r. SpellsRequest (map (λ w. w.now) words.now) (request_of r)) }
     ensures syntax { IsErrOf result Refusal.Syntax → (r : model.Request) → SpellsRequest (map (λ w. w.now) words.now) r → ⊥ }
@@ -57,18 +57,15 @@ fn read_request(alloc: Global, words: &[&str]) -> Result<Request, Refusal>
     }
 }
 
-/// Appends the line in which a session asks, without a newline: its words with single spaces. An error, where there is no memory, leaves the
-/// bytes as they were.
+/// Appends the line in which a session asks, without a newline: its words with single spaces. An error, where
+/// there is no memory, leaves `out` as it was.
 pub fn write_line(name: SessionName, request: &Request, out: &mut Vec<u8>) -> Result<(), AllocError>
-    ensures ok { OnOk result (out.new.items ≡ out.old.items ++ line_text name (request_of request.now)) }
+    ensures ok { OnOk result (out.new.items ≡ out.old.items ++ request_line name (request_of request.now)) }
     ensures err { OnErr result (out.new.items ≡ out.old.items) }
 {
     let start = out.len();
-    if append_line(name, request, out).is_err() {
-        out.truncate(start);
-        return Err(AllocError);
-    }
-    Ok(())
+    let written = append_line(name, request, out);
+    or_truncate(written, start, out)
 }
 
 /// A line says nothing, or one session's request: never both, and never two.
@@ -81,20 +78,22 @@ pub fn written_lines_are_spelled()
     ensures { WrittenLinesAreSpelled }
 {}
 
-// The same, but where memory runs out some of the line may stand after what was there.
+// What follows appends to `out`, and an error leaves what stood there at the front.
+
+// The line in which a session asks.
 fn append_line(name: SessionName, request: &Request, out: &mut Vec<u8>) -> Result<(), AllocError>
-    ensures ok { OnOk result (out.new.items ≡ out.old.items ++ line_text name (request_of request.now)) }
-    ensures kept { take (vec_len out.old) out.new.items ≡ out.old.items }
+    ensures ok { OnOk result (out.new.items ≡ out.old.items ++ request_line name (request_of request.now)) }
+    ensures kept { OnErr result (take (length out.old.items) out.new.items ≡ out.old.items) }
 {
     out.extend_from_slice(name.as_bytes())?;
     out.push(b' ')?;
     append_request(request, out)
 }
 
-// Appends the words behind the session's name, or some of them where memory runs out.
+// The words behind the session's name.
 fn append_request(request: &Request, out: &mut Vec<u8>) -> Result<(), AllocError>
     ensures ok { OnOk result (out.new.items ≡ out.old.items ++ request_text (request_of request.now)) }
-    ensures kept { take (vec_len out.old) out.new.items ≡ out.old.items }
+    ensures kept { OnErr result (take (length out.old.items) out.new.items ≡ out.old.items) }
 {
     match request {
         Request::Begin => out.extend_from_slice(b"begin")?,

@@ -3,7 +3,7 @@ ghost use Rattle.std.specs.Prelude.{◌≡◌, ◌⊎◌, ◌≤◌, ◌<◌, �
 ghost use Rattle.std.specs.Result.{IsErrOf};
 ghost use Rattle.std.specs.Io.KnownBytes.{Appends};
 ghost use Rattle.cg_script.specs.Device.{AppendsFront, AppendsTo, Failed};
-ghost use Rattle.cg_script.specs.Lines.{pending, room_of, CanBreak, LosesOfLine};
+ghost use Rattle.cg_script.specs.Lines.{pending, bytes_to_come, CanBreak, LosesOfLine};
 ghost use Rattle.cg_script.specs.Replay.{opened, Answers, IsOutput, IsOutputFrom, AnswersFirst, AnswersPassed, OneOutput, SomeOutput};
 ghost use Rattle.cg_script.specs.declared.fault.ScriptFault.TheVariants as faults;
 
@@ -32,7 +32,7 @@ pub fn replay<S: Source, K: Sink>(
     requires high { limit ≤ 1048576 }
     ensures output { OnOk result (IfSome (pending reader.old) (λ text. (out : List ℕ) × IsOutput world limit text out × Appends (K.taken sink.old) (K.taken sink.new) out)) }
     ensures front { OnErr result (IfSome (pending reader.old) (λ text. (out : List ℕ) → IsOutput world limit text out → AppendsFront (K.taken sink.old) (K.taken sink.new) out)) }
-    ensures reads { IsErrOf result faults.ReadFault → CanBreak reader.new.opening reader.new.failures reader.new.reads }
+    ensures reads { IsErrOf result faults.ReadFault → CanBreak reader.new.failed_before reader.new.failures reader.new.reads }
     ensures passed { IsErrOf result faults.ReadFault → IfSome (pending reader.old) (λ text. AnswersPassed (opened world limit) text (pending reader.new) (K.taken sink.old) (K.taken sink.new)) }
     ensures writes { IsErrOf result faults.WriteFault → Failed (K.failed sink.old) (K.failed sink.new) }
     ensures syntax { ¬ (IsErrOf result faults.Syntax) }
@@ -52,7 +52,7 @@ fn play<S: Source, K: Sink>(
 ) -> Result<(), ScriptFault>
     ensures output { OnOk result (IfSome (pending reader.old) (λ text. (out : List ℕ) × IsOutputFrom player.old text out × Appends (K.taken sink.old) (K.taken sink.new) out)) }
     ensures front { OnErr result (IfSome (pending reader.old) (λ text. (out : List ℕ) → IsOutputFrom player.old text out → AppendsFront (K.taken sink.old) (K.taken sink.new) out)) }
-    ensures reads { IsErrOf result faults.ReadFault → CanBreak reader.new.opening reader.new.failures reader.new.reads }
+    ensures reads { IsErrOf result faults.ReadFault → CanBreak reader.new.failed_before reader.new.failures reader.new.reads }
     ensures passed { IsErrOf result faults.ReadFault → IfSome (pending reader.old) (λ text. AnswersPassed player.old text (pending reader.new) (K.taken sink.old) (K.taken sink.new)) }
     ensures writes { IsErrOf result faults.WriteFault → Failed (K.failed sink.old) (K.failed sink.new) }
     ensures syntax { ¬ (IsErrOf result faults.Syntax) }
@@ -77,9 +77,9 @@ fn answer_next<S: Source, K: Sink>(
     ensures answered { IfOk result (λ more. more ≡ true → IfSome (pending reader.old) (λ text. (answer : List ℕ) × AnswersFirst player.old text answer player.new (pending reader.new)
         × AppendsTo (K.taken sink.old) (K.taken sink.new) (out.old.items ++ answer) out.new.items)) }
     ensures ended { IfOk result (λ more. more ≡ false → IfSome (pending reader.old) (λ text. text ≡ []) × (player.new ≡ player.old) × AppendsTo (K.taken sink.old) (K.taken sink.new) out.old.items out.new.items) }
-    ensures progress { IfOk result (λ more. more ≡ true → room_of reader.new < room_of reader.old) }
+    ensures progress { IfOk result (λ more. more ≡ true → bytes_to_come reader.new < bytes_to_come reader.old) }
     ensures counted { OnOk result (K.failed sink.new ≡ K.failed sink.old) }
-    ensures reads { IsErrOf result faults.ReadFault → CanBreak reader.new.opening reader.new.failures reader.new.reads }
+    ensures reads { IsErrOf result faults.ReadFault → CanBreak reader.new.failed_before reader.new.failures reader.new.reads }
     ensures loses { IsErrOf result faults.ReadFault → LosesOfLine (pending reader.old) (pending reader.new) }
     ensures sent { IsErrOf result faults.ReadFault → Appends (K.taken sink.old) (K.taken sink.new) out.old.items }
     ensures front { OnErr result (AppendsFront (K.taken sink.old) (K.taken sink.new) out.old.items) }
@@ -140,8 +140,8 @@ fn answer_line<S: Source>(
     ensures answered { IfOk result (λ more. more ≡ true → IfSome (pending reader.old) (λ text. (answer : List ℕ) × (out.new.items ≡ out.old.items ++ answer) × AnswersFirst player.old text answer player.new (pending reader.new))) }
     ensures ended { IfOk result (λ more. more ≡ false → IfSome (pending reader.old) (λ text. text ≡ []) × (player.new ≡ player.old) × (out.new.items ≡ out.old.items)) }
     ensures unchanged { OnErr result (out.new.items ≡ out.old.items) }
-    ensures progress { IfOk result (λ more. more ≡ true → room_of reader.new < room_of reader.old) }
-    ensures reads { IsErrOf result faults.ReadFault → CanBreak reader.new.opening reader.new.failures reader.new.reads }
+    ensures progress { IfOk result (λ more. more ≡ true → bytes_to_come reader.new < bytes_to_come reader.old) }
+    ensures reads { IsErrOf result faults.ReadFault → CanBreak reader.new.failed_before reader.new.failures reader.new.reads }
     ensures loses { IsErrOf result faults.ReadFault → LosesOfLine (pending reader.old) (pending reader.new) }
     ensures faults { IfErr result (λ e. (e ≡ faults.ReadFault) ⊎ (e ≡ faults.Memory)) }
 {

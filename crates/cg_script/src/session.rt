@@ -1,16 +1,19 @@
 //! The names of sessions.
-ghost use Rattle.std.specs.Prelude.{◌≡◌, nat_eq, IfOk, IfErr, OnOk};
+ghost use Rattle.std.specs.Prelude.{◌≡◌, nat_eq, IfOk, IfErr, OnOk, Some};
 ghost use Rattle.std.specs.Result.{IsErrOf};
 ghost use Rattle.std.specs.Hash as fed;
 ghost use Rattle.std.specs.Cmp.Lexicographic.{pointwise};
 ghost use Rattle.std.specs.Cmp.Rules.{comparing, hashing};
 ghost use Rattle.std.proofs.Common.{rules};
+ghost use Rattle.cg_name.specs.Reads.{Reads};
 ghost use Rattle.cg_name.specs.SaveName.{IsSaveName};
 ghost use Rattle.cg_name.specs.declared.refusal.Refusal.TheVariants.{Syntax};
 
 use cg_name::{Refusal, SaveName};
+use std::fmt;
 use std::hash::{Hash, Hasher};
 use std::marker::Model;
+use std::str::FromStr;
 
 /// A session's name: 1 to 16 ASCII letters, digits, underscores or dashes, as a savepoint's name is.
 #[derive(Clone, Copy, Debug)]
@@ -31,7 +34,7 @@ impl Model for SessionName {
 }
 
 impl SessionName {
-    /// The name that the text spells: itself. `Syntax` where it is none.
+    /// The name that the text spells: itself. `Syntax` where it is none. Takes no memory.
     pub fn read(text: &str) -> Result<SessionName, Refusal>
         ensures value { IfOk result (λ n. n ≡ text.now) }
         ensures valid { OnOk result (IsSaveName text.now) }
@@ -43,12 +46,31 @@ impl SessionName {
         })
     }
 
-    /// The name's bytes.
+    /// The name's bytes, from 1 to 16.
     pub fn as_bytes(&self) -> &[u8]
         ensures value { result.now ≡ self.now }
         ensures valid { IsSaveName self.now }
     {
         self.name.as_bytes()
+    }
+}
+
+impl FromStr for SessionName {
+    type Err = Refusal;
+
+    ghost from_str_gives = { Reads (λ text n. (n ≡ text) × IsSaveName text) };
+
+    fn from_str(text: &str) -> Result<SessionName, Refusal> {
+        SessionName::read(text)
+    }
+}
+
+/// Shows the name as it stands.
+impl fmt::Display for SessionName {
+    ghost output = { λ n. Some n };
+
+    fn fmt<W: fmt::Write>(&self, f: &mut fmt::Formatter<W>) -> fmt::Result {
+        fmt::Display::fmt(&self.name, f)
     }
 }
 

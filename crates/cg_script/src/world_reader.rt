@@ -5,7 +5,7 @@ ghost use Rattle.cg_text.specs.Words.{Line};
 ghost use Rattle.cg_model.specs.Sound.{Sound};
 ghost use Rattle.cg_model.specs.Tree.{Tree};
 ghost use Rattle.cg_world.specs.Reader.{HasTaken, SomeEnds, SpellTree};
-ghost use Rattle.cg_script.specs.Lines.{pending, room_of, CanBreak};
+ghost use Rattle.cg_script.specs.Lines.{pending, bytes_to_come, CanBreak};
 ghost use Rattle.cg_script.specs.WorldPart.{HasNoWorld, ReadsWorld};
 ghost use Rattle.cg_script.specs.WorldLines.{IsPart, IsPartBehind, SpoilEnd, SpoilWorld};
 ghost use Rattle.cg_script.specs.declared.fault.ScriptFault.TheVariants as faults;
@@ -14,22 +14,19 @@ use crate::device::Source;
 use crate::fault::ScriptFault;
 use crate::lines::{LineKind, LineReader};
 use cg_name::Refusal;
-use cg_world::{World, WorldReader};
+use cg_world::{LONGEST_WORLD, World, WorldReader};
 use std::alloc::Global;
-
-/// The most bytes of a world's text, through the line that ends it and that line's newline, where it has one.
-const LONGEST_WORLD: usize = 16_777_216;
 
 /// The world that the text through the first line `end` spells, that line's newline included where there is one; the
 /// reader goes on behind it. `Syntax` where it spells none, where it has more than 16,777,216 bytes, and where no line
-/// says `end`. After a fault the reader stands somewhere in the world's lines.
+/// says `end`. After a fault nothing is told of where the reader stands.
 pub fn read_world<S: Source>(
     alloc: Global,
     reader: &mut LineReader<S>,
 ) -> Result<World, ScriptFault>
     ensures value { IfOk result (λ w. IfSome (pending reader.old) (λ text. ReadsWorld text w (pending reader.new))) }
     ensures syntax { IsErrOf result faults.Syntax → IfSome (pending reader.old) HasNoWorld }
-    ensures reads { IsErrOf result faults.ReadFault → CanBreak reader.new.opening reader.new.failures reader.new.reads }
+    ensures reads { IsErrOf result faults.ReadFault → CanBreak reader.new.failed_before reader.new.failures reader.new.reads }
     ensures writes { ¬ (IsErrOf result faults.WriteFault) }
 {
     let mut part = Part::new();
@@ -48,9 +45,9 @@ fn take_line<S: Source>(
     part: Part,
 ) -> Result<Part, ScriptFault>
     ensures taken { IfOk result (λ next. (start : Option (List ℕ)) → IsPart start part.world part.bytes (pending reader.old) → IsPartBehind start next.world next.bytes (pending reader.new)) }
-    ensures progress { OnOk result (room_of reader.new < room_of reader.old) }
+    ensures progress { OnOk result (bytes_to_come reader.new < bytes_to_come reader.old) }
     ensures syntax { IsErrOf result faults.Syntax → (start : Option (List ℕ)) → IsPart start part.world part.bytes (pending reader.old) → IfSome start HasNoWorld }
-    ensures reads { IsErrOf result faults.ReadFault → CanBreak reader.new.opening reader.new.failures reader.new.reads }
+    ensures reads { IsErrOf result faults.ReadFault → CanBreak reader.new.failed_before reader.new.failures reader.new.reads }
     ensures writes { ¬ (IsErrOf result faults.WriteFault) }
 {
     match reader.next_line() {

@@ -56,7 +56,7 @@ pub fn read_words(alloc: Global, line: &[u8]) -> Result<Option<Vec<&str>>, Refus
     Ok(Some(words(alloc, line)?))
 }
 
-/// The line without one carriage return at its end.
+// The line without one carriage return at its end.
 fn without_carriage_return(line: &[u8]) -> &[u8]
     ensures { result.now ≡ strip_carriage_return line.now }
 {
@@ -66,7 +66,7 @@ fn without_carriage_return(line: &[u8]) -> &[u8]
     }
 }
 
-/// Whether there is no byte past the line's blanks, or a number sign.
+// Whether there is no byte past the line's blanks, or a number sign.
 fn is_silent(line: &str) -> bool
     ensures { result ≡ is_silent line.now }
 {
@@ -76,7 +76,7 @@ fn is_silent(line: &str) -> bool
     }
 }
 
-/// The text behind the blanks at its front.
+// The text behind the blanks at its front.
 fn behind_blanks(text: &str) -> &str
     ensures { result.now ≡ behind is_blank text.now }
 {
@@ -87,8 +87,8 @@ fn behind_blanks(text: &str) -> &str
     rest
 }
 
-/// The first word and what stands behind it, where the text begins with a word that a blank or the text's end
-/// follows.
+// The first word and what stands behind it, where the text begins with a word that a blank or the text's end
+// follows.
 fn cut_word(text: &str) -> Option<(&str, &str)>
     ensures { MatchOption result ((word : Word) (rest : Line) → BeginsWith text.now word rest → ⊥) (λ cut. BeginsWith text.now cut.0.now cut.1.now) }
 {
@@ -96,7 +96,7 @@ fn cut_word(text: &str) -> Option<(&str, &str)>
     Some(text.split_at(text.len() - rest.len()))
 }
 
-/// What stands behind the first word.
+// What stands behind the first word.
 fn behind_word(text: &[u8]) -> Option<&[u8]>
     ensures { MatchOption result ((word : Word) (rest : Line) → BeginsWith text.now word rest → ⊥) (λ rest. (word : Word) × BeginsWith text.now word rest.now) }
 {
@@ -109,7 +109,7 @@ fn behind_word(text: &[u8]) -> Option<&[u8]>
     ends_word(rest).then_some(rest)
 }
 
-/// What stands behind the closing quotation mark of a text that follows an opening one.
+// What stands behind the closing quotation mark of a text that follows an opening one.
 fn behind_quoted(text: &[u8]) -> Option<&[u8]>
     ensures { MatchOption result ((rest : Line) → Closes text.now rest → ⊥) (λ rest. Closes text.now rest.now) }
 {
@@ -124,7 +124,7 @@ fn behind_quoted(text: &[u8]) -> Option<&[u8]>
     None
 }
 
-/// What stands behind the byte that a backslash escapes.
+// What stands behind the byte that a backslash escapes.
 fn behind_escaped(text: &[u8]) -> Option<&[u8]>
     ensures { MatchOption result ((byte : ℕ) (rest : Line) → text.now ≡ byte ∷ rest → is_escaped byte ≡ false) (λ rest. (byte : ℕ) × (text.now ≡ byte ∷ rest.now) × (is_escaped byte ≡ true)) }
 {
@@ -134,7 +134,7 @@ fn behind_escaped(text: &[u8]) -> Option<&[u8]>
     }
 }
 
-/// The text behind the bytes at its front that a bare word may have.
+// The text behind the bytes at its front that a bare word may have.
 fn behind_bare(text: &[u8]) -> &[u8]
     ensures { result.now ≡ behind is_bare_byte text.now }
 {
@@ -148,14 +148,14 @@ fn behind_bare(text: &[u8]) -> &[u8]
     rest
 }
 
-/// Whether the text begins with a blank.
+// Whether the text begins with a blank.
 fn starts_blank(text: &str) -> bool
     ensures { result ≡ starts_blank text.now }
 {
     matches!(text.as_bytes(), [b' ' | b'\t', ..])
 }
 
-/// Whether a word may end before the text: it is empty or begins with a blank.
+// Whether a word may end before the text: it is empty or begins with a blank.
 fn ends_word(text: &[u8]) -> bool
     ensures { IsTrue result ↔ EndsWord text.now }
 {

@@ -17,6 +17,7 @@ mod writing;
 
 pub use plain::PlainTree;
 pub use reader::WorldReader;
+pub use reading::LONGEST_WORLD;
 pub use statement::Statement;
 pub use version::Version;
 pub use world::World;

@@ -10,8 +10,8 @@ use crate::world::World;
 use cg_name::Refusal;
 use std::alloc::Global;
 
-// The most bytes of a world text.
-const LONGEST_TEXT: usize = 16_777_216;
+/// The most bytes of a world text: of all of it, or of its lines through `end` where something else follows them.
+pub const LONGEST_WORLD: usize = 16_777_216;
 
 impl World {
     /// The world that a text of at most 16,777,216 bytes spells; `Syntax` where it spells none, an unsound tree
@@ -21,7 +21,7 @@ impl World {
         ensures syntax { IsErrOf result Refusal.Syntax → (T : Tree) → SpellsWorld text.now T → ⊥ }
         ensures refusals { IfErr result IsSyntaxOrMemory }
     {
-        if text.len() > LONGEST_TEXT {
+        if text.len() > LONGEST_WORLD {
             return Err(Refusal::Syntax);
         }
         let mut reader = WorldReader::new();

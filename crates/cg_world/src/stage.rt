@@ -14,7 +14,7 @@ use cg_name::{Path, Refusal};
 use cg_text::{Controllers, Settings};
 use std::alloc::Global;
 
-/// What was read of a world text so far.
+// What was read of a world text so far.
 #[derive(Drop)]
 pub(crate) enum Stage {
     /// Nothing.
@@ -32,7 +32,7 @@ pub(crate) enum Stage {
 }
 
 impl Stage {
-    /// The version by which the next line is read: the one that was named, and either before that.
+    // The version by which the next line is read: the one that was named, and either before that.
     pub(crate) fn version(&self) -> Version
         ensures { result ≡ version_at self.now }
     {
@@ -46,7 +46,7 @@ impl Stage {
         }
     }
 
-    /// The stage behind one line more; `Syntax` where the line can't stand there.
+    // The stage behind one line more; `Syntax` where the line can't stand there.
     pub(crate) fn take(self, alloc: Global, statement: Statement) -> Result<Stage, Refusal>
         requires { HasPid statement }
         ensures value { IfOk result (λ next. taken self statement ≡ Some next) }

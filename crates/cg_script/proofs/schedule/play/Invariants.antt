@@ -1,5 +1,5 @@
 use Rattle.std.proofs.Common.{◌≡◌}
-use Rattle.cg_script.specs.Lines.{pending, room_of}
+use Rattle.cg_script.specs.Lines.{pending, bytes_to_come}
 use Rattle.cg_script.proofs.Playing.{PlaysKnown}
 use Rattle.cg_script.proofs.schedule.play.Given as goal
 
@@ -10,4 +10,4 @@ invariant-lines g l = record {
 }
 
 abbrev pub decreases-lines : goal.decreases-lines
-decreases-lines g l = room_of l.reader
+decreases-lines g l = bytes_to_come l.reader

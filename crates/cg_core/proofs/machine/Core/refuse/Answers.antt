@@ -15,9 +15,9 @@ returns-clause-state c =
     let m : Machine = c.args.self.now in
     let entry : Record = refused_record c.args.session.0 c.args.txn.0 (command_of c.args.command) c.args.refusal in
     let after = refuse_step m.opening m.limit m.tree m.open_one m.history c.args.session.0 c.args.txn.0 (command_of c.args.command) c.args.refusal c.requires.own c.requires.room c.requires.refused own in
-    let kept : c.keep.new.self ≡ (c.self.inside.history.0, 2) = when_ok c.keep.result (sym c.is_err.ensures.value ∙ c.if-is_err.false) c.keep.ensures.ok in
+    let reserved : c.reserve.new.self ≡ (c.self.inside.history.0, 2) = when_ok c.reserve.result (sym c.is_err.ensures.value ∙ c.if-is_err.false) c.reserve.ensures.ok in
     let same : the_view (record c.self.inside { history = c.push.new.self }) ≡ stepped c.args.self.now c.args.session.0 (Do (command_of c.args.command)) =
-    ap (λ h. with_history (machine_of c.self.inside) h) (ap (λ p. p.0) c.push.ensures ∙ ap (λ p. p.0 ++ entry ∷ []) kept)
+    ap (λ h. with_history (machine_of c.self.inside) h) (ap (λ p. p.0) c.push.ensures ∙ ap (λ p. p.0 ++ entry ∷ []) reserved)
     ∙ ap (λ n. with_history n (n.history ++ entry ∷ [])) c.self.view_is
     ∙ sym after in
     when_false (is_memory (answers.Refused c.args.refusal)) same

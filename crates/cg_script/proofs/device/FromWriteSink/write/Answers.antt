@@ -3,10 +3,8 @@ use Rattle.cg_script.proofs.device.FromWriteSink.write.Goals as goal
 
 pub returns-in-Ok-eq0-clause-bytes : goal.returns-in-Ok-eq0-clause-bytes
 returns-in-Ok-eq0-clause-bytes g c =
-    rw c.fail.ensures.writer
     (AppendsFront-take _ _ c.args.bytes.now c.in-Ok-eq0.field-0 c.in-Ok-eq0.ensures.bytes)
 
 pub returns-in-Err-clause-bytes : goal.returns-in-Err-clause-bytes
 returns-in-Err-clause-bytes g c =
-    rw c.fail-in-Err.ensures.writer
     (AppendsFront-nil (g.W.Write.contents c.args.self.now.writer) (g.W.Write.contents c.write_uninterrupted.new.writer) c.args.bytes.now c.in-Err.ensures.bytes)

@@ -35,7 +35,7 @@ pieces-preserved g c =
     let before = c.pieces.invariant in
     record {
       gathered = Gathered-filled c.args.self.now c.gather.new.self c.fill.new.self c.gather.new.fits more.0 more.1 c.in_ok-fill.ensures.bytes filled.line;
-      opening = filled.opening ∙ rest.opening ∙ before.opening;
+      failed_before = filled.failed_before ∙ rest.failed_before ∙ before.failed_before;
       failures = filled.failures ∙ rest.failures ∙ before.failures;
       reads = let same = rest.reads in let next = filled.reads in let low = before.reads in omega arith;
       room = let same = rest.reads in let next = filled.reads in let low = before.room in let turn = c.in_ok-fill.ensures.turns in let small = c.in_ok-fill.ensures.bound in omega arith;

@@ -1,15 +1,15 @@
 use Rattle.std.proofs.Common.{◌≡◌, ◌-◌, ◌≤◌, false}
 use Rattle.cg_script.proofs.LinesLemmas.{Gathered}
-use Rattle.cg_script.specs.Lines.{room_of}
+use Rattle.cg_script.specs.Lines.{bytes_to_come}
 use Rattle.cg_script.proofs.lines.LineReader.next_line.Given as goal
 
 abbrev pub invariant-pieces : goal.invariant-pieces
 invariant-pieces g l = record {
   gathered : Gathered l.fn.self l.self l.fits;
-  opening : l.self.opening ≡ l.fn.self.opening;
+  failed_before : l.self.failed_before ≡ l.fn.self.failed_before;
   failures : l.self.failures ≡ l.fn.self.failures;
   reads : l.fn.self.reads ≤ l.self.reads;
-  room : room_of l.self ≤ room_of l.fn.self;
+  room : bytes_to_come l.self ≤ bytes_to_come l.fn.self;
   unbroken : l.self.is_broken ≡ false;
 }
 
