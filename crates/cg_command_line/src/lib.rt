@@ -9,7 +9,7 @@ use clap::error::ErrorKind;
 use clap::{Arg, Command, Error};
 use std::alloc::{AllocError, Global};
 
-/// The word that names standard input.
+// The word that names standard input.
 const STANDARD_INPUT: &str = "-";
 
 /// What the words of a command line ask for.
@@ -32,7 +32,7 @@ pub enum Unasked {
 
 /// What the words ask for, the program's name first. With no words beside it that is to replay standard input alone.
 /// Help goes to standard output, and what is wrong with the words to standard error.
-pub fn read_words<'a, R: Print + Eprint + AllocGlobal>(
+pub fn read_command_line<'a, R: Print + Eprint + AllocGlobal>(
     rt: &R,
     words: &'a [String],
 ) -> Result<Asked<'a>, Unasked>

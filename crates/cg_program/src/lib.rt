@@ -4,7 +4,9 @@
 mod inputs;
 mod named;
 mod replaying;
+mod status;
 
 pub use inputs::{Inputs, OpenFault};
 pub use named::replay_named;
 pub use replaying::{replay_to, stop};
+pub use status::Status;

@@ -8,10 +8,11 @@ ghost use Rattle.cg_script.specs.declared.fault.ScriptFault.{ScriptFault};
 ghost use Rattle.cg_script.specs.declared.fault.ScriptFault.TheVariants as faults;
 ghost use Rattle.cg_program.specs.Program.{status_of, fault_line, AreBroken, DoneOver, IsBroken, Plays, Stops, WritesUnlessFailed};
 
+use crate::status::Status;
 use cg_script::{LineReader, ScriptFault, Sink, Source, read_world, replay, write_all};
 use std::alloc::Global;
 
-/// The most records of a history.
+// The most records of a history.
 const LONGEST_HISTORY: u32 = 1_048_576;
 
 /// Reads the world from `world` and plays a schedule over it: that of `schedule`, or what follows the world where there
@@ -37,7 +38,7 @@ pub fn replay_to<W: Source, T: Source, O: Sink, E: Sink>(
     ensures front { result ≡ 3 → (out.new ≡ out.old) ⊎ DoneOver (λ tree lines. Stops tree lines (O.taken out.old) (O.taken out.new)) (pending world.old) schedule.old }
 {
     match play(alloc, world, schedule, out) {
-        Ok(()) => 0,
+        Ok(()) => Status::Done.code(),
         Err(fault) => stop(fault, err),
     }
 }
@@ -49,7 +50,7 @@ pub fn stop<E: Sink>(fault: ScriptFault, err: &mut E) -> u8
     ensures line { WritesUnlessFailed (E.taken err.old) (E.taken err.new) (E.failed err.old) (E.failed err.new) (fault_line fault) }
 {
     let _ = write_all(err, line_of(fault));
-    status_of(fault)
+    Status::of_fault(fault).code()
 }
 
 // Plays the schedule over the world.
@@ -84,15 +85,5 @@ fn line_of(fault: ScriptFault) -> &'static [u8]
         ScriptFault::Memory => b"refused 19 memory\n",
         ScriptFault::ReadFault => b"refused 24 readfault\n",
         ScriptFault::WriteFault => b"refused 25 writefault\n",
-    }
-}
-
-// The exit status of a run that stopped.
-fn status_of(fault: ScriptFault) -> u8
-    ensures { result ≡ status_of fault }
-{
-    match fault {
-        ScriptFault::Syntax => 2,
-        ScriptFault::Memory | ScriptFault::ReadFault | ScriptFault::WriteFault => 3,
     }
 }

@@ -5,14 +5,11 @@
 mod host;
 
 use crate::host::Host;
-use cg_command_line::{Asked, Unasked, read_words};
-use cg_program::{replay_named, stop};
+use cg_command_line::{Asked, Unasked, read_command_line};
+use cg_program::{Status, replay_named, stop};
 use cg_script::{FromWrite, ScriptFault};
 use std::process::ExitCode;
 use std::{env, io};
-
-/// The status of a fault of the command line.
-const BAD_COMMAND_LINE: u8 = 2;
 
 fn main(rt: HostRuntime) -> ExitCode {
     ExitCode::from(match words(&rt) {
@@ -20,7 +17,7 @@ fn main(rt: HostRuntime) -> ExitCode {
         Err(fault) if fault.kind() == io::ErrorKind::OutOfMemory => no_memory(&rt),
         Err(_) => {
             let _ = rt.eprintln("cgtx: a word is not UTF-8");
-            BAD_COMMAND_LINE
+            Status::Syntax.code()
         }
     })
 }
@@ -32,10 +29,10 @@ fn words(rt: &HostRuntime) -> io::Result<Vec<String>> {
 
 // Does what the words ask, and gives the status.
 fn run(rt: &HostRuntime, words: &[String]) -> u8 {
-    match read_words(rt, words) {
+    match read_command_line(rt, words) {
         Ok(Asked::Replay { world, schedule }) => replay(rt, world, schedule),
-        Err(Unasked::Helped) => 0,
-        Err(Unasked::Refused) => BAD_COMMAND_LINE,
+        Err(Unasked::Helped) => Status::Done.code(),
+        Err(Unasked::Refused) => Status::Syntax.code(),
         Err(Unasked::Memory) => no_memory(rt),
     }
 }
