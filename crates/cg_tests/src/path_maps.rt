@@ -15,7 +15,7 @@ fn fill(alloc: Global, map: &mut PathMap<usize>) -> Result<(), Refusal> {
 
 // Appends the words of the map's paths, each from a path of its own.
 fn write_paths(alloc: Global, map: &PathMap<usize>, out: &mut Vec<u8>) -> Result<(), AllocError> {
-    for (path, _) in map.iter() {
+    for (path, _) in map {
         path.to_path(alloc)?.write(out)?;
         out.push(b' ')?;
     }

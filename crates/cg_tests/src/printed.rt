@@ -50,6 +50,14 @@ fn refusals_are_printed(rt: HostRuntime) {
     }
 }
 
+#[test]
+fn words_are_read_and_printed(rt: HostRuntime) {
+    let controller: Result<Controller, Refusal> = "hugetlb".parse();
+    assert!(rt; controller == Ok(Controller::Hugetlb));
+    let printed = format!(in rt.alloc(); "{}|{:>6}|", Controller::Hugetlb, Controller::Io);
+    assert!(rt; is_printed(&printed, "hugetlb|    io|"));
+}
+
 const FAULTS: [(ScriptFault, &str); 4] = [
     (ScriptFault::Syntax, "the text is not in its grammar"),
     (ScriptFault::Memory, "memory ran out"),
