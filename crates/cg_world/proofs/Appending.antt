@@ -1,5 +1,5 @@
 -- Texts that grow, piece by piece.
-use Rattle.std.proofs.Common.{◌≡◌, ℕ, Bool, true, false, not, List, [], ◌∷◌, ◌++◌, map, refl, sym, ap, subst, ◌∙◌, true≢false}
+use Rattle.std.proofs.Common.{◌≡◌, ℕ, true, false, not, List, [], ◌∷◌, ◌++◌, map, refl, sym, ap, subst, ◌∙◌, true≢false}
 use Rattle.std.specs.List.{flat_map, join_with_byte}
 use Rattle.cg_maps.specs.FiniteMap.{is_nonempty}
 use Rattle.cg_name.specs.Controller.{controller_word}
@@ -28,9 +28,6 @@ spaced_some (c ∷ d ∷ cs) e = ap (λ t. 32 ∷ controller_word c ++ t) (space
 
 pub spaced_all : (s : Controllers) → (s ≡ no_controllers → ⊥) → 32 ∷ names_text 32 s ≡ spaced (members s)
 spaced_all s some = spaced_some (members s) (some_member s ∙ ap not (tells_none s false ((λ e. absurd (true≢false (sym e))), (λ e. absurd (some e)))))
-
-pub spaced_none : (s : Controllers) → s ≡ no_controllers → spaced (members s) ≡ []
-spaced_none s e = ap (λ t. spaced (members t)) e
 
 -- the names of all, or a minus for none
 pub control_some : (s : Controllers) → is_nonempty (members s) ≡ true → join_with_byte 44 (map controller_word (members s)) ≡ control_text s
