@@ -180,15 +180,15 @@ packed_text-append : (p q : Path) → packed_text (p ++ q) ≡ packed_text p ++ 
 packed_text-append [] q = refl
 packed_text-append (n ∷ p) q = ap (λ z. 0 ∷ (n ++ z)) (packed_text-append p q) ∙ ap (λ z. 0 ∷ z) (sym (append_assoc n (packed_text p) (packed_text q)))
 
-same_is : (n m : Name) → same_name n m ≡ true → n ≡ m
+pub same_is : (n m : Name) → same_name n m ≡ true → n ≡ m
 unfolding same_name
 same_is n m h = (bytes_decides n m).0 (texts_ties n m ∙ h)
 
-same_self : (n : Name) → same_name n n ≡ true
+pub same_self : (n : Name) → same_name n n ≡ true
 unfolding same_name
 same_self n = sym (texts_ties n n) ∙ (bytes_decides n n).1 refl
 
-first_true : (a b : Bool) → a && b ≡ true → (a ≡ true) × (b ≡ true)
+pub first_true : (a b : Bool) → a && b ≡ true → (a ≡ true) × (b ≡ true)
 first_true true b h = (refl, h)
 first_true false b h = absurd (false≢true h)
 

@@ -1,10 +1,15 @@
 -- Entries by the texts of paths, as entries by paths.
-use Rattle.std.specs.Prelude.{ℕ, List, [], ◌∷◌}
+use Rattle.std.specs.Prelude.{ℕ, Bool, cond, List, [], ◌∷◌}
 use Rattle.std.specs.List.Sorted.{IsStrictlySortedBy}
 use Rattle.std.specs.Map.{keys_of}
 use Rattle.cg_maps.specs.FiniteMap.{FiniteMap, from_entries}
 use Rattle.cg_name.specs.Path.{Path, path_cmp}
 use Rattle.cg_name.specs.Packed.{names_in, IsPacked}
+
+-- the items before the first one that fails the test
+abbrev pub leading : {A : Type 0} → (A → Bool) → List A → List A
+leading test [] = []
+leading test (x ∷ xs) = cond (test x) (x ∷ leading test xs) []
 
 module _ {K X : Type 0} (text : K → List ℕ) where
   -- the entries, each with the path of its key's text

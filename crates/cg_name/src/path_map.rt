@@ -5,10 +5,11 @@ ghost use Rattle.std.specs.Option.{option_copied_mut};
 ghost use Rattle.std.specs.Ordering.{is_le};
 ghost use Rattle.std.specs.Iterator.{item_count, YieldsFirstBy};
 ghost use Rattle.cg_maps.specs.FiniteMap.{empty, entries, get, len, set_at};
-ghost use Rattle.cg_name.specs.Path.{path_cmp};
+ghost use Rattle.cg_name.specs.Path.{is_prefix, path_cmp};
 
 use crate::path::Path;
 use crate::path_ref::PathRef;
+use crate::subtree::Subtree;
 use std::alloc::{AllocError, Global};
 use std::collections::BTreeMap;
 use std::collections::btree_map::Range;
@@ -136,6 +137,16 @@ impl<V: Drop> PathMap<V> {
         Some(Entries {
             rest: self.entries.range(key..),
         })
+    }
+
+    /// The entries at the paths that begin with the first names of the path, so many as there are up to that number, in
+    /// the order of the paths, if the map has a value at the path of these names: that value first.
+    pub fn subtree(&self, path: &Path, depth: u32) -> Option<Subtree<'_, V>>
+        ensures present { is_some result ≡ is_some (get self.now (take depth path.now)) }
+        ensures value { IfSome result (λ es. es ≡ filter (λ e. is_prefix (take depth path.now) e.0) (entries self.now)) }
+    {
+        let (key, _) = self.entries.get_key_value(path.prefix_text(depth))?;
+        Some(Subtree::new(key.as_slice(), self.entries.range(key..)))
     }
 }
 

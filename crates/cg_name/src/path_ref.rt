@@ -1,5 +1,5 @@
 //! A path that is borrowed from where it is kept.
-ghost use Rattle.std.specs.Prelude.{◌≡◌, ◌∷◌, ◌++◌, List, ℕ, IfOk, OnOk, OnErr, length, take};
+ghost use Rattle.std.specs.Prelude.{◌≡◌, ◌∷◌, ◌++◌, List, ℕ, IfOk, OnOk, OnErr, length, take, slice_get, option_copied};
 ghost use Rattle.std.specs.List.{flat_map, list_all};
 ghost use Rattle.cg_name.specs.Packed.{names_in, packed_text, IsPacked};
 ghost use Rattle.cg_name.specs.Path.{is_root, is_prefix, path_word, IsPath};
@@ -7,7 +7,7 @@ ghost use Rattle.cg_name.specs.Word.{is_plain_byte, quoted_byte};
 
 use crate::appending::or_truncate;
 use crate::names::Names;
-use crate::packed::{begins_with, count_names};
+use crate::packed::{begins_with, count_names, first_name, start_of};
 use crate::path::Path;
 use crate::word::{append_escaped, are_plain};
 use std::alloc::{AllocError, Global};
@@ -58,6 +58,29 @@ impl<'a> PathRef<'a> {
         ensures valid { IsPath self.now }
     {
         Names::new(self.bytes)
+    }
+
+    /// The name with that many names above it, if the path is so deep.
+    pub fn name_at(&self, index: u32) -> Option<&'a str>
+        ensures { option_copied result ≡ slice_get self.now index }
+    {
+        match self.name_bytes_at(index) {
+            // A name is UTF-8.
+            Some(name) => Some(unsafe { std::str::from_utf8_unchecked(name) }),
+            None => None,
+        }
+    }
+
+    // The bytes of the name with that many names above it, if the path is so deep.
+    fn name_bytes_at(&self, index: u32) -> Option<&'a [u8]>
+        ensures value { option_copied result ≡ slice_get self.now index }
+        ensures valid { IsPath self.now }
+    {
+        let start = start_of(self.bytes, index);
+        if start == self.bytes.len() {
+            return None;
+        }
+        Some(first_name(&self.bytes[start + 1..]))
     }
 
     /// The path as one text, of at most 16,384 bytes: for each name a zero byte and the name's bytes.
