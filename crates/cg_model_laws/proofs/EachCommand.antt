@@ -12,7 +12,7 @@ use Rattle.cg_text.specs.Controllers.{is_no_controllers}
 use Rattle.cg_text.specs.Settings.{fresh}
 use Rattle.cg_text.specs.declared.control_ops.ControlOps.{ControlOps}
 use Rattle.cg_text.specs.declared.controllers.Controllers.{Controllers}
-use Rattle.cg_text.specs.declared.file_name.FileName.{FileName}
+use Rattle.cg_name.specs.declared.file_name.FileName.{FileName}
 use Rattle.cg_text.specs.declared.limit.Limit.{Limit}
 use Rattle.cg_text.specs.declared.settings.Settings.{Settings}
 use Rattle.cg_model.specs.Tree.{Tree, group, place_of, parent_group}

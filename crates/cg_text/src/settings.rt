@@ -7,7 +7,7 @@ use crate::limit::Limit;
 use cg_cpus::CpuSet;
 
 /// What the interface files of one group hold.
-#[derive(Clone, Copy, Debug)]
+#[derive(Clone, Copy, Debug, PartialEq, Eq)]
 pub struct Settings {
     /// `cgroup.subtree_control`: the controllers that the group's children have.
     pub control: Controllers,

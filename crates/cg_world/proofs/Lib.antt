@@ -8,14 +8,14 @@ pub mod Lines
 mod Listed
 pub mod LowCpus
 pub mod PlainWords
-mod Puts
-mod Representable
+pub mod Puts
+pub mod Representable
 pub mod RoundTrip
 mod SoundTrees
 pub mod Spelled
 pub mod Stages
 pub mod Taken
-mod Trees
+pub mod Trees
 mod WrittenCpus
 mod WrittenLimits
 pub mod WrittenWords
