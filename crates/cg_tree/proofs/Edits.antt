@@ -1,0 +1,68 @@
+-- What an edit means, and the entry that it needs.
+use Rattle.std.proofs.Common.{◌≡◌, true, Option, Some, None, IsSome, sym, ap, subst, ◌∙◌}
+use Rattle.std.proofs.lemmas.Bool.{false≢true}
+use Rattle.std.proofs.lemmas.Option.{none-some}
+use Rattle.cg_maps.specs.FiniteMap.{set_at}
+use Rattle.cg_maps.proofs.Maps.{set_same}
+use Rattle.cg_name.specs.Path.{Path}
+use Rattle.cg_name.specs.Order.{path_cmp_total, path_cmp_exact}
+use Rattle.cg_text.specs.declared.settings.Settings.{Settings}
+use Rattle.cg_model.specs.Key.{Field, Setting, with_setting, part_replaced, put, Part}
+use Rattle.cg_model.specs.Tree.{Tree, group}
+use Rattle.cg_tree.specs.declared.edit.Edit.{Edit}
+use Rattle.cg_tree.specs.declared.edit.Edit.TheVariants as edits
+use Rattle.cg_tree.specs.Edit.{needed_entry, RoomForEdit}
+use Rattle.cg_tree.specs.Room.{TreeWithRoom, has_entry}
+
+-- ---- an edit of a setting
+
+module _ (T : Tree) (p : Path) (f : Field) (v : Setting f) where
+  -- of a group that is there it is a write of its settings
+  pub part_put : (s : Settings) → group T p ≡ Some s → record T { groups = set_at T.groups p (Some (with_setting f v s)) } ≡ put (Part p f) (Some v) T
+  part_put s e = ap (λ w. record T { groups = set_at T.groups p (part_replaced f (Some v) w) }) (sym e)
+
+  -- and else nothing
+  pub part_absent : group T p ≡ None → T ≡ put (Part p f) (Some v) T
+  part_absent e = ap (λ m. record T { groups = m }) (sym (ap (set_at T.groups p) (ap (part_replaced f (Some v)) e ∙ sym e) ∙ set_same path_cmp_total path_cmp_exact T.groups p))
+
+-- ---- the entry that an edit needs
+
+some_is : {x y : Path} → Some x ≡ Some y → x ≡ y
+some_is e = cc
+
+pub needed_room : (t : TreeWithRoom) (e : Edit) (p : Path) → Some p ≡ needed_entry e → has_entry t p ≡ true → RoomForEdit t e
+needed_room t (edits.Group q None) p is h = tt
+needed_room t (edits.Group q (Some s)) p is h = subst (λ r. has_entry t r ≡ true) (some_is is) h
+needed_room t (edits.Place k q) p is h = subst (λ r. has_entry t r ≡ true) (some_is is) h
+needed_room t (edits.Control q v) p is h = tt
+needed_room t (edits.Freeze q v) p is h = tt
+needed_room t (edits.Cpus q v) p is h = tt
+needed_room t (edits.MaxDescendants q v) p is h = tt
+needed_room t (edits.MaxDepth q v) p is h = tt
+needed_room t (edits.Online v) p is h = tt
+
+pub room_needed : (t : TreeWithRoom) (e : Edit) (p : Path) → Some p ≡ needed_entry e → RoomForEdit t e → has_entry t p ≡ true
+room_needed t (edits.Group q None) p is h = absurd (none-some p (sym is))
+room_needed t (edits.Group q (Some s)) p is h = subst (λ r. has_entry t r ≡ true) (sym (some_is is)) h
+room_needed t (edits.Place k q) p is h = subst (λ r. has_entry t r ≡ true) (sym (some_is is)) h
+room_needed t (edits.Control q v) p is h = absurd (none-some p (sym is))
+room_needed t (edits.Freeze q v) p is h = absurd (none-some p (sym is))
+room_needed t (edits.Cpus q v) p is h = absurd (none-some p (sym is))
+room_needed t (edits.MaxDescendants q v) p is h = absurd (none-some p (sym is))
+room_needed t (edits.MaxDepth q v) p is h = absurd (none-some p (sym is))
+room_needed t (edits.Online v) p is h = absurd (none-some p (sym is))
+
+pub none_needed : (t : TreeWithRoom) (e : Edit) → None ≡ needed_entry e → RoomForEdit t e
+none_needed t (edits.Group q None) is = tt
+none_needed t (edits.Group q (Some s)) is = absurd (none-some q is)
+none_needed t (edits.Place k q) is = absurd (none-some q is)
+none_needed t (edits.Control q v) is = tt
+none_needed t (edits.Freeze q v) is = tt
+none_needed t (edits.Cpus q v) is = tt
+none_needed t (edits.MaxDescendants q v) is = tt
+none_needed t (edits.MaxDepth q v) is = tt
+none_needed t (edits.Online v) is = tt
+
+pub group_room : (t : TreeWithRoom) (p : Path) (s : Option Settings) → RoomForEdit t (edits.Group p s) → IsSome s → has_entry t p ≡ true
+group_room t p None room some = absurd (false≢true some)
+group_room t p (Some s) room some = room

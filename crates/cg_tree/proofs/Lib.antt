@@ -1,0 +1,9 @@
+mod Edits
+mod FromTheMap
+mod GroupsBelow
+mod Listing
+mod Places
+mod Prefixes
+mod Presence
+mod Rooms
+mod Rooting

@@ -1,0 +1,82 @@
+-- What the fields mean, as the map of the groups is read and written.
+use Rattle.std.proofs.lemmas.Bool.{false≢true, le-leb}
+use Rattle.std.proofs.Common.{◌≡◌, ℕ, ◌≤◌, length, take, IsSome, true, false, Option, Some, None, is_some, refl, sym, ap, ◌∙◌, cond}
+use Rattle.std.specs.Option.{option_flatten}
+use Rattle.cg_maps.specs.FiniteMap.{FiniteMap, get, set_at, domain}
+use Rattle.cg_maps.proofs.Maps.{set_same}
+use Rattle.cg_name.specs.Path.{Path, path_cmp}
+use Rattle.cg_name.specs.Order.{path_cmp_total, path_cmp_exact}
+use Rattle.cg_text.specs.declared.settings.Settings.{Settings}
+use Rattle.cg_model.specs.Tree.{Tree, group}
+use Rattle.cg_tree.specs.declared.tree.Tree.TheInside.{Inside}
+use Rattle.cg_tree.specs.Inside.{room_of}
+use Rattle.cg_tree.specs.Prefix.{prefix_group}
+use Rattle.cg_tree.specs.Present.{present}
+use Rattle.cg_tree.specs.Room.{TreeWithRoom, has_entry, with_entry, without_dead}
+use Rattle.cg_tree.proofs.Presence.{get-present, present-set, is_some-domain, domain-set, domain-replaced}
+use Rattle.cg_tree.proofs.Rooting.{with_group, with_entries}
+
+-- the settings at a path, and whether there is an entry
+pub settings_there : (t : Inside) (u : TreeWithRoom) → room_of t ≡ u → (p : Path) (w : Option (Option Settings)) → w ≡ get t.groups p → option_flatten w ≡ group u.tree p
+settings_there t u is p w e = ap option_flatten e ∙ sym (get-present path_cmp_total path_cmp_exact t.groups p) ∙ ap (λ v. group v.tree p) is
+
+pub entry_there : (t : Inside) (u : TreeWithRoom) → room_of t ≡ u → (p : Path) → is_some (get t.groups p) ≡ has_entry u p
+entry_there t u is p = sym (is_some-domain path_cmp_total path_cmp_exact t.groups p) ∙ ap (λ v. has_entry v p) is
+
+module _ (t : Inside) (p : Path) (g : FiniteMap path_cmp (Option Settings)) where
+  abbrev pub with_map : Inside
+  with_map = record t { groups = g }
+
+  -- settings in the place of an entry
+  pub group_written : (s : Option Settings) → g ≡ set_at t.groups p (Some s) → is_some (get t.groups p) ≡ true → room_of with_map ≡ with_group (room_of t) p s
+  group_written s e h =
+      let groups : present g ≡ set_at (present t.groups) p s = ap present e ∙ present-set path_cmp_total path_cmp_exact t.groups p (Some s) in
+      let entries : domain g ≡ domain t.groups = ap domain e ∙ domain-replaced path_cmp_total path_cmp_exact t.groups p s h in
+      λ i. record { tree = record (room_of t).tree { groups = groups i }; entries = entries i }
+
+  -- a write where there is no group, before and behind, keeps the groups
+  module _ (w : Option (Option Settings)) (e : g ≡ set_at t.groups p w) (before : option_flatten (get t.groups p) ≡ None) (behind : option_flatten w ≡ None) where
+    pub groups_kept : present g ≡ present t.groups
+    groups_kept =
+        ap present e
+        ∙ present-set path_cmp_total path_cmp_exact t.groups p w
+        ∙ ap (set_at (present t.groups) p) (behind ∙ sym before ∙ sym (get-present path_cmp_total path_cmp_exact t.groups p))
+        ∙ set_same path_cmp_total path_cmp_exact (present t.groups) p
+
+  pub entry_made : g ≡ set_at t.groups p (Some None) → get t.groups p ≡ None → room_of with_map ≡ with_entries (room_of t) (set_at (domain t.groups) p (Some tt))
+  entry_made e h =
+      let groups : present g ≡ present t.groups = groups_kept (Some None) e (ap option_flatten h) refl in
+      let entries : domain g ≡ set_at (domain t.groups) p (Some tt) = ap domain e ∙ domain-set path_cmp_total path_cmp_exact t.groups p (Some None) in
+      λ i. record { tree = record (room_of t).tree { groups = groups i }; entries = entries i }
+
+  pub entry_removed : g ≡ set_at t.groups p None → group (room_of t).tree p ≡ None → room_of with_map ≡ with_entries (room_of t) (set_at (domain t.groups) p None)
+  entry_removed e h =
+      let groups : present g ≡ present t.groups = groups_kept None e (settings_there t (room_of t) refl p _ refl ∙ h) refl in
+      let entries : domain g ≡ set_at (domain t.groups) p None = ap domain e ∙ domain-set path_cmp_total path_cmp_exact t.groups p None in
+      λ i. record { tree = record (room_of t).tree { groups = groups i }; entries = entries i }
+
+-- an entry that is there is made to no effect
+pub entry_same : (u : TreeWithRoom) (p : Path) → has_entry u p ≡ true → with_entry (Some p) u.entries ≡ u.entries
+entry_same u p h = ap (set_at u.entries p) (sym (there (get u.entries p) h)) ∙ set_same path_cmp_total path_cmp_exact u.entries p
+  where
+    there : (w : Option (Unit {0})) → is_some w ≡ true → w ≡ Some tt
+    there None e = cc
+    there (Some x) e = refl
+
+pub none_there : {X : Type 0} (w : Option X) → is_some w ≡ false → w ≡ None
+none_there None e = refl
+none_there (Some x) e = cc
+
+-- the entry of no group goes
+pub dead_swept : (u : TreeWithRoom) (p : Path) → group u.tree p ≡ None → without_dead u p ≡ set_at u.entries p None
+dead_swept u p e = ap (λ s. cond (is_some s) u.entries (set_at u.entries p None)) e
+
+-- no settings where there is no entry are none
+pub nothing_written : (t : Inside) (p : Path) (s : Option Settings) → None ≡ get t.groups p → (IsSome s → has_entry (room_of t) p ≡ true) → room_of t ≡ with_group (room_of t) p s
+nothing_written t p (Some s) e room = absurd (false≢true (ap is_some e ∙ entry_there t (room_of t) refl p ∙ room refl))
+nothing_written t p None e room =
+    let none : None ≡ group (room_of t).tree p = settings_there t (room_of t) refl p None e in
+    λ i. record { tree = record (room_of t).tree { groups = sym (ap (set_at (present t.groups) p) none ∙ set_same path_cmp_total path_cmp_exact (present t.groups) p) i }; entries = domain t.groups }
+
+pub prefix_found : (T : Tree) (p : Path) (n : ℕ) → n ≤ length p → group T (take n p) ≡ prefix_group T p n
+prefix_found T p n h = ap (λ b. cond b (group T (take n p)) None) (sym (le-leb n (length p) h))

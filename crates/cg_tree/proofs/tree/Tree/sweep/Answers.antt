@@ -1,0 +1,28 @@
+-- What is taken away is dead, or wasn't there.
+use Rattle.std.proofs.Common.{◌≡◌, None, sym, ap, subst, ◌∙◌}
+use Rattle.cg_maps.specs.FiniteMap.{set_at, domain}
+use Rattle.cg_model.specs.Tree.{group}
+use Rattle.cg_tree.specs.Inside.{room_of}
+use Rattle.cg_tree.specs.Room.{IsRooted, MaySweepIfDead}
+use Rattle.cg_tree.proofs.Rooms.{entry_removed, none_there, with_map, dead_swept}
+use Rattle.cg_tree.proofs.Rooting.{with_entries, entry_swept_if_dead}
+use Rattle.cg_tree.proofs.tree.Tree.sweep.Goals as goal
+
+no_group : (c : goal.After-remove) → group c.args.self.now.tree c.args.path.now ≡ None
+no_group c = none_there _ (sym c.find.ensures.value ∙ c.if-not-find.true)
+
+removed : (c : goal.After-remove) → room_of (with_map c.self.inside c.args.path.now c.remove.new.self) ≡ with_entries (room_of c.self.inside) (set_at (domain c.self.inside.groups) c.args.path.now None)
+removed c = entry_removed c.self.inside c.args.path.now c.remove.new.self c.remove.ensures.removed (ap (λ t. group t.tree c.args.path.now) c.self.view_is ∙ no_group c)
+
+pub invariant_of-self : goal.invariant_of-self
+invariant_of-self c =
+    subst IsRooted (sym (removed c))
+    (entry_swept_if_dead (room_of c.self.inside) c.args.path.now c.self.invariant (ap (λ t. group t.tree c.args.path.now) c.self.view_is ∙ no_group c)
+    (subst (λ t. MaySweepIfDead t c.args.path.now) (sym c.self.view_is) c.requires))
+
+pub returns-then-not-find-clause-tree : goal.returns-then-not-find-clause-tree
+returns-then-not-find-clause-tree c = ap (λ t. t.tree) (removed c) ∙ ap (λ t. t.tree) c.self.view_is
+
+pub returns-then-not-find-clause-entries : goal.returns-then-not-find-clause-entries
+returns-then-not-find-clause-entries c =
+    ap (λ t. t.entries) (removed c) ∙ ap (λ t. set_at t.entries c.args.path.now None) c.self.view_is ∙ sym (dead_swept c.args.self.now c.args.path.now (no_group c))

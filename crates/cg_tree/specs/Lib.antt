@@ -1,0 +1,7 @@
+pub mod Below
+pub mod Code
+pub mod Edit
+pub mod Inside
+pub mod Prefix
+pub mod Present
+pub mod Room

@@ -1,0 +1,14 @@
+//! The tree that commands change, with the room that going back needs.
+#![tactic(auto)]
+
+mod below;
+mod children;
+mod edit;
+mod pids;
+mod tree;
+mod worlds;
+
+pub use children::Children;
+pub use edit::Edit;
+pub use pids::Pids;
+pub use tree::Tree;

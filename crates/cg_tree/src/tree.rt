@@ -1,0 +1,319 @@
+//! Groups and processes, and which paths have an entry.
+ghost use Rattle.std.specs.Prelude.{◌≡◌, ◌↔◌, IsTrue, is_some, true, Some, IfOk, IfSome, IsOk, IsSome, OnOk, OnErr, slice_get};
+ghost use Rattle.cg_maps.specs.FiniteMap.{domain, keys, set_at};
+ghost use Rattle.cg_model.specs.Sound.{Sound};
+ghost use Rattle.cg_model.specs.Key.{replaced};
+ghost use Rattle.cg_model.specs.Tree.{group, place_of};
+ghost use Rattle.cg_model.specs.Derived.{is_in, is_in_subtree};
+ghost use Rattle.cg_tree.specs.Edit.{edited, needed_entry, RoomForEdit};
+ghost use Rattle.cg_tree.specs.Present.{present};
+ghost use Rattle.cg_tree.specs.Prefix.{prefix_group};
+ghost use Rattle.cg_tree.specs.Room.{has_entry, may_have_entry, with_entry, without_dead, IsRooted, MaySweepIfDead};
+ghost use Rattle.cg_world.specs.Statement.{AreCpusUpTo};
+
+use crate::edit::Edit;
+use crate::pids::Pids;
+use crate::worlds::{add_groups, add_places, with_entries};
+use cg_cpus::CpuSet;
+use cg_name::{Path, PathMap};
+use cg_text::{Controllers, Settings};
+use cg_world::{PlainTree, World};
+use std::alloc::{AllocError, Global};
+use std::collections::BTreeMap;
+use std::marker::Model;
+
+/// Groups and processes, with an entry for each group and for dead paths: those of groups that were taken away and may
+/// have to be put back.
+#[derive(Drop)]
+pub struct Tree {
+    controllers: Controllers,
+    online: CpuSet,
+    // The settings of each group, and `None` at each dead path.
+    groups: PathMap<Option<Settings>>,
+    places: BTreeMap<u32, Path>,
+}
+
+impl Model for Tree {
+    ghost use Rattle.cg_tree.specs.Code.{room_code};
+    ghost use Rattle.cg_tree.specs.Room.{IsRooted, TreeWithRoom};
+    ghost use Rattle.cg_tree.specs.Inside.{room_of};
+
+    ghost Value = { TreeWithRoom };
+
+    ghost coded = { room_code };
+
+    ghost view = { room_of };
+
+    ghost invariant = { λ t. IsRooted (room_of t) };
+}
+
+impl Tree {
+    /// The tree of a world: its groups are the paths that have an entry. An error where there is no memory for it.
+    pub fn from_world(alloc: Global, world: World) -> Result<Tree, AllocError>
+        ensures tree { IfOk result (λ t. t.tree ≡ world) }
+        ensures entries { IfOk result (λ t. t.entries ≡ domain world.groups) }
+        ensures sound { Sound world }
+    {
+        let (controllers, online, listed, places) = world.into_tree().into_parts();
+        Ok(Tree {
+            controllers,
+            online,
+            groups: with_entries(alloc, &listed)?,
+            places,
+        })
+    }
+
+    /// A world that equals the tree, which has to be sound; an error where there is no memory for it.
+    pub fn to_world(&self, alloc: Global) -> Result<World, AllocError>
+        requires { Sound self.now.tree }
+        ensures { IfOk result (λ w. w ≡ self.now.tree) }
+    {
+        let mut tree = PlainTree::new(alloc, self.controllers, self.online);
+        add_groups(alloc, &self.groups, &mut tree)?;
+        add_places(alloc, &self.places, &mut tree)?;
+        Ok(World::from_tree(tree))
+    }
+
+    /// The controllers of the computer.
+    pub fn controllers(&self) -> Controllers
+        ensures { result ≡ self.now.tree.controllers }
+    {
+        self.controllers
+    }
+
+    /// The CPUs that are online.
+    pub fn online(&self) -> CpuSet
+        ensures { result ≡ self.now.tree.online }
+    {
+        self.online
+    }
+
+    /// Whether there is a group at the path.
+    pub fn find(&self, path: &Path) -> bool
+        ensures value { result ≡ is_some (group self.now.tree path.now) }
+        ensures rooted { IsRooted self.now }
+    {
+        // A tree tells what holds of it when a part of it is looked at.
+        let _ = &self.controllers;
+        self.settings(path).is_some()
+    }
+
+    /// The settings of the group at the path, if there is one.
+    pub fn settings(&self, path: &Path) -> Option<Settings>
+        ensures { result ≡ group self.now.tree path.now }
+    {
+        *self.groups.get(path)?
+    }
+
+    /// The settings of the group at the first names of the path, so many as `depth` says, if there is one: none where
+    /// the path has fewer names. Takes no memory, and copies no path.
+    pub fn prefix_settings(&self, path: &Path, depth: u32) -> Option<Settings>
+        ensures { result ≡ prefix_group self.now.tree path.now depth }
+    {
+        if depth > path.depth() {
+            return None;
+        }
+        *self.groups.get_prefix(path, depth)?
+    }
+
+    /// Whether the process is in the group at the path itself; no where no process has this PID.
+    pub fn is_at(&self, pid: u32, path: &Path) -> bool
+        ensures { result ≡ is_in path.now (place_of self.now.tree pid) }
+    {
+        match self.places.get(&pid) {
+            Some(place) => path == place,
+            None => false,
+        }
+    }
+
+    /// Whether the process is in the group at the path or in one below it; no where no process has this PID.
+    pub fn is_below(&self, pid: u32, path: &Path) -> bool
+        ensures { result ≡ is_in_subtree path.now (place_of self.now.tree pid) }
+    {
+        match self.places.get(&pid) {
+            Some(place) => path.is_prefix(place),
+            None => false,
+        }
+    }
+
+    /// The path of the group of a process, if one has this PID; an error where there is no memory for the path.
+    pub fn location(&self, alloc: Global, pid: u32) -> Result<Option<Path>, AllocError>
+        ensures { IfOk result (λ place. place ≡ place_of self.now.tree pid) }
+    {
+        match self.places.get(&pid) {
+            Some(place) => Ok(Some(place.copy(alloc)?)),
+            None => Ok(None),
+        }
+    }
+
+    /// The PID of the process with that many processes before it by ascending PID. There is none from the number of
+    /// processes on.
+    pub fn pid_at(&self, index: u32) -> Option<u32>
+        ensures { result ≡ slice_get (keys self.now.tree.places) index }
+    {
+        let (pid, _) = self.places.iter().nth(index as usize)?;
+        Some(*pid)
+    }
+
+    /// The PIDs of all processes, ascending.
+    pub fn pids(&self) -> Pids<'_>
+        ensures { result ≡ keys self.now.tree.places }
+    {
+        Pids::new(&self.places)
+    }
+
+    /// Whether some process has this PID.
+    pub fn has_process(&self, pid: u32) -> bool
+        ensures { result ≡ is_some (place_of self.now.tree pid) }
+    {
+        self.places.contains_key(&pid)
+    }
+
+    /// Whether the path has an entry: that of a group, or a dead one.
+    pub fn has_entry(&self, path: &Path) -> bool
+        ensures { result ≡ has_entry self.now path.now }
+    {
+        self.groups.contains(path)
+    }
+
+    // The settings of each group, and `None` at each dead path.
+    pub(crate) fn groups(&self) -> &PathMap<Option<Settings>>
+        ensures present { present result.now ≡ self.now.tree.groups }
+        ensures entries { domain result.now ≡ self.now.entries }
+        ensures rooted { IsRooted self.now }
+    {
+        &self.groups
+    }
+
+    /// Makes the entry that the edit needs, if it needs one and there is none. The path of that entry is the root's, or
+    /// its parent is a group. An error, where there is no memory for a new entry, leaves the tree as it was.
+    pub fn make_room(&mut self, alloc: Global, edit: &Edit) -> Result<(), AllocError>
+        requires { IfSome (needed_entry edit.now) (λ p. may_have_entry self.old.tree p ≡ true) }
+        ensures tree { self.new.tree ≡ self.old.tree }
+        ensures entries { OnOk result (self.new.entries ≡ with_entry (needed_entry edit.now) self.old.entries) }
+        ensures room { OnOk result (RoomForEdit self.new edit.now) }
+        ensures err { OnErr result (self.new ≡ self.old) }
+        ensures has_room { RoomForEdit self.old edit.now → IsOk result }
+    {
+        let Some(path) = edit.needed_entry() else {
+            return Ok(());
+        };
+        if !self.groups.contains(path) {
+            self.groups.insert(alloc, path, None)?;
+        }
+        Ok(())
+    }
+
+    /// Whether there is the entry that the edit needs.
+    pub fn has_room(&self, edit: &Edit) -> bool
+        ensures { IsTrue result ↔ RoomForEdit self.now edit.now }
+    {
+        match edit.needed_entry() {
+            Some(path) => self.groups.contains(path),
+            None => true,
+        }
+    }
+
+    /// Puts the value of the edit at its key: a setting of an absent group and the place of an unknown process stay
+    /// absent. Takes no memory.
+    pub fn put_edit(&mut self, edit: Edit)
+        requires { RoomForEdit self.old edit }
+        ensures tree { self.new.tree ≡ edited edit self.old.tree }
+        ensures entries { self.new.entries ≡ self.old.entries }
+    {
+        // As in `find`: each group has an entry.
+        let _ = &self.controllers;
+        match edit {
+            Edit::Group { path, settings } => self.put_group(&path, settings),
+            Edit::Place { pid, path } => self.put_place(pid, path),
+            Edit::Control { path, value } => {
+                if let Some(mut settings) = self.settings(&path) {
+                    settings.control = value;
+                    self.put_group(&path, Some(settings));
+                }
+            }
+            Edit::Freeze { path, value } => {
+                if let Some(mut settings) = self.settings(&path) {
+                    settings.freeze = value;
+                    self.put_group(&path, Some(settings));
+                }
+            }
+            Edit::Cpus { path, value } => {
+                if let Some(mut settings) = self.settings(&path) {
+                    settings.cpus = value;
+                    self.put_group(&path, Some(settings));
+                }
+            }
+            Edit::MaxDescendants { path, value } => {
+                if let Some(mut settings) = self.settings(&path) {
+                    settings.max_descendants = value;
+                    self.put_group(&path, Some(settings));
+                }
+            }
+            Edit::MaxDepth { path, value } => {
+                if let Some(mut settings) = self.settings(&path) {
+                    settings.max_depth = value;
+                    self.put_group(&path, Some(settings));
+                }
+            }
+            Edit::Online { value } => self.put_online(value),
+        }
+    }
+
+    /// Forgets the dead entry of the path, if there is one. No entry lies below it, and no process is in it.
+    pub fn sweep(&mut self, path: &Path)
+        requires { MaySweepIfDead self.old path.now }
+        ensures tree { self.new.tree ≡ self.old.tree }
+        ensures entries { self.new.entries ≡ without_dead self.old path.now }
+    {
+        if !self.find(path) {
+            self.groups.remove(path);
+        }
+    }
+
+    // Puts the settings into the entry of the path, if there is one.
+    fn put_group(&mut self, path: &Path, settings: Option<Settings>)
+        requires { IsSome settings → has_entry self.old path.now ≡ true }
+        ensures tree { self.new.tree ≡ record self.old.tree { groups = set_at self.old.tree.groups path.now settings } }
+        ensures entries { self.new.entries ≡ self.old.entries }
+    {
+        // The path and the CPUs tell what holds of them.
+        let _ = path.names();
+        tell_cpus(&settings);
+        if let Some(held) = self.groups.get_mut(path) {
+            *held = settings;
+        }
+    }
+
+    // Puts the process into the group, if there is a process with this PID.
+    fn put_place(&mut self, pid: u32, path: Path)
+        requires { has_entry self.old path ≡ true }
+        ensures tree { self.new.tree ≡ record self.old.tree { places = set_at self.old.tree.places pid (replaced (place_of self.old.tree pid) (Some path)) } }
+        ensures entries { self.new.entries ≡ self.old.entries }
+    {
+        // As above.
+        let _ = path.names();
+        if let Some(place) = self.places.get_mut(&pid) {
+            *place = path;
+        }
+    }
+
+    // Sets the CPUs that are online.
+    fn put_online(&mut self, online: CpuSet)
+        ensures tree { self.new.tree ≡ record self.old.tree { online = online } }
+        ensures entries { self.new.entries ≡ self.old.entries }
+    {
+        // As above.
+        let _ = online.contains(0);
+        self.online = online;
+    }
+}
+
+// Settings that are there tell what holds of their CPUs.
+fn tell_cpus(settings: &Option<Settings>)
+    ensures { IfSome settings.now (λ s. AreCpusUpTo 1023 s.cpus) }
+{
+    if let Some(settings) = settings {
+        let _ = settings.cpus.contains(0);
+    }
+}
