@@ -1,0 +1,63 @@
+-- What the changes of the code mean in the model.
+use Rattle.std.specs.Prelude.{◌≡◌, Option, Some, None}
+use Rattle.cg_name.specs.Path.{Path}
+use Rattle.cg_model.specs.Change as model
+use Rattle.cg_model.specs.Change.{change}
+use Rattle.cg_model.specs.Key as keys
+use Rattle.cg_model.specs.Key.{Key, value_at}
+use Rattle.cg_model.specs.Room.{room_for}
+use Rattle.cg_inverse.specs.declared.change.Change.{Change}
+use Rattle.cg_inverse.specs.declared.change.Change.TheVariants as changes
+use Rattle.cg_model.specs.Tree.{Tree}
+use Rattle.cg_tree.specs.declared.edit.Edit.{Edit}
+use Rattle.cg_tree.specs.declared.edit.Edit.TheVariants as edits
+use Rattle.cg_tree.specs.Room.{TreeWithRoom, has_entry}
+
+abbrev pub change_of : Change → model.Change
+change_of (changes.Group p b l) = change (keys.Group p) b l
+change_of (changes.Place k b l) = change (keys.Place k) (Some b) (Some l)
+change_of (changes.Control p b l) = change (keys.Part p keys.Control) (Some b) (Some l)
+change_of (changes.Freeze p b l) = change (keys.Part p keys.Freeze) (Some b) (Some l)
+change_of (changes.Cpus p b l) = change (keys.Part p keys.Cpus) (Some b) (Some l)
+change_of (changes.MaxDescendants p b l) = change (keys.Part p keys.MaxDescendants) (Some b) (Some l)
+change_of (changes.MaxDepth p b l) = change (keys.Part p keys.MaxDepth) (Some b) (Some l)
+change_of (changes.Online b l) = change keys.Online (Some b) (Some l)
+
+-- the edit that puts the value before
+abbrev pub edit_back : Change → Edit
+edit_back (changes.Group p b l) = edits.Group p b
+edit_back (changes.Place k b l) = edits.Place k b
+edit_back (changes.Control p b l) = edits.Control p b
+edit_back (changes.Freeze p b l) = edits.Freeze p b
+edit_back (changes.Cpus p b l) = edits.Cpus p b
+edit_back (changes.MaxDescendants p b l) = edits.MaxDescendants p b
+edit_back (changes.MaxDepth p b l) = edits.MaxDepth p b
+edit_back (changes.Online b l) = edits.Online b
+
+-- the path of the group that the key is
+abbrev pub group_of : Key → Option Path
+group_of (keys.Group p) = Some p
+group_of _ = None
+
+-- the key holds the value left
+abbrev pub FitsIn : Tree → model.Change → Type 0
+FitsIn T c = value_at T c.key ≡ c.left
+
+-- there is the entry that the value before needs
+abbrev pub HasRoomIn : TreeWithRoom → model.Change → Type 0
+HasRoomIn t c = room_for (has_entry t) c.key c.before
+
+-- the key can be put back
+abbrev pub MayGoBack : TreeWithRoom → model.Change → Type 0
+MayGoBack t c = FitsIn t.tree c × HasRoomIn t c
+
+-- the edit that puts the value left
+abbrev pub edit_left : Change → Edit
+edit_left (changes.Group p b l) = edits.Group p l
+edit_left (changes.Place k b l) = edits.Place k l
+edit_left (changes.Control p b l) = edits.Control p l
+edit_left (changes.Freeze p b l) = edits.Freeze p l
+edit_left (changes.Cpus p b l) = edits.Cpus p l
+edit_left (changes.MaxDescendants p b l) = edits.MaxDescendants p l
+edit_left (changes.MaxDepth p b l) = edits.MaxDepth p l
+edit_left (changes.Online b l) = edits.Online l

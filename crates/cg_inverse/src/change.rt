@@ -1,0 +1,238 @@
+//! Changes: a key of the tree, what it held before a command, and what the command left there.
+ghost use Rattle.std.specs.Prelude.{◌≡◌, ◌↔◌, IfOk, IsTrue, option_copied};
+ghost use Rattle.cg_inverse.specs.Meaning.{change_of, edit_back, edit_left, group_of, FitsIn, HasRoomIn, MayGoBack};
+ghost use Rattle.cg_model.specs.Room.{is_group_key};
+
+use cg_cpus::CpuSet;
+use cg_name::Path;
+use cg_text::{Controllers, Limit, Settings};
+use cg_tree::{Edit, Tree};
+use std::alloc::{AllocError, Global};
+use std::default::MadeWith;
+
+/// One key of a tree, with what it held before a command and what the command left.
+#[derive(Drop)]
+pub enum Change {
+    /// The group at the path, where there is one.
+    Group {
+        /// Where.
+        path: Path,
+        /// The settings before; `None` where there was no group.
+        before: Option<Settings>,
+        /// The settings left; `None` where there is no group any more.
+        left: Option<Settings>,
+    },
+    /// The group of a process.
+    Place {
+        /// The process, from 1 to 4,194,303.
+        pid: u32,
+        /// Its group before.
+        before: Path,
+        /// Its group now.
+        left: Path,
+    },
+    /// `cgroup.subtree_control` of a group.
+    Control {
+        /// The group.
+        path: Path,
+        /// What it passed on before.
+        before: Controllers,
+        /// What it passes on now.
+        left: Controllers,
+    },
+    /// `cgroup.freeze` of a group.
+    Freeze {
+        /// The group.
+        path: Path,
+        /// Its own value before.
+        before: bool,
+        /// Its own value now.
+        left: bool,
+    },
+    /// `cpuset.cpus` of a group.
+    Cpus {
+        /// The group.
+        path: Path,
+        /// The CPUs that it asked for before.
+        before: CpuSet,
+        /// The CPUs that it asks for now.
+        left: CpuSet,
+    },
+    /// `cgroup.max.descendants` of a group.
+    MaxDescendants {
+        /// The group.
+        path: Path,
+        /// Its limit before.
+        before: Limit,
+        /// Its limit now.
+        left: Limit,
+    },
+    /// `cgroup.max.depth` of a group.
+    MaxDepth {
+        /// The group.
+        path: Path,
+        /// Its limit before.
+        before: Limit,
+        /// Its limit now.
+        left: Limit,
+    },
+    /// The CPUs that are online.
+    Online {
+        /// Those before.
+        before: CpuSet,
+        /// Those now.
+        left: CpuSet,
+    },
+}
+
+// What fills the place of an inverse that has no change yet.
+impl MadeWith<Global> for Change {
+    fn made_with(_alloc: Global) -> Change {
+        Change::Online {
+            before: CpuSet::empty(),
+            left: CpuSet::empty(),
+        }
+    }
+}
+
+impl Change {
+    /// The edit that puts the key back to its value before.
+    pub fn into_edit_back(self) -> Edit
+        ensures { result ≡ edit_back self }
+    {
+        match self {
+            Change::Group { path, before, .. } => Edit::Group {
+                path,
+                settings: before,
+            },
+            Change::Place { pid, before, .. } => Edit::Place { pid, path: before },
+            Change::Control { path, before, .. } => Edit::Control {
+                path,
+                value: before,
+            },
+            Change::Freeze { path, before, .. } => Edit::Freeze {
+                path,
+                value: before,
+            },
+            Change::Cpus { path, before, .. } => Edit::Cpus {
+                path,
+                value: before,
+            },
+            Change::MaxDescendants { path, before, .. } => Edit::MaxDescendants {
+                path,
+                value: before,
+            },
+            Change::MaxDepth { path, before, .. } => Edit::MaxDepth {
+                path,
+                value: before,
+            },
+            Change::Online { before, .. } => Edit::Online { value: before },
+        }
+    }
+
+    /// The edit that puts the value left; an error where there is no memory for a path.
+    pub fn edit_left(&self, alloc: Global) -> Result<Edit, AllocError>
+        ensures { IfOk result (λ e. e ≡ edit_left self.now) }
+    {
+        Ok(match self {
+            Change::Group { path, left, .. } => Edit::Group {
+                path: path.copy(alloc)?,
+                settings: *left,
+            },
+            Change::Place { pid, left, .. } => Edit::Place {
+                pid: *pid,
+                path: left.copy(alloc)?,
+            },
+            Change::Control { path, left, .. } => Edit::Control {
+                path: path.copy(alloc)?,
+                value: *left,
+            },
+            Change::Freeze { path, left, .. } => Edit::Freeze {
+                path: path.copy(alloc)?,
+                value: *left,
+            },
+            Change::Cpus { path, left, .. } => Edit::Cpus {
+                path: path.copy(alloc)?,
+                value: *left,
+            },
+            Change::MaxDescendants { path, left, .. } => Edit::MaxDescendants {
+                path: path.copy(alloc)?,
+                value: *left,
+            },
+            Change::MaxDepth { path, left, .. } => Edit::MaxDepth {
+                path: path.copy(alloc)?,
+                value: *left,
+            },
+            Change::Online { left, .. } => Edit::Online { value: *left },
+        })
+    }
+
+    /// Whether the key holds the value that the command left. Takes no memory.
+    pub fn fits(&self, tree: &Tree) -> bool
+        ensures { IsTrue result ↔ FitsIn tree.now.tree (change_of self.now) }
+    {
+        match self {
+            Change::Group { path, left, .. } => tree.settings(path) == *left,
+            Change::Place { pid, left, .. } => tree.is_at(*pid, left),
+            Change::Control { path, left, .. } => match tree.settings(path) {
+                Some(settings) => settings.control == *left,
+                None => false,
+            },
+            Change::Freeze { path, left, .. } => match tree.settings(path) {
+                Some(settings) => settings.freeze == *left,
+                None => false,
+            },
+            Change::Cpus { path, left, .. } => match tree.settings(path) {
+                Some(settings) => settings.cpus == *left,
+                None => false,
+            },
+            Change::MaxDescendants { path, left, .. } => match tree.settings(path) {
+                Some(settings) => settings.max_descendants == *left,
+                None => false,
+            },
+            Change::MaxDepth { path, left, .. } => match tree.settings(path) {
+                Some(settings) => settings.max_depth == *left,
+                None => false,
+            },
+            Change::Online { left, .. } => tree.online() == *left,
+        }
+    }
+
+    /// Whether there is the entry that the value before needs, if it needs one. Takes no memory.
+    pub fn has_room(&self, tree: &Tree) -> bool
+        ensures { IsTrue result ↔ HasRoomIn tree.now (change_of self.now) }
+    {
+        match self {
+            Change::Group { path, before, .. } => before.is_none() || tree.has_entry(path),
+            Change::Place { before, .. } => tree.has_entry(before),
+            _ => true,
+        }
+    }
+
+    /// The path of the group that was made or taken away, if that was the change.
+    pub fn group(&self) -> Option<&Path>
+        ensures { option_copied result ≡ group_of (change_of self.now).key }
+    {
+        match self {
+            Change::Group { path, .. } => Some(path),
+            _ => None,
+        }
+    }
+
+    // Whether the group at the path was made or taken away.
+    pub(crate) fn is_of_group(&self, path: &Path) -> bool
+        ensures { result ≡ is_group_key path.now (change_of self.now).key }
+    {
+        match self.group() {
+            Some(group) => path == group,
+            None => false,
+        }
+    }
+
+    // Whether the key can be put back: it holds the value left, and there is the entry that the value before needs.
+    pub(crate) fn may_go_back(&self, tree: &Tree) -> bool
+        ensures { IsTrue result ↔ MayGoBack tree.now (change_of self.now) }
+    {
+        self.fits(tree) && self.has_room(tree)
+    }
+}

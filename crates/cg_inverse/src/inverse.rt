@@ -1,0 +1,93 @@
+//! Inverses: what one command changed, by which it is undone.
+ghost use Rattle.std.specs.Prelude.{◌≡◌, ◌↔◌, ◌++◌, ◌∷◌, [], IsTrue, map, IsOk, OnOk, OnErr};
+ghost use Rattle.cg_inverse.specs.Meaning.{change_of};
+ghost use Rattle.cg_model.specs.Change.{undone, Fits};
+ghost use Rattle.cg_model.specs.Room.{changes_group, RoomFor};
+ghost use Rattle.cg_tree.specs.Room.{has_entry};
+
+use crate::change::Change;
+use cg_name::Path;
+use cg_tree::Tree;
+use smallvec::SmallVec;
+use std::alloc::{AllocError, Global};
+use std::marker::Model;
+
+/// The changes that one command made, the first one first. Most commands make one, which is kept without an allocation.
+#[derive(Drop)]
+pub struct Inverse {
+    changes: SmallVec<Change, 1>,
+}
+
+impl Model for Inverse {
+    ghost use Rattle.std.specs.Prelude.{List, map, ◌≤◌};
+    ghost use Rattle.std.specs.Coded.{coded_list};
+    ghost use Rattle.cg_inverse.specs.Code.{change_code};
+    ghost use Rattle.cg_inverse.specs.Meaning.{change_of};
+    ghost use Rattle.cg_model.specs.Change as model;
+
+    ghost Value = { List model.Change };
+
+    ghost coded = { coded_list change_code };
+
+    ghost view = { λ i. map change_of i.changes.items };
+
+    ghost invariant = { λ i. 1 ≤ i.changes.capacity };
+}
+
+impl Inverse {
+    /// The inverse of a command that changes nothing.
+    pub fn new(alloc: Global) -> Inverse
+        ensures { result ≡ [] }
+    {
+        Inverse {
+            changes: SmallVec::new(alloc),
+        }
+    }
+
+    /// Adds what was changed last. An error, where there is no memory, leaves the inverse as it was; the first change takes
+    /// none.
+    pub fn push(&mut self, change: Change) -> Result<(), AllocError>
+        ensures ok { OnOk result (self.new ≡ self.old ++ change_of change ∷ []) }
+        ensures first { self.old ≡ [] → IsOk result }
+        ensures err { OnErr result (self.new ≡ self.old) }
+    {
+        self.changes.push(change)?;
+        Ok(())
+    }
+
+    /// The changes, the first one first.
+    pub fn changes(&self) -> &[Change]
+        ensures { map change_of result.now ≡ self.now }
+    {
+        self.changes.as_slice()
+    }
+
+    /// Whether the command made the group at the path, or took it away: going back may need the entry of that path.
+    pub fn changes_group(&self, path: &Path) -> bool
+        ensures { result ≡ changes_group path.now self.now }
+    {
+        self.changes().iter().any(|change| change.is_of_group(path))
+    }
+
+    /// Whether the inverse can be undone: each key holds the value left, and there is room for the values before. Takes no
+    /// memory.
+    pub fn fits(&self, tree: &Tree) -> bool
+        ensures { IsTrue result ↔ (Fits self.now tree.now.tree × RoomFor (has_entry tree.now) self.now) }
+    {
+        self.changes().iter().all(|change| change.may_go_back(tree))
+    }
+
+    /// Puts every key back to its value before, the last one first. It always succeeds, takes no memory, and takes no room
+    /// away.
+    pub fn undo(self, tree: &mut Tree)
+        requires fits { Fits self tree.old.tree }
+        requires room { RoomFor (has_entry tree.old) self }
+        ensures tree { tree.new.tree ≡ undone self tree.old.tree }
+        ensures entries { tree.new.entries ≡ tree.old.entries }
+    {
+        let mut changes = self.changes;
+        while let Some(change) = changes.pop() {
+            tree.put_edit(change.into_edit_back());
+        }
+    }
+}

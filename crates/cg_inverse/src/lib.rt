@@ -1,0 +1,8 @@
+//! Inverses: what a command changed, and going back by it.
+#![tactic(auto)]
+
+mod change;
+mod inverse;
+
+pub use change::Change;
+pub use inverse::Inverse;
