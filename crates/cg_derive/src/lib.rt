@@ -1,0 +1,8 @@
+//! What is derived from a tree: the values of its groups, and the texts of their interface files.
+#![tactic(auto)]
+
+mod files;
+mod values;
+
+pub use files::{check_file, file, procs};
+pub use values::{available, effective, frozen, parent_settings, populated};

@@ -1,0 +1,119 @@
+//! The values of a group: what is available to it, whether it is populated and frozen, and its effective CPUs (the kernel's
+//! cgroup-v2 page, "Controlling Controllers", "Core Interface Files" and "Cpuset Interface Files").
+ghost use Rattle.std.specs.Prelude.{◌≡◌};
+ghost use Rattle.cg_model.specs.Derived.{available, effective, effective_cpus, frozen, has_freeze, is_frozen, is_populated, narrowed, populated};
+ghost use Rattle.cg_model.specs.Tree.{parent_group};
+
+use cg_cpus::CpuSet;
+use cg_name::Path;
+use cg_text::{Controllers, Settings};
+use cg_tree::Tree;
+
+/// The controllers that the group at the path has: the root those of the computer, another group those that its parent
+/// passes on. None where there is no group.
+pub fn available(tree: &Tree, path: &Path) -> Option<Controllers>
+    ensures { result ≡ available tree.now.tree path.now }
+{
+    if !tree.find(path) {
+        return None;
+    }
+    if path.is_root() {
+        return Some(tree.controllers());
+    }
+    let parent = parent_settings(tree, path)?;
+    Some(parent.control)
+}
+
+/// Whether the group at the path, or one below it, has a process. None for the root, and where there is no group.
+pub fn populated(tree: &Tree, path: &Path) -> Option<bool>
+    ensures { result ≡ populated tree.now.tree path.now }
+{
+    if path.is_root() || !tree.find(path) {
+        return None;
+    }
+    Some(is_populated(tree, path))
+}
+
+/// Whether the group at the path is frozen: its own freeze value, or that of a group above it, is 1. None for the root, and
+/// where there is no group.
+pub fn frozen(tree: &Tree, path: &Path) -> Option<bool>
+    ensures { result ≡ frozen tree.now.tree path.now }
+{
+    if path.is_root() || !tree.find(path) {
+        return None;
+    }
+    Some(is_frozen(tree, path))
+}
+
+/// The effective CPUs of the group at the path: of the root those that are online; of another group those that it asks for
+/// of its parent's, or all of its parent's where none of these are there. None where there is no group, or where it has not
+/// the `cpuset` controller.
+pub fn effective(tree: &Tree, path: &Path) -> Option<CpuSet>
+    ensures { result ≡ effective tree.now.tree path.now }
+{
+    let controllers = available(tree, path)?;
+    if !controllers.cpuset {
+        return None;
+    }
+    Some(effective_cpus(tree, path))
+}
+
+/// The settings of the parent of the path, if there is such a group. The root has no parent.
+pub fn parent_settings(tree: &Tree, path: &Path) -> Option<Settings>
+    ensures { result ≡ parent_group tree.now.tree path.now }
+{
+    let above = path.depth().checked_sub(1)?;
+    tree.prefix_settings(path, above)
+}
+
+// Whether a process is in the group or in one below it.
+pub(crate) fn is_populated(tree: &Tree, path: &Path) -> bool
+    ensures { result ≡ is_populated tree.now.tree path.now }
+{
+    tree.pids().any(|pid| tree.is_below(pid, path))
+}
+
+// Whether a group from below the root down to the path has a freeze value of 1.
+pub(crate) fn is_frozen(tree: &Tree, path: &Path) -> bool
+    ensures { result ≡ is_frozen tree.now.tree path.now }
+{
+    for above in 0..path.depth() {
+        if has_freeze(tree.prefix_settings(path, above + 1)) {
+            return true;
+        }
+    }
+    false
+}
+
+// Whether there is a group whose own freeze value is 1.
+fn has_freeze(group: Option<Settings>) -> bool
+    ensures { result ≡ has_freeze group }
+{
+    match group {
+        Some(settings) => settings.freeze,
+        None => false,
+    }
+}
+
+// The CPUs that are online, narrowed by each group from below the root down to the path.
+pub(crate) fn effective_cpus(tree: &Tree, path: &Path) -> CpuSet
+    ensures { result ≡ effective_cpus tree.now.tree path.now }
+{
+    let mut cpus = tree.online();
+    for above in 0..path.depth() {
+        let group = tree.prefix_settings(path, above + 1);
+        cpus = narrowed(cpus, group);
+    }
+    cpus
+}
+
+// Those of the parent's CPUs that the group asks for, or all of these where there are none.
+fn narrowed(cpus: CpuSet, group: Option<Settings>) -> CpuSet
+    ensures { result ≡ narrowed cpus group }
+{
+    let Some(settings) = group else {
+        return cpus;
+    };
+    let both = settings.cpus.intersect(cpus);
+    if both.is_empty() { cpus } else { both }
+}
