@@ -1,0 +1,6 @@
+mod Above
+mod Applying
+mod Changing
+mod Emptying
+mod Migrating
+mod Used

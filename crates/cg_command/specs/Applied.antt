@@ -1,0 +1,25 @@
+-- What an accepted command leaves.
+use Rattle.std.specs.Prelude.{◌≡◌, true, List}
+use Rattle.cg_name.specs.Path.{Path}
+use Rattle.cg_command.specs.declared.command.Outcome as rust
+use Rattle.cg_command.specs.declared.command.Outcome.TheVariants as outcomes
+use Rattle.cg_model.specs.Change.{Change, done}
+use Rattle.cg_model.specs.Command.{Command}
+use Rattle.cg_model.specs.Effect.{effect}
+use Rattle.cg_model.specs.Room.{RoomFor}
+use Rattle.cg_model.specs.System.{Outcome, Done, Text, Accept}
+use Rattle.cg_tree.specs.Room.{TreeWithRoom, has_entry}
+
+abbrev pub outcome_of : rust.Outcome → Outcome
+outcome_of outcomes.Done = Done
+outcome_of (outcomes.Text text) = Text text.items
+
+-- the tree u is what the command leaves of t: with this outcome and these changes, and room for undoing them
+pub record Applied (c : Command) (t : TreeWithRoom) (o : Outcome) (cs : List Change) (u : TreeWithRoom) : Type 0 where
+  pub effect : effect c t.tree ≡ Accept o cs
+  pub tree : u.tree ≡ done cs t.tree
+  pub room : RoomFor (has_entry u) cs
+
+-- what has an entry keeps it
+abbrev pub KeepsEntries : TreeWithRoom → TreeWithRoom → Type 0
+KeepsEntries t u = (p : Path) → has_entry t p ≡ true → has_entry u p ≡ true

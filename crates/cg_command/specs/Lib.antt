@@ -1,0 +1,3 @@
+pub mod Applied
+pub mod Meaning
+pub mod Subtree

@@ -1,0 +1,16 @@
+-- What a command of the code means in the model.
+use Rattle.cg_command.specs.declared.command.Command as rust
+use Rattle.cg_command.specs.declared.command.Command.TheVariants as commands
+use Rattle.cg_model.specs.Command as model
+
+abbrev pub command_of : rust.Command → model.Command
+command_of (commands.Create p) = model.Create p
+command_of (commands.Remove p) = model.Remove p
+command_of (commands.Migrate k p) = model.Migrate k p
+command_of (commands.Subtree p ops) = model.Subtree p ops
+command_of (commands.Freeze p v) = model.Freeze p v
+command_of (commands.Cpus p v) = model.Cpus p v
+command_of (commands.Show p f) = model.Show p f
+command_of (commands.Online v) = model.Online v
+command_of (commands.MaxDescendants p l) = model.MaxDescendants p l
+command_of (commands.MaxDepth p l) = model.MaxDepth p l

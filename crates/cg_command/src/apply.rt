@@ -1,0 +1,264 @@
+//! What each accepted command changes, and the inverse of that.
+ghost use Rattle.std.specs.Prelude.{◌≡◌, ◌∷◌, [], Some, IfOk, OnOk, OnErr};
+ghost use Rattle.cg_inverse.specs.Meaning.{change_of, edit_left};
+ghost use Rattle.cg_model.specs.Change.{done};
+ghost use Rattle.cg_model.specs.Command as model;
+ghost use Rattle.cg_model.specs.Command.{IsAccepted};
+ghost use Rattle.cg_model.specs.Effect.{effect};
+ghost use Rattle.cg_model.specs.Key.{put};
+ghost use Rattle.cg_model.specs.Room.{RoomFor};
+ghost use Rattle.cg_model.specs.System.{Accept, Done, Text};
+ghost use Rattle.cg_tree.specs.Edit.{RoomForEdit};
+ghost use Rattle.cg_tree.specs.Room.{has_entry, with_entry};
+
+use cg_cpus::CpuSet;
+use cg_inverse::{Change, Inverse};
+use cg_name::Path;
+use cg_text::{FileName, Limit, Settings};
+use cg_tree::{Edit, Tree};
+use std::alloc::{AllocError, Global};
+
+// Makes the group at the path, with the settings of a new one.
+#[tactic(auto, unfolding(cg_model::specs::Effect::effect))]
+pub(crate) fn create(path: &Path, alloc: Global, tree: &mut Tree) -> Result<Inverse, AllocError>
+    requires { IsAccepted (effect (model.Create path.now) tree.old.tree) }
+    ensures effect { IfOk result (λ i. effect (model.Create path.now) tree.old.tree ≡ Accept Done i) }
+    ensures tree { IfOk result (λ i. tree.new.tree ≡ done i tree.old.tree) }
+    ensures room { IfOk result (λ i. RoomFor (has_entry tree.new) i) }
+    ensures entries { OnOk result (tree.new.entries ≡ with_entry (Some path.now) tree.old.entries) }
+    ensures err { OnErr result (tree.new ≡ tree.old) }
+{
+    let edit = Edit::Group {
+        path: path.copy(alloc)?,
+        settings: Some(Settings::fresh()),
+    };
+    let inverse = one(
+        alloc,
+        Change::Group {
+            path: path.copy(alloc)?,
+            before: None,
+            left: Some(Settings::fresh()),
+        },
+    )?;
+    tree.make_room(alloc, &edit)?;
+    tree.put_edit(edit);
+    Ok(inverse)
+}
+
+// Takes the group at the path away. Its entry stays.
+#[tactic(auto, unfolding(cg_model::specs::Effect::effect))]
+pub(crate) fn remove(path: &Path, alloc: Global, tree: &mut Tree) -> Result<Inverse, AllocError>
+    requires { IsAccepted (effect (model.Remove path.now) tree.old.tree) }
+    ensures effect { IfOk result (λ i. effect (model.Remove path.now) tree.old.tree ≡ Accept Done i) }
+    ensures tree { IfOk result (λ i. tree.new.tree ≡ done i tree.old.tree) }
+    ensures room { IfOk result (λ i. RoomFor (has_entry tree.new) i) }
+    ensures entries { tree.new.entries ≡ tree.old.entries }
+    ensures err { OnErr result (tree.new ≡ tree.old) }
+{
+    let before = tree.settings(path);
+    // A tree tells what holds of it when it is asked for a group.
+    let _ = tree.find(path);
+    change_one(
+        alloc,
+        Change::Group {
+            path: path.copy(alloc)?,
+            before,
+            left: None,
+        },
+        tree,
+    )
+}
+
+// Moves the process into the group.
+#[tactic(auto, unfolding(cg_model::specs::Effect::effect))]
+pub(crate) fn migrate(
+    pid: u32,
+    path: &Path,
+    alloc: Global,
+    tree: &mut Tree,
+) -> Result<Inverse, AllocError>
+    requires { IsAccepted (effect (model.Migrate pid path.now) tree.old.tree) }
+    ensures effect { IfOk result (λ i. effect (model.Migrate pid path.now) tree.old.tree ≡ Accept Done i) }
+    ensures tree { IfOk result (λ i. tree.new.tree ≡ done i tree.old.tree) }
+    ensures room { IfOk result (λ i. RoomFor (has_entry tree.new) i) }
+    ensures entries { tree.new.entries ≡ tree.old.entries }
+    ensures err { OnErr result (tree.new ≡ tree.old) }
+{
+    let Some(before) = tree.location(alloc, pid)? else {
+        // Not reached: the process of an accepted command is there.
+        return Ok(Inverse::new(alloc));
+    };
+    // As above.
+    let _ = tree.find(path);
+    let change = Change::Place {
+        pid,
+        before,
+        left: path.copy(alloc)?,
+    };
+    change_one(alloc, change, tree)
+}
+
+// Writes `cgroup.freeze`.
+#[tactic(auto, unfolding(cg_model::specs::Effect::effect))]
+pub(crate) fn freeze(
+    path: &Path,
+    value: bool,
+    alloc: Global,
+    tree: &mut Tree,
+) -> Result<Inverse, AllocError>
+    requires { IsAccepted (effect (model.Freeze path.now value) tree.old.tree) }
+    ensures effect { IfOk result (λ i. effect (model.Freeze path.now value) tree.old.tree ≡ Accept Done i) }
+    ensures tree { IfOk result (λ i. tree.new.tree ≡ done i tree.old.tree) }
+    ensures room { IfOk result (λ i. RoomFor (has_entry tree.new) i) }
+    ensures entries { tree.new.entries ≡ tree.old.entries }
+    ensures err { OnErr result (tree.new ≡ tree.old) }
+{
+    let Some(settings) = tree.settings(path) else {
+        // Not reached: the group of an accepted command is there.
+        return Ok(Inverse::new(alloc));
+    };
+    let change = Change::Freeze {
+        path: path.copy(alloc)?,
+        before: settings.freeze,
+        left: value,
+    };
+    change_one(alloc, change, tree)
+}
+
+// The inverse of one change.
+fn one(alloc: Global, change: Change) -> Result<Inverse, AllocError>
+    ensures { IfOk result (λ i. i ≡ change_of change ∷ []) }
+{
+    let mut inverse = Inverse::new(alloc);
+    inverse.push(change)?;
+    Ok(inverse)
+}
+
+// Makes the change, which needs no entry that isn't there, and gives its inverse.
+fn change_one(alloc: Global, change: Change, tree: &mut Tree) -> Result<Inverse, AllocError>
+    requires { RoomForEdit tree.old (edit_left change) }
+    ensures ok { IfOk result (λ i. i ≡ change_of change ∷ []) }
+    ensures tree { OnOk result (tree.new.tree ≡ put (change_of change).key (change_of change).left tree.old.tree) }
+    ensures entries { tree.new.entries ≡ tree.old.entries }
+    ensures err { OnErr result (tree.new ≡ tree.old) }
+{
+    let edit = change.edit_left(alloc)?;
+    let inverse = one(alloc, change)?;
+    tree.put_edit(edit);
+    Ok(inverse)
+}
+
+// Writes `cpuset.cpus`.
+#[tactic(auto, unfolding(cg_model::specs::Effect::effect))]
+pub(crate) fn cpus(
+    path: &Path,
+    value: CpuSet,
+    alloc: Global,
+    tree: &mut Tree,
+) -> Result<Inverse, AllocError>
+    requires { IsAccepted (effect (model.Cpus path.now value) tree.old.tree) }
+    ensures effect { IfOk result (λ i. effect (model.Cpus path.now value) tree.old.tree ≡ Accept Done i) }
+    ensures tree { IfOk result (λ i. tree.new.tree ≡ done i tree.old.tree) }
+    ensures room { IfOk result (λ i. RoomFor (has_entry tree.new) i) }
+    ensures entries { tree.new.entries ≡ tree.old.entries }
+    ensures err { OnErr result (tree.new ≡ tree.old) }
+{
+    let Some(settings) = tree.settings(path) else {
+        // As above.
+        return Ok(Inverse::new(alloc));
+    };
+    let change = Change::Cpus {
+        path: path.copy(alloc)?,
+        before: settings.cpus,
+        left: value,
+    };
+    change_one(alloc, change, tree)
+}
+
+// Writes `cgroup.max.descendants`.
+#[tactic(auto, unfolding(cg_model::specs::Effect::effect))]
+pub(crate) fn max_descendants(
+    path: &Path,
+    limit: Limit,
+    alloc: Global,
+    tree: &mut Tree,
+) -> Result<Inverse, AllocError>
+    requires { IsAccepted (effect (model.MaxDescendants path.now limit) tree.old.tree) }
+    ensures effect { IfOk result (λ i. effect (model.MaxDescendants path.now limit) tree.old.tree ≡ Accept Done i) }
+    ensures tree { IfOk result (λ i. tree.new.tree ≡ done i tree.old.tree) }
+    ensures room { IfOk result (λ i. RoomFor (has_entry tree.new) i) }
+    ensures entries { tree.new.entries ≡ tree.old.entries }
+    ensures err { OnErr result (tree.new ≡ tree.old) }
+{
+    let Some(settings) = tree.settings(path) else {
+        // As above.
+        return Ok(Inverse::new(alloc));
+    };
+    let change = Change::MaxDescendants {
+        path: path.copy(alloc)?,
+        before: settings.max_descendants,
+        left: limit,
+    };
+    change_one(alloc, change, tree)
+}
+
+// Writes `cgroup.max.depth`.
+#[tactic(auto, unfolding(cg_model::specs::Effect::effect))]
+pub(crate) fn max_depth(
+    path: &Path,
+    limit: Limit,
+    alloc: Global,
+    tree: &mut Tree,
+) -> Result<Inverse, AllocError>
+    requires { IsAccepted (effect (model.MaxDepth path.now limit) tree.old.tree) }
+    ensures effect { IfOk result (λ i. effect (model.MaxDepth path.now limit) tree.old.tree ≡ Accept Done i) }
+    ensures tree { IfOk result (λ i. tree.new.tree ≡ done i tree.old.tree) }
+    ensures room { IfOk result (λ i. RoomFor (has_entry tree.new) i) }
+    ensures entries { tree.new.entries ≡ tree.old.entries }
+    ensures err { OnErr result (tree.new ≡ tree.old) }
+{
+    let Some(settings) = tree.settings(path) else {
+        // As above.
+        return Ok(Inverse::new(alloc));
+    };
+    let change = Change::MaxDepth {
+        path: path.copy(alloc)?,
+        before: settings.max_depth,
+        left: limit,
+    };
+    change_one(alloc, change, tree)
+}
+
+// Sets which CPUs are online.
+#[tactic(auto, unfolding(cg_model::specs::Effect::effect))]
+pub(crate) fn online(value: CpuSet, alloc: Global, tree: &mut Tree) -> Result<Inverse, AllocError>
+    ensures effect { IfOk result (λ i. effect (model.Online value) tree.old.tree ≡ Accept Done i) }
+    ensures tree { IfOk result (λ i. tree.new.tree ≡ done i tree.old.tree) }
+    ensures room { IfOk result (λ i. RoomFor (has_entry tree.new) i) }
+    ensures entries { tree.new.entries ≡ tree.old.entries }
+    ensures err { OnErr result (tree.new ≡ tree.old) }
+{
+    let change = Change::Online {
+        before: tree.online(),
+        left: value,
+    };
+    change_one(alloc, change, tree)
+}
+
+// The text of the file.
+#[tactic(auto, unfolding(cg_model::specs::Effect::effect))]
+pub(crate) fn show(
+    path: &Path,
+    file: FileName,
+    alloc: Global,
+    tree: &Tree,
+) -> Result<Vec<u8>, AllocError>
+    requires { IsAccepted (effect (model.Show path.now file) tree.now.tree) }
+    ensures { IfOk result (λ text. effect (model.Show path.now file) tree.now.tree ≡ Accept (Text text.items) []) }
+{
+    match cg_derive::file(alloc, tree, path, file) {
+        Ok(text) => Ok(text),
+        // Not reached but for memory: the file of an accepted command is there.
+        Err(_) => Err(AllocError),
+    }
+}

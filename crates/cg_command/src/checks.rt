@@ -1,0 +1,191 @@
+//! What each command asks of the tree before it changes it, in the order of its refusals.
+ghost use Rattle.std.specs.Prelude.{◌≡◌, Bool, ℕ, IfErr, OnOk};
+ghost use Rattle.cg_maps.specs.FiniteMap.{is_nonempty};
+ghost use Rattle.cg_maps.specs.FiniteSet.{FiniteSet};
+ghost use Rattle.cg_model.specs.Command as model;
+ghost use Rattle.cg_model.specs.Command.{IsAccepted};
+ghost use Rattle.cg_model.specs.Control.{used_below};
+ghost use Rattle.cg_model.specs.Derived.{children, processes};
+ghost use Rattle.cg_model.specs.Effect.{effect};
+ghost use Rattle.cg_model.specs.Sound.{admits};
+ghost use Rattle.cg_model.specs.System.{Refuse};
+ghost use Rattle.cg_text.specs.declared.limit.Limit.{Limit};
+
+use crate::limits::{too_deep, too_many};
+use cg_avail::plan;
+use cg_derive::{available, check_file, parent_settings};
+use cg_name::{Path, Refusal};
+use cg_text::{ControlOps, Controllers, FileName, Settings};
+use cg_tree::Tree;
+
+// The path isn't the root's, its parent is there, it is free, and no group above it is full or too far above.
+#[tactic(auto, unfolding(cg_model::specs::Effect::effect))]
+pub(crate) fn check_create(path: &Path, tree: &Tree) -> Result<(), Refusal>
+    ensures accepted { OnOk result (IsAccepted (effect (model.Create path.now) tree.now.tree)) }
+    ensures refused { IfErr result (λ e. effect (model.Create path.now) tree.now.tree ≡ Refuse e) }
+{
+    if path.is_root() {
+        return Err(Refusal::Exists);
+    }
+    if parent_settings(tree, path).is_none() {
+        return Err(Refusal::NoGroup);
+    }
+    if tree.find(path) {
+        return Err(Refusal::Exists);
+    }
+    if too_many(path, tree) {
+        return Err(Refusal::TooMany);
+    }
+    if too_deep(path, tree) {
+        return Err(Refusal::TooDeep);
+    }
+    Ok(())
+}
+
+// The group isn't the root, is there, and has neither children nor processes.
+#[tactic(auto, unfolding(cg_model::specs::Effect::effect))]
+pub(crate) fn check_remove(path: &Path, tree: &Tree) -> Result<(), Refusal>
+    ensures accepted { OnOk result (IsAccepted (effect (model.Remove path.now) tree.now.tree)) }
+    ensures refused { IfErr result (λ e. effect (model.Remove path.now) tree.now.tree ≡ Refuse e) }
+{
+    if path.is_root() {
+        return Err(Refusal::IsRoot);
+    }
+    if !tree.find(path) {
+        return Err(Refusal::NoGroup);
+    }
+    if has_children(path, tree) {
+        return Err(Refusal::HasChildren);
+    }
+    if has_processes(path, tree) {
+        return Err(Refusal::HasProcesses);
+    }
+    Ok(())
+}
+
+// The process and the group are there, and the group may have processes.
+#[tactic(auto, unfolding(cg_model::specs::Effect::effect))]
+pub(crate) fn check_migrate(pid: u32, path: &Path, tree: &Tree) -> Result<(), Refusal>
+    ensures accepted { OnOk result (IsAccepted (effect (model.Migrate pid path.now) tree.now.tree)) }
+    ensures refused { IfErr result (λ e. effect (model.Migrate pid path.now) tree.now.tree ≡ Refuse e) }
+{
+    if !tree.has_process(pid) {
+        return Err(Refusal::NoProcess);
+    }
+    let Some(settings) = tree.settings(path) else {
+        return Err(Refusal::NoGroup);
+    };
+    if !admits(path, &settings) {
+        return Err(Refusal::Controlled);
+    }
+    Ok(())
+}
+
+// The group is there, and what the operations leave may be passed on.
+#[tactic(auto, unfolding(cg_model::specs::Effect::effect))]
+pub(crate) fn check_subtree(path: &Path, ops: ControlOps, tree: &Tree) -> Result<(), Refusal>
+    ensures accepted { OnOk result (IsAccepted (effect (model.Subtree path.now ops) tree.now.tree)) }
+    ensures refused { IfErr result (λ e. effect (model.Subtree path.now ops) tree.now.tree ≡ Refuse e) }
+{
+    let Some(settings) = tree.settings(path) else {
+        return Err(Refusal::NoGroup);
+    };
+    let Some(available) = available(tree, path) else {
+        return Err(Refusal::NoGroup);
+    };
+    plan(
+        available,
+        settings.control,
+        ops,
+        used_below(path, tree),
+        has_processes(path, tree),
+        path.is_root(),
+    )?;
+    Ok(())
+}
+
+// The group is there, and isn't the root.
+#[tactic(auto, unfolding(cg_model::specs::Effect::effect))]
+pub(crate) fn check_freeze(path: &Path, tree: &Tree) -> Result<(), Refusal>
+    ensures accepted { (v : Bool) → OnOk result (IsAccepted (effect (model.Freeze path.now v) tree.now.tree)) }
+    ensures refused { (v : Bool) → IfErr result (λ e. effect (model.Freeze path.now v) tree.now.tree ≡ Refuse e) }
+{
+    if !tree.find(path) {
+        return Err(Refusal::NoGroup);
+    }
+    if path.is_root() {
+        return Err(Refusal::NoFile);
+    }
+    Ok(())
+}
+
+// The group is there, isn't the root, and has the `cpuset` controller.
+#[tactic(auto, unfolding(cg_model::specs::Effect::effect))]
+pub(crate) fn check_cpus(path: &Path, tree: &Tree) -> Result<(), Refusal>
+    ensures accepted { (v : FiniteSet) → OnOk result (IsAccepted (effect (model.Cpus path.now v) tree.now.tree)) }
+    ensures refused { (v : FiniteSet) → IfErr result (λ e. effect (model.Cpus path.now v) tree.now.tree ≡ Refuse e) }
+{
+    if !tree.find(path) {
+        return Err(Refusal::NoGroup);
+    }
+    match available(tree, path) {
+        Some(controllers) if !path.is_root() && controllers.cpuset => Ok(()),
+        _ => Err(Refusal::NoFile),
+    }
+}
+
+// The group is there, and has the file.
+#[tactic(auto, unfolding(cg_model::specs::Effect::effect))]
+pub(crate) fn check_show(path: &Path, file: FileName, tree: &Tree) -> Result<(), Refusal>
+    ensures accepted { OnOk result (IsAccepted (effect (model.Show path.now file) tree.now.tree)) }
+    ensures refused { IfErr result (λ e. effect (model.Show path.now file) tree.now.tree ≡ Refuse e) }
+{
+    check_file(tree, path, file)
+}
+
+// The group is there.
+#[tactic(auto, unfolding(cg_model::specs::Effect::effect))]
+pub(crate) fn check_limit(path: &Path, tree: &Tree) -> Result<(), Refusal>
+    ensures descendants_accepted { (l : Limit) → OnOk result (IsAccepted (effect (model.MaxDescendants path.now l) tree.now.tree)) }
+    ensures descendants_refused { (l : Limit) → IfErr result (λ e. effect (model.MaxDescendants path.now l) tree.now.tree ≡ Refuse e) }
+    ensures depth_accepted { (l : Limit) → OnOk result (IsAccepted (effect (model.MaxDepth path.now l) tree.now.tree)) }
+    ensures depth_refused { (l : Limit) → IfErr result (λ e. effect (model.MaxDepth path.now l) tree.now.tree ≡ Refuse e) }
+{
+    if tree.find(path) {
+        Ok(())
+    } else {
+        Err(Refusal::NoGroup)
+    }
+}
+
+// Whether a group with these settings may have processes: the root may, and one that passes no controllers on.
+fn admits(path: &Path, settings: &Settings) -> bool
+    ensures { result ≡ admits path.now settings.now }
+{
+    path.is_root() || settings.control.is_empty()
+}
+
+// Whether the group has a child.
+fn has_children(path: &Path, tree: &Tree) -> bool
+    ensures { result ≡ is_nonempty (children tree.now.tree path.now) }
+{
+    tree.children(path).next().is_some()
+}
+
+// Whether the group has a process of its own.
+fn has_processes(path: &Path, tree: &Tree) -> bool
+    ensures { result ≡ is_nonempty (processes tree.now.tree path.now) }
+{
+    tree.pids().any(|pid| tree.is_at(pid, path))
+}
+
+// The controllers that a child passes on.
+fn used_below(path: &Path, tree: &Tree) -> Controllers
+    ensures { result ≡ used_below (children tree.now.tree path.now) }
+{
+    let mut used = Controllers::empty();
+    for (_child, settings) in tree.children(path) {
+        used = used.union(&settings.control);
+    }
+    used
+}

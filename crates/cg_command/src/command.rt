@@ -1,0 +1,224 @@
+//! The ten commands (the kernel's cgroup-v2 page, "Organizing Processes and Threads", "Core Interface Files" and "Cpuset
+//! Interface Files").
+ghost use Rattle.std.specs.Prelude.{◌≡◌, IfOk, IfErr, OnErr, OnOk};
+ghost use Rattle.cg_command.specs.Applied.{outcome_of, Applied, KeepsEntries};
+ghost use Rattle.cg_command.specs.Meaning.{command_of};
+ghost use Rattle.cg_model.specs.Change.{done, undone, Fits};
+ghost use Rattle.cg_model.specs.Command.{IsAccepted, IsProper};
+ghost use Rattle.cg_model.specs.Effect.{effect};
+ghost use Rattle.cg_model.specs.Room.{RoomFor};
+ghost use Rattle.cg_model.specs.Sound.{Sound};
+ghost use Rattle.cg_model.specs.System.{Accept, Refuse};
+ghost use Rattle.cg_tree.specs.Room.{has_entry};
+
+use crate::apply;
+use crate::apply::{create, freeze, max_depth, max_descendants, migrate, online, remove, show};
+use crate::checks::{
+    check_cpus, check_create, check_freeze, check_limit, check_migrate, check_remove, check_show,
+    check_subtree,
+};
+use crate::subtree::subtree;
+use cg_cpus::CpuSet;
+use cg_inverse::Inverse;
+use cg_name::{Path, Refusal};
+use cg_text::{ControlOps, FileName, Limit};
+use cg_tree::Tree;
+use std::alloc::{AllocError, Global};
+
+/// What a session asks of the tree.
+#[derive(Drop)]
+pub enum Command {
+    /// Makes the group at the path.
+    Create {
+        /// Where.
+        path: Path,
+    },
+    /// Takes away the group at the path, which has neither children nor processes.
+    Remove {
+        /// Where.
+        path: Path,
+    },
+    /// Moves a process into a group.
+    Migrate {
+        /// The process, from 1 to 4,194,303.
+        pid: u32,
+        /// The group.
+        path: Path,
+    },
+    /// Writes `cgroup.subtree_control`.
+    Subtree {
+        /// The group.
+        path: Path,
+        /// The controllers to be enabled and disabled for its children.
+        ops: ControlOps,
+    },
+    /// Writes `cgroup.freeze`.
+    Freeze {
+        /// The group.
+        path: Path,
+        /// Whether it is to be frozen.
+        value: bool,
+    },
+    /// Writes `cpuset.cpus`.
+    Cpus {
+        /// The group.
+        path: Path,
+        /// The CPUs that it asks for.
+        cpus: CpuSet,
+    },
+    /// Reads an interface file.
+    Show {
+        /// The group.
+        path: Path,
+        /// The file.
+        file: FileName,
+    },
+    /// Sets which CPUs are online. The set isn't empty.
+    Online {
+        /// These CPUs.
+        cpus: CpuSet,
+    },
+    /// Writes `cgroup.max.descendants`.
+    MaxDescendants {
+        /// The group.
+        path: Path,
+        /// Its limit.
+        limit: Limit,
+    },
+    /// Writes `cgroup.max.depth`.
+    MaxDepth {
+        /// The group.
+        path: Path,
+        /// Its limit.
+        limit: Limit,
+    },
+}
+
+/// What an accepted command gives.
+#[derive(Drop)]
+pub enum Outcome {
+    /// It is done.
+    Done,
+    /// The text of the file that was asked for.
+    Text(Vec<u8>),
+}
+
+impl Command {
+    /// An equal command; an error where there is no memory for it.
+    pub fn copy(&self, alloc: Global) -> Result<Command, AllocError>
+        ensures { IfOk result (λ c. c ≡ self.now) }
+    {
+        Ok(match self {
+            Command::Create { path } => Command::Create {
+                path: path.copy(alloc)?,
+            },
+            Command::Remove { path } => Command::Remove {
+                path: path.copy(alloc)?,
+            },
+            Command::Migrate { pid, path } => Command::Migrate {
+                pid: *pid,
+                path: path.copy(alloc)?,
+            },
+            Command::Subtree { path, ops } => Command::Subtree {
+                path: path.copy(alloc)?,
+                ops: *ops,
+            },
+            Command::Freeze { path, value } => Command::Freeze {
+                path: path.copy(alloc)?,
+                value: *value,
+            },
+            Command::Cpus { path, cpus } => Command::Cpus {
+                path: path.copy(alloc)?,
+                cpus: *cpus,
+            },
+            Command::Show { path, file } => Command::Show {
+                path: path.copy(alloc)?,
+                file: *file,
+            },
+            Command::Online { cpus } => Command::Online { cpus: *cpus },
+            Command::MaxDescendants { path, limit } => Command::MaxDescendants {
+                path: path.copy(alloc)?,
+                limit: *limit,
+            },
+            Command::MaxDepth { path, limit } => Command::MaxDepth {
+                path: path.copy(alloc)?,
+                limit: *limit,
+            },
+        })
+    }
+
+    /// Whether the tree accepts the command: its own checks, in order. A refusal is the one that the command's definition
+    /// gives. Takes no memory.
+    pub fn check(&self, tree: &Tree) -> Result<(), Refusal>
+        ensures accepted { OnOk result (IsAccepted (effect (command_of self.now) tree.now.tree)) }
+        ensures refused { IfErr result (λ e. effect (command_of self.now) tree.now.tree ≡ Refuse e) }
+    {
+        match self {
+            Command::Create { path } => check_create(path, tree),
+            Command::Remove { path } => check_remove(path, tree),
+            Command::Migrate { pid, path } => check_migrate(*pid, path, tree),
+            Command::Subtree { path, ops } => check_subtree(path, *ops, tree),
+            Command::Freeze { path, .. } => check_freeze(path, tree),
+            Command::Cpus { path, .. } => check_cpus(path, tree),
+            Command::Show { path, file } => check_show(path, *file, tree),
+            Command::Online { .. } => Ok(()),
+            Command::MaxDescendants { path, .. } => check_limit(path, tree),
+            Command::MaxDepth { path, .. } => check_limit(path, tree),
+        }
+    }
+
+    /// Changes the tree as the accepted command does, and gives its outcome and its inverse: the list of its changes. The
+    /// inverse fits, and undoing it at once gives the tree before. An error, where there is no memory, leaves every key of
+    /// the tree as it was. No room is taken away.
+    pub fn apply(&self, alloc: Global, tree: &mut Tree) -> Result<(Outcome, Inverse), AllocError>
+        requires { IsAccepted (effect (command_of self.now) tree.old.tree) }
+        ensures effect { IfOk result (λ r. effect (command_of self.now) tree.old.tree ≡ Accept (outcome_of r.0) r.1) }
+        ensures tree { IfOk result (λ r. tree.new.tree ≡ done r.1 tree.old.tree) }
+        ensures fits { IfOk result (λ r. Fits r.1 tree.new.tree) }
+        ensures room { IfOk result (λ r. RoomFor (has_entry tree.new) r.1) }
+        ensures identity { IfOk result (λ r. undone r.1 tree.new.tree ≡ tree.old.tree) }
+        ensures sound { IsProper (command_of self.now) → Sound tree.old.tree → Sound tree.new.tree }
+        ensures entries { KeepsEntries tree.old tree.new }
+        ensures err { OnErr result (tree.new.tree ≡ tree.old.tree) }
+    {
+        self.run(alloc, tree)
+    }
+
+    // Changes the tree as the accepted command does.
+    fn run(&self, alloc: Global, tree: &mut Tree) -> Result<(Outcome, Inverse), AllocError>
+        requires { IsAccepted (effect (command_of self.now) tree.old.tree) }
+        ensures applied { IfOk result (λ r. Applied (command_of self.now) tree.old (outcome_of r.0) r.1 tree.new) }
+        ensures entries { KeepsEntries tree.old tree.new }
+        ensures err { OnErr result (tree.new.tree ≡ tree.old.tree) }
+    {
+        match self {
+            Command::Create { path } => Ok((Outcome::Done, create(path, alloc, tree)?)),
+            Command::Remove { path } => Ok((Outcome::Done, remove(path, alloc, tree)?)),
+            Command::Migrate { pid, path } => {
+                Ok((Outcome::Done, migrate(*pid, path, alloc, tree)?))
+            }
+            Command::Subtree { path, ops } => {
+                Ok((Outcome::Done, subtree(path, *ops, alloc, tree)?))
+            }
+            Command::Freeze { path, value } => {
+                Ok((Outcome::Done, freeze(path, *value, alloc, tree)?))
+            }
+            Command::Cpus { path, cpus } => {
+                Ok((Outcome::Done, apply::cpus(path, *cpus, alloc, tree)?))
+            }
+            Command::Show { path, file } => {
+                Ok((
+                    Outcome::Text(show(path, *file, alloc, tree)?),
+                    Inverse::new(alloc),
+                ))
+            }
+            Command::Online { cpus } => Ok((Outcome::Done, online(*cpus, alloc, tree)?)),
+            Command::MaxDescendants { path, limit } => {
+                Ok((Outcome::Done, max_descendants(path, *limit, alloc, tree)?))
+            }
+            Command::MaxDepth { path, limit } => {
+                Ok((Outcome::Done, max_depth(path, *limit, alloc, tree)?))
+            }
+        }
+    }
+}

@@ -1,0 +1,128 @@
+//! What a write to `cgroup.subtree_control` changes: the control of the group, and where the `cpuset` controller goes the
+//! CPUs that its children ask for.
+ghost use Rattle.std.specs.Prelude.{◌≡◌, ◌++◌, [], cond, IfOk, OnOk, OnErr, map};
+ghost use Rattle.cg_command.specs.Subtree.{all_edited, NeedNoEntry};
+ghost use Rattle.cg_inverse.specs.Meaning.{edit_left};
+ghost use Rattle.cg_model.specs.Change.{done};
+ghost use Rattle.cg_model.specs.Command as model;
+ghost use Rattle.cg_model.specs.Command.{IsAccepted};
+ghost use Rattle.cg_model.specs.Control.{controlled, emptied, loses_cpuset, planned};
+ghost use Rattle.cg_model.specs.Derived.{children};
+ghost use Rattle.cg_model.specs.Effect.{effect};
+ghost use Rattle.cg_model.specs.Room.{RoomFor};
+ghost use Rattle.cg_model.specs.System.{Accept, Done};
+ghost use Rattle.cg_tree.specs.Room.{has_entry};
+
+use cg_cpus::CpuSet;
+use cg_inverse::{Change, Inverse};
+use cg_name::Path;
+use cg_text::{ControlOps, Controllers};
+use cg_tree::{Edit, Tree};
+use std::alloc::{AllocError, Global};
+
+// Writes `cgroup.subtree_control`.
+#[tactic(auto, unfolding(cg_model::specs::Effect::effect))]
+pub(crate) fn subtree(
+    path: &Path,
+    ops: ControlOps,
+    alloc: Global,
+    tree: &mut Tree,
+) -> Result<Inverse, AllocError>
+    requires { IsAccepted (effect (model.Subtree path.now ops) tree.old.tree) }
+    ensures effect { IfOk result (λ i. effect (model.Subtree path.now ops) tree.old.tree ≡ Accept Done i) }
+    ensures tree { IfOk result (λ i. tree.new.tree ≡ done i tree.old.tree) }
+    ensures room { IfOk result (λ i. RoomFor (has_entry tree.new) i) }
+    ensures entries { tree.new.entries ≡ tree.old.entries }
+    ensures err { OnErr result (tree.new ≡ tree.old) }
+{
+    let Some(settings) = tree.settings(path) else {
+        // Not reached: the group of an accepted command is there.
+        return Ok(Inverse::new(alloc));
+    };
+    let left = planned(settings.control, ops);
+    let inverse = changes_of(path, settings.control, left, alloc, tree)?;
+    let edits = edits_of(inverse.changes(), alloc)?;
+    put_all(edits, tree);
+    Ok(inverse)
+}
+
+// The changes of a write that leaves this set.
+fn changes_of(
+    path: &Path,
+    before: Controllers,
+    left: Controllers,
+    alloc: Global,
+    tree: &Tree,
+) -> Result<Inverse, AllocError>
+    ensures { IfOk result (λ i. i ≡ controlled path.now before left (children tree.now.tree path.now)) }
+{
+    let mut inverse = Inverse::new(alloc);
+    add_emptied(loses_cpuset(before, left), path, alloc, tree, &mut inverse)?;
+    inverse.push(Change::Control {
+        path: path.copy(alloc)?,
+        before,
+        left,
+    })?;
+    Ok(inverse)
+}
+
+// Whether the `cpuset` controller goes.
+fn loses_cpuset(before: Controllers, left: Controllers) -> bool
+    ensures { result ≡ loses_cpuset before left }
+{
+    before.cpuset && !left.cpuset
+}
+
+// Where the `cpuset` controller goes, adds the change of each child of the group that asks for CPUs: it asks for none.
+fn add_emptied(
+    goes: bool,
+    path: &Path,
+    alloc: Global,
+    tree: &Tree,
+    inverse: &mut Inverse,
+) -> Result<(), AllocError>
+    ensures { OnOk result (inverse.new ≡ inverse.old ++ emptied (cond goes (children tree.now.tree path.now) []) []) }
+{
+    if !goes {
+        return Ok(());
+    }
+    for (child, settings) in tree.children(path) {
+        if !settings.cpus.is_empty() {
+            inverse.push(Change::Cpus {
+                path: child.to_path(alloc)?,
+                before: settings.cpus,
+                left: CpuSet::empty(),
+            })?;
+        }
+    }
+    Ok(())
+}
+
+// The edits that put the values left.
+fn edits_of(changes: &[Change], alloc: Global) -> Result<Vec<Edit>, AllocError>
+    ensures { IfOk result (λ edits. edits.items ≡ map edit_left changes.now) }
+{
+    let mut edits = Vec::new(alloc);
+    for change in changes {
+        edits.push(change.edit_left(alloc)?)?;
+    }
+    Ok(edits)
+}
+
+// Makes the edits, none of which needs an entry.
+fn put_all(edits: Vec<Edit>, tree: &mut Tree)
+    requires { NeedNoEntry edits.items }
+    ensures tree { tree.new.tree ≡ all_edited edits.items tree.old.tree }
+    ensures entries { tree.new.entries ≡ tree.old.entries }
+{
+    for edit in edits {
+        tree.put_edit(edit);
+    }
+}
+
+// The controllers that the operations leave.
+fn planned(current: Controllers, ops: ControlOps) -> Controllers
+    ensures { result ≡ planned current ops }
+{
+    current.union(&ops.plus).difference(&ops.minus)
+}
