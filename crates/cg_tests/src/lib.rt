@@ -5,6 +5,10 @@
 #[cfg(test)]
 mod answers;
 #[cfg(test)]
+mod commands;
+#[cfg(test)]
+mod derived;
+#[cfg(test)]
 mod devices;
 #[cfg(test)]
 mod files;
@@ -18,3 +22,5 @@ mod paths;
 mod printed;
 #[cfg(test)]
 mod requests;
+#[cfg(test)]
+mod trees;

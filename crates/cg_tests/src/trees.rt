@@ -1,0 +1,143 @@
+//! The tree that commands change: made of a world, given back as one, and edited.
+use cg_derive::parent_settings;
+use cg_name::{Path, Refusal};
+use cg_text::{Settings, write_procs};
+use cg_tree::{Edit, Tree};
+use cg_world::World;
+use std::alloc::{AllocError, Global};
+
+const OPENING: &str = "world 1
+controllers cpuset cpu memory
+online 0-7
+group / - 0 -
+proc 10 /
+proc 11 /
+end
+";
+
+// That world.
+fn opening(alloc: Global) -> Result<World, Refusal> {
+    World::read(alloc, OPENING.as_bytes())
+}
+
+// Appends the text of the world that its tree gives back.
+fn write_back(alloc: Global, out: &mut Vec<u8>) -> Result<(), Refusal> {
+    let tree = Tree::from_world(alloc, opening(alloc)?)?;
+    tree.to_world(alloc)?.write(out)?;
+    Ok(())
+}
+
+#[test]
+fn a_tree_gives_its_world_back(rt: HostRuntime) {
+    let mut out = Vec::new(rt.alloc());
+    assert!(rt; write_back(rt.alloc(), &mut out) == Ok(()));
+    assert!(rt; out.as_slice() == OPENING.as_bytes());
+}
+
+// Makes the group at the path that a word spells, where its parent is there.
+fn make_group(alloc: Global, tree: &mut Tree, word: &str) -> Result<(), Refusal> {
+    let path = Path::read(alloc, word)?;
+    if parent_settings(tree, &path).is_none() {
+        return Err(Refusal::NoGroup);
+    }
+    let settings = Some(Settings::fresh());
+    let edit = Edit::Group { path, settings };
+    tree.make_room(alloc, &edit)?;
+    tree.put_edit(edit);
+    Ok(())
+}
+
+// Moves the process into the group at the path that a word spells, which has an entry.
+fn move_process(alloc: Global, tree: &mut Tree, pid: u32, word: &str) -> Result<(), Refusal> {
+    let path = Path::read(alloc, word)?;
+    let edit = Edit::Place { pid, path };
+    if !tree.has_room(&edit) {
+        return Err(Refusal::NoGroup);
+    }
+    tree.put_edit(edit);
+    Ok(())
+}
+
+// Two groups, one in the other, and a process in the lower one.
+fn edit_tree(alloc: Global, tree: &mut Tree) -> Result<(), Refusal> {
+    make_group(alloc, tree, "/a")?;
+    make_group(alloc, tree, "/a/b")?;
+    move_process(alloc, tree, 11, "/a/b")
+}
+
+// Appends the path of the group of a process, if there is one with this PID, and a newline.
+fn write_location(
+    alloc: Global,
+    tree: &Tree,
+    pid: u32,
+    out: &mut Vec<u8>,
+) -> Result<(), AllocError> {
+    if let Some(path) = tree.location(alloc, pid)? {
+        path.write(out)?;
+    }
+    out.push(b'\n')?;
+    Ok(())
+}
+
+// Appends the paths of the root's children, the name of the first and how many groups are below the root.
+fn write_below(alloc: Global, tree: &Tree, out: &mut Vec<u8>) -> Result<(), AllocError> {
+    let root = Path::root(alloc);
+    for (child, _) in tree.children(&root) {
+        child.write(out)?;
+    }
+    if let Some((name, _)) = tree.child_at(&root, 0) {
+        out.extend_from_slice(name.as_bytes())?;
+    }
+    if tree.descendants(&root, 0) == 2 {
+        out.push(b'2')?;
+    }
+    out.push(b'\n')?;
+    Ok(())
+}
+
+// Appends the PIDs, one on a line.
+fn write_pids(tree: &Tree, out: &mut Vec<u8>) -> Result<(), AllocError> {
+    for pid in tree.pids() {
+        write_procs(&[pid], out)?;
+    }
+    Ok(())
+}
+
+// Appends what the tree shows: where two processes are and one that isn't there, its groups and its PIDs.
+fn write_tree(alloc: Global, tree: &Tree, out: &mut Vec<u8>) -> Result<(), AllocError> {
+    write_location(alloc, tree, 10, out)?;
+    write_location(alloc, tree, 11, out)?;
+    write_location(alloc, tree, 99, out)?;
+    write_below(alloc, tree, out)?;
+    write_pids(tree, out)
+}
+
+// Appends that of the world's tree, and of the edited one.
+fn write_trees(alloc: Global, out: &mut Vec<u8>) -> Result<(), Refusal> {
+    let mut tree = Tree::from_world(alloc, opening(alloc)?)?;
+    write_tree(alloc, &tree, out)?;
+    edit_tree(alloc, &mut tree)?;
+    write_tree(alloc, &tree, out)?;
+    Ok(())
+}
+
+const SHOWN: &str = "/
+/
+
+
+10
+11
+/
+/a/b
+
+/aa2
+10
+11
+";
+
+#[test]
+fn a_tree_is_edited(rt: HostRuntime) {
+    let mut out = Vec::new(rt.alloc());
+    assert!(rt; write_trees(rt.alloc(), &mut out) == Ok(()));
+    assert!(rt; out.as_slice() == SHOWN.as_bytes());
+}
