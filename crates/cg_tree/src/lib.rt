@@ -7,6 +7,7 @@ mod edit;
 mod pids;
 mod tree;
 mod worlds;
+mod writing;
 
 pub use children::Children;
 pub use edit::Edit;

@@ -1,6 +1,7 @@
 //! Groups and processes, and which paths have an entry.
 ghost use Rattle.std.specs.Prelude.{◌≡◌, ◌↔◌, IsTrue, is_some, true, Some, IfOk, IfSome, IsOk, IsSome, OnOk, OnErr, slice_get};
-ghost use Rattle.cg_maps.specs.FiniteMap.{domain, keys, set_at};
+ghost use Rattle.std.specs.Ordering.{nat_cmp};
+ghost use Rattle.cg_maps.specs.FiniteMap.{domain, from_entries, keys, set_at};
 ghost use Rattle.cg_model.specs.Sound.{Sound};
 ghost use Rattle.cg_model.specs.Key.{replaced};
 ghost use Rattle.cg_model.specs.Tree.{group, place_of};
@@ -183,6 +184,13 @@ impl Tree {
         ensures rooted { IsRooted self.now }
     {
         &self.groups
+    }
+
+    // The groups of the processes, by PID.
+    pub(crate) fn places(&self) -> &BTreeMap<u32, Path>
+        ensures { from_entries nat_cmp result.now.entries ≡ self.now.tree.places }
+    {
+        &self.places
     }
 
     /// Makes the entry that the edit needs, if it needs one and there is none. The path of that entry is the root's, or

@@ -44,8 +44,8 @@ fn groups_fit(groups: &BTreeMap<Path, Settings>) -> bool
     true
 }
 
-// Whether the settings fit version 1.
-fn settings_fit(settings: &Settings) -> bool
+/// Whether the settings of a group fit version 1: no CPU number is above 127, and there is no limit.
+pub fn settings_fit(settings: &Settings) -> bool
     ensures { result ≡ settings_fit_one settings.now }
 {
     cpus_fit(&settings.cpus)
@@ -53,8 +53,8 @@ fn settings_fit(settings: &Settings) -> bool
         && matches!(settings.max_depth, Limit::Max)
 }
 
-// Whether no CPU number is too great for version 1.
-fn cpus_fit(cpus: &CpuSet) -> bool
+/// Whether the CPUs fit version 1: no number is above 127.
+pub fn cpus_fit(cpus: &CpuSet) -> bool
     ensures { result ≡ cpus_fit_one cpus.now }
 {
     match cpus.last() {

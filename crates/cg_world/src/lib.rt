@@ -15,9 +15,11 @@ mod version;
 mod world;
 mod writing;
 
+pub use fitting::{cpus_fit, settings_fit};
 pub use plain::PlainTree;
 pub use reader::WorldReader;
 pub use reading::LONGEST_WORLD;
 pub use statement::Statement;
 pub use version::Version;
 pub use world::World;
+pub use writing::{append_end, append_group, append_head, append_processes};

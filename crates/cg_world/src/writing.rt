@@ -15,7 +15,7 @@ use crate::plain::PlainTree;
 use crate::version::Version;
 use crate::world::World;
 use cg_cpus::CpuSet;
-use cg_name::{Path, or_truncate};
+use cg_name::{Path, PathRef, or_truncate};
 use cg_text::{Controllers, Limit, Settings, write_names};
 use itoa::Buffer;
 use std::alloc::AllocError;
@@ -45,22 +45,9 @@ impl PlainTree {
     }
 }
 
-// What follows appends to `out`, and an error leaves what stood there at the front.
-
-// All lines of the tree's text in one version.
-fn append_world(version: Version, tree: &PlainTree, out: &mut Vec<u8>) -> Result<(), AllocError>
-    ensures ok { OnOk result (out.new.items ≡ out.old.items ++ text_of_version version tree.now) }
-    ensures kept { OnErr result (take (length out.old.items) out.new.items ≡ out.old.items) }
-{
-    append_head(version, &tree.controllers(), &tree.online(), out)?;
-    append_groups(version, tree.groups(), out)?;
-    append_processes(tree.places(), out)?;
-    out.extend_from_slice(b"end\n")?;
-    Ok(())
-}
-
-// The first three lines: the version, the controllers and the CPUs that are online.
-fn append_head(
+/// Appends the first three lines of a world's text: the version, the controllers and the CPUs that are online. An error,
+/// where there is no memory, leaves what stood in `out` at its front, as with the lines below.
+pub fn append_head(
     version: Version,
     controllers: &Controllers,
     online: &CpuSet,
@@ -76,6 +63,62 @@ fn append_head(
     online.write(out)?;
     out.push(b'\n')?;
     Ok(())
+}
+
+/// Appends the line of a group.
+pub fn append_group(
+    version: Version,
+    path: &PathRef<'_>,
+    settings: &Settings,
+    out: &mut Vec<u8>,
+) -> Result<(), AllocError>
+    ensures ok { OnOk result (out.new.items ≡ out.old.items ++ group_line version (path.now, settings.now)) }
+    ensures kept { OnErr result (take (length out.old.items) out.new.items ≡ out.old.items) }
+{
+    out.extend_from_slice(b"group ")?;
+    path.write(out)?;
+    out.push(b' ')?;
+    append_control(&settings.control, out)?;
+    out.push(b' ')?;
+    out.push(flag(settings.freeze))?;
+    out.push(b' ')?;
+    append_asked_cpus(&settings.cpus, out)?;
+    append_limits(version, settings, out)?;
+    out.push(b'\n')?;
+    Ok(())
+}
+
+/// Appends the line of each process, by ascending PID.
+pub fn append_processes(places: &BTreeMap<u32, Path>, out: &mut Vec<u8>) -> Result<(), AllocError>
+    ensures ok { OnOk result (out.new.items ≡ out.old.items ++ flat_map process_line (entries (from_entries nat_cmp places.now.entries))) }
+    ensures kept { OnErr result (take (length out.old.items) out.new.items ≡ out.old.items) }
+{
+    for (pid, path) in places {
+        append_process(*pid, path, out)?;
+    }
+    Ok(())
+}
+
+/// Appends the last line.
+pub fn append_end(out: &mut Vec<u8>) -> Result<(), AllocError>
+    ensures ok { OnOk result (out.new.items ≡ out.old.items ++ (codes "end" ++ newline)) }
+    ensures kept { OnErr result (take (length out.old.items) out.new.items ≡ out.old.items) }
+{
+    out.extend_from_slice(b"end\n")?;
+    Ok(())
+}
+
+// What follows appends to `out`, and an error leaves what stood there at the front.
+
+// All lines of the tree's text in one version.
+fn append_world(version: Version, tree: &PlainTree, out: &mut Vec<u8>) -> Result<(), AllocError>
+    ensures ok { OnOk result (out.new.items ≡ out.old.items ++ text_of_version version tree.now) }
+    ensures kept { OnErr result (take (length out.old.items) out.new.items ≡ out.old.items) }
+{
+    append_head(version, &tree.controllers(), &tree.online(), out)?;
+    append_groups(version, tree.groups(), out)?;
+    append_processes(tree.places(), out)?;
+    append_end(out)
 }
 
 // The line of the version.
@@ -112,31 +155,8 @@ fn append_groups(
     ensures kept { OnErr result (take (length out.old.items) out.new.items ≡ out.old.items) }
 {
     for (path, settings) in groups {
-        append_group(version, path, settings, out)?;
+        append_group(version, &path.borrowed(), settings, out)?;
     }
-    Ok(())
-}
-
-// The line of a group.
-fn append_group(
-    version: Version,
-    path: &Path,
-    settings: &Settings,
-    out: &mut Vec<u8>,
-) -> Result<(), AllocError>
-    ensures ok { OnOk result (out.new.items ≡ out.old.items ++ group_line version (path.now, settings.now)) }
-    ensures kept { OnErr result (take (length out.old.items) out.new.items ≡ out.old.items) }
-{
-    out.extend_from_slice(b"group ")?;
-    path.write(out)?;
-    out.push(b' ')?;
-    append_control(&settings.control, out)?;
-    out.push(b' ')?;
-    out.push(flag(settings.freeze))?;
-    out.push(b' ')?;
-    append_asked_cpus(&settings.cpus, out)?;
-    append_limits(version, settings, out)?;
-    out.push(b'\n')?;
     Ok(())
 }
 
@@ -198,17 +218,6 @@ fn append_asked_cpus(cpus: &CpuSet, out: &mut Vec<u8>) -> Result<(), AllocError>
         return Ok(());
     }
     cpus.write(out)
-}
-
-// The line of each process.
-fn append_processes(places: &BTreeMap<u32, Path>, out: &mut Vec<u8>) -> Result<(), AllocError>
-    ensures ok { OnOk result (out.new.items ≡ out.old.items ++ flat_map process_line (entries (from_entries nat_cmp places.now.entries))) }
-    ensures kept { OnErr result (take (length out.old.items) out.new.items ≡ out.old.items) }
-{
-    for (pid, path) in places {
-        append_process(*pid, path, out)?;
-    }
-    Ok(())
 }
 
 // The line of a process.
