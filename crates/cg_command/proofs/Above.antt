@@ -28,9 +28,6 @@ next_depth f p n b h e =
     let one : n + 1 ≡ suc n = omega arith in
     ap (λ x. x || from_depth f p (n + 1)) e ∙ ap (λ k. f (take n p) || from_depth f p k) one ∙ ap (list_any (λ b. b)) (sym (next_along f p n h))
 
-pub none_deeper : (f : Path → Bool) (p : Path) (n : ℕ) → n ≡ length p → from_depth f p n ≡ from_depth f p (length p)
-none_deeper f p n e = ap (from_depth f p) e
-
 pub end_of_depths : (f : Path → Bool) (p : Path) (n : ℕ) → n ≡ length p → from_depth f p n ≡ list_any (λ b. b) []
 end_of_depths f p n e = ap (from_depth f p) e ∙ ap (list_any (λ b. b)) (end_along f p)
 

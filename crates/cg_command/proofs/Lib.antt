@@ -2,5 +2,5 @@ mod Above
 mod Applying
 mod Changing
 mod Emptying
-mod Migrating
+pub mod Proper
 mod Used

@@ -1,3 +1,4 @@
 pub mod Applied
 pub mod Meaning
+pub mod OnlineCpus
 pub mod Subtree

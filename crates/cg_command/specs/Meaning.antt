@@ -11,6 +11,6 @@ command_of (commands.Subtree p ops) = model.Subtree p ops
 command_of (commands.Freeze p v) = model.Freeze p v
 command_of (commands.Cpus p v) = model.Cpus p v
 command_of (commands.Show p f) = model.Show p f
-command_of (commands.Online v) = model.Online v
+command_of (commands.Online v) = model.Online v.cpus
 command_of (commands.MaxDescendants p l) = model.MaxDescendants p l
 command_of (commands.MaxDepth p l) = model.MaxDepth p l

@@ -4,7 +4,7 @@ ghost use Rattle.std.specs.Prelude.{◌≡◌, IfOk, IfErr, OnErr, OnOk};
 ghost use Rattle.cg_command.specs.Applied.{outcome_of, Applied, KeepsEntries};
 ghost use Rattle.cg_command.specs.Meaning.{command_of};
 ghost use Rattle.cg_model.specs.Change.{done, undone, Fits};
-ghost use Rattle.cg_model.specs.Command.{IsAccepted, IsProper};
+ghost use Rattle.cg_model.specs.Command.{IsAccepted};
 ghost use Rattle.cg_model.specs.Effect.{effect};
 ghost use Rattle.cg_model.specs.Room.{RoomFor};
 ghost use Rattle.cg_model.specs.Sound.{Sound};
@@ -17,6 +17,7 @@ use crate::checks::{
     check_cpus, check_create, check_freeze, check_limit, check_migrate, check_remove, check_show,
     check_subtree,
 };
+use crate::online_cpus::OnlineCpus;
 use crate::subtree::subtree;
 use cg_cpus::CpuSet;
 use cg_inverse::Inverse;
@@ -73,10 +74,10 @@ pub enum Command {
         /// The file.
         file: FileName,
     },
-    /// Sets which CPUs are online. The set isn't empty.
+    /// Sets which CPUs are online.
     Online {
         /// These CPUs.
-        cpus: CpuSet,
+        cpus: OnlineCpus,
     },
     /// Writes `cgroup.max.descendants`.
     MaxDescendants {
@@ -177,7 +178,7 @@ impl Command {
         ensures fits { IfOk result (λ r. Fits r.1 tree.new.tree) }
         ensures room { IfOk result (λ r. RoomFor (has_entry tree.new) r.1) }
         ensures identity { IfOk result (λ r. undone r.1 tree.new.tree ≡ tree.old.tree) }
-        ensures sound { IsProper (command_of self.now) → Sound tree.old.tree → Sound tree.new.tree }
+        ensures sound { Sound tree.old.tree → Sound tree.new.tree }
         ensures entries { KeepsEntries tree.old tree.new }
         ensures err { OnErr result (tree.new.tree ≡ tree.old.tree) }
     {
@@ -212,7 +213,7 @@ impl Command {
                     Inverse::new(alloc),
                 ))
             }
-            Command::Online { cpus } => Ok((Outcome::Done, online(*cpus, alloc, tree)?)),
+            Command::Online { cpus } => Ok((Outcome::Done, online(cpus.cpus, alloc, tree)?)),
             Command::MaxDescendants { path, limit } => {
                 Ok((Outcome::Done, max_descendants(path, *limit, alloc, tree)?))
             }

@@ -5,6 +5,8 @@ mod apply;
 mod checks;
 mod command;
 mod limits;
+mod online_cpus;
 mod subtree;
 
 pub use command::{Command, Outcome};
+pub use online_cpus::OnlineCpus;

@@ -1,6 +1,6 @@
 //! What copies of commands are answered before they change the tree: each refusal of each command, and of several that
 //! apply at once the one that comes first. And what accepted commands give, one after another, each undone.
-use cg_command::{Command, Outcome};
+use cg_command::{Command, OnlineCpus, Outcome};
 use cg_cpus::CpuSet;
 use cg_name::{Controller, FileName, Path, Refusal};
 use cg_text::{Limit, read_ops};
@@ -61,7 +61,9 @@ fn command(asked: Asked, path: Path) -> Result<Command, Refusal> {
         Asked::Freeze => Command::Freeze { path, value: true },
         Asked::Cpus => Command::Cpus { path, cpus },
         Asked::Show(file) => Command::Show { path, file },
-        Asked::Online => Command::Online { cpus },
+        Asked::Online => Command::Online {
+            cpus: OnlineCpus::try_from(cpus)?,
+        },
         Asked::MaxDescendants => Command::MaxDescendants { path, limit },
         Asked::MaxDepth => Command::MaxDepth { path, limit },
     })
