@@ -3,7 +3,7 @@ use Rattle.std.proofs.Common.{◌≡◌, ℕ, List, true, false, cond, ◌∙◌
 use Rattle.std.specs.Prelude.{◌⊎◌, ◌&&◌, Option, Some, None, MatchOption}
 use Rattle.std.proofs.lemmas.Option.{IfSome_then}
 use Rattle.cg_model.specs.Tree.{Tree}
-use Rattle.cg_script.specs.Lines.{Reading, pending}
+use Rattle.cg_lines.specs.Lines.{Reading, pending}
 use Rattle.cg_program.specs.Program.{schedule_text, DoneOver}
 use Rattle.cg_program.specs.Named.{is_standard, named, schedule_named, DoneOverNamed}
 

@@ -4,7 +4,7 @@ use Rattle.std.specs.Prelude.{◌⊎◌, Option, IfSome, Result, OnOk, OnErr}
 use Rattle.std.proofs.lemmas.Option.{IfSome_then}
 use Rattle.std.proofs.lemmas.Result.{on_ok_weaker, on_err_weaker}
 use Rattle.cg_model.specs.Tree.{Tree}
-use Rattle.cg_script.specs.Lines.{Reading}
+use Rattle.cg_lines.specs.Lines.{Reading}
 use Rattle.cg_script.specs.WorldPart.{ReadsWorld}
 use Rattle.cg_program.specs.Program.{schedule_text, DoneOver}
 

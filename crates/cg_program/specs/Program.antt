@@ -3,9 +3,9 @@ use Rattle.std.specs.Prelude.{◌⊎◌, ℕ, List, [], ◌∷◌, ◌++◌, Opt
 use Rattle.std.specs.Io.KnownBytes.{Appends}
 use Rattle.cg_name.specs.Refusal.{refusal_text}
 use Rattle.cg_model.specs.Tree.{Tree}
-use Rattle.cg_script.specs.Device.{AppendsFront, Failed}
+use Rattle.cg_lines.specs.Device.{AppendsFront, Failed}
 use Rattle.cg_script.specs.Fault.{refusal_of}
-use Rattle.cg_script.specs.Lines.{Reading, pending, CanBreak}
+use Rattle.cg_lines.specs.Lines.{Reading, pending, CanBreak}
 use Rattle.cg_script.specs.Replay.{IsOutput}
 use Rattle.cg_script.specs.WorldPart.{ReadsWorld}
 use Rattle.cg_script.specs.declared.fault.ScriptFault.{ScriptFault}

@@ -3,7 +3,7 @@ ghost use Rattle.std.specs.Prelude.{◌≡◌, Bool, true, IfOk, List, Option, �
 ghost use Rattle.std.specs.Result.{IsErrOf};
 ghost use Rattle.cg_program.specs.declared.inputs.OpenFault.TheVariants as faults;
 
-use cg_script::Source;
+use cg_lines::Source;
 
 /// Why a file was not opened.
 #[derive(Clone, Copy, Debug, PartialEq, Eq)]

@@ -1,8 +1,8 @@
 //! A run whose inputs are named by words.
 ghost use Rattle.std.specs.Prelude.{◌≡◌, ◌⊎◌, ◌&&◌, true, false, IfOk, IfSome, MatchOption, IfErr};
 ghost use Rattle.std.specs.Result.{IsErrOf};
-ghost use Rattle.cg_script.specs.Device.{Failed};
-ghost use Rattle.cg_script.specs.Lines.{pending};
+ghost use Rattle.cg_lines.specs.Device.{Failed};
+ghost use Rattle.cg_lines.specs.Lines.{pending};
 ghost use Rattle.cg_script.specs.WorldPart.{HasNoWorld};
 ghost use Rattle.cg_script.specs.declared.fault.ScriptFault.{ScriptFault};
 ghost use Rattle.cg_script.specs.declared.fault.ScriptFault.TheVariants as faults;
@@ -11,7 +11,8 @@ ghost use Rattle.cg_program.specs.Program.{status_of, fault_line, Plays, Stops, 
 
 use crate::inputs::{Inputs, OpenFault};
 use crate::replaying::{replay_to, stop};
-use cg_script::{LineReader, ScriptFault, Sink, Source};
+use cg_lines::{LineReader, Sink, Source};
+use cg_script::ScriptFault;
 use std::alloc::Global;
 
 /// Replays what two words name: `-` is standard input, and any other word the file of this name, as it stands. Where both

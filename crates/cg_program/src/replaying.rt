@@ -1,15 +1,16 @@
 //! A schedule played from a world's text to the end of the run.
 ghost use Rattle.std.specs.Prelude.{◌≡◌, ◌⊎◌, IfErr, IfOk, IfSome, OnErr, OnOk};
 ghost use Rattle.std.specs.Result.{IsErrOf};
-ghost use Rattle.cg_script.specs.Device.{Failed};
-ghost use Rattle.cg_script.specs.Lines.{pending};
+ghost use Rattle.cg_lines.specs.Device.{Failed};
+ghost use Rattle.cg_lines.specs.Lines.{pending};
 ghost use Rattle.cg_script.specs.WorldPart.{HasNoWorld};
 ghost use Rattle.cg_script.specs.declared.fault.ScriptFault.{ScriptFault};
 ghost use Rattle.cg_script.specs.declared.fault.ScriptFault.TheVariants as faults;
 ghost use Rattle.cg_program.specs.Program.{status_of, fault_line, AreBroken, DoneOver, IsBroken, Plays, Stops, WritesUnlessFailed};
 
 use crate::status::Status;
-use cg_script::{LineReader, ScriptFault, Sink, Source, read_world, replay, write_all};
+use cg_lines::{LineReader, Sink, Source, write_all};
+use cg_script::{ScriptFault, read_world, replay};
 use std::alloc::Global;
 
 // The most records of a history.

@@ -1,6 +1,3 @@
-pub mod DeviceLemmas
-pub mod LinesLemmas
-pub mod LinesLaw
 mod OneLine
 mod Playing
 mod SessionNames

@@ -6,14 +6,14 @@ use Rattle.cg_name.specs.Refusal.{refusal_text}
 use Rattle.cg_name.specs.declared.refusal.Refusal.TheVariants.{Syntax}
 use Rattle.cg_core.specs.Record.{Request}
 use Rattle.cg_core.specs.Machine.{stepped}
-use Rattle.cg_script.specs.Device.{AppendsFront, AppendsTo, WritesWhole}
+use Rattle.cg_lines.specs.Device.{AppendsFront, AppendsTo, WritesWhole}
 use Rattle.cg_text.specs.Words.{lines_of}
-use Rattle.cg_script.specs.Lines.{TakesKnownLine, LosesOfLine}
-use Rattle.cg_script.specs.declared.lines.LineKind.TheVariants.{TooLong, Text, Last}
+use Rattle.cg_lines.specs.Lines.{TakesKnownLine, LosesOfLine}
+use Rattle.cg_lines.specs.declared.lines.LineKind.TheVariants.{TooLong, Text, Last}
 use Rattle.cg_script.specs.Request.{SpellsLine}
 use Rattle.cg_script.specs.Replay.{Replay, newline, session_number, with_name, IsOneTooMany, Answers, AnswersAll, AnswersFirst, AnswersPassed, IsOutputFrom, ending_text, answer_line}
-use Rattle.cg_script.proofs.DeviceLemmas.{Appends-nil, AppendsFront-nil, AppendsTo-front, AppendsTo-longer, AppendsTo-on, AppendsTo-behind, AppendsTo-whole, Gathered-more}
-use Rattle.cg_script.proofs.LinesLaw.{lines_of-begins, lines_of-nil}
+use Rattle.cg_lines.proofs.DeviceLemmas.{Appends-nil, AppendsFront-nil, AppendsTo-front, AppendsTo-longer, AppendsTo-on, AppendsTo-behind, AppendsTo-whole, Gathered-more}
+use Rattle.cg_lines.proofs.LinesLaw.{lines_of-begins, lines_of-nil}
 use Rattle.cg_script.proofs.OneLine.{line_one}
 
 -- ---- a line has one answer

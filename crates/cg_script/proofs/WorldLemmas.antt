@@ -11,13 +11,13 @@ use Rattle.cg_text.specs.Words.{Line, Word, IsLine, Says, SayAll, lines_of}
 use Rattle.cg_world.specs.declared.stage.Stage.{Stage}
 use Rattle.cg_world.specs.Reader.{EndsWorld, HasTaken, SomeEnds, SpellTree}
 use Rattle.cg_world.specs.World.{SpellsWorld}
-use Rattle.cg_script.specs.Lines.{HasNoNewline, BeginsWithLine, TakesKnownLine}
-use Rattle.cg_script.specs.declared.lines.LineKind.TheVariants.{End, TooLong, Text, Last}
+use Rattle.cg_lines.specs.Lines.{HasNoNewline, BeginsWithLine, TakesKnownLine}
+use Rattle.cg_lines.specs.declared.lines.LineKind.TheVariants.{End, TooLong, Text, Last}
 use Rattle.cg_script.specs.WorldPart.{joined, BeginsWithWorld, ReadsWorld, HasNoWorld}
 use Rattle.cg_script.specs.WorldLines.{EndsAt, IsPart, IsPartBehind, SpoilEnd, SpoilWorld}
 use Rattle.cg_world.proofs.Taken.{some_last}
-use Rattle.cg_script.proofs.LinesLaw.{lines_of-begins}
-use Rattle.cg_script.proofs.LinesLemmas.{Consumes-append}
+use Rattle.cg_lines.proofs.LinesLaw.{lines_of-begins}
+use Rattle.cg_lines.proofs.LinesLemmas.{Consumes-append}
 
 -- ---- lists of lines
 

@@ -1,7 +1,5 @@
 pub mod Answer
-pub mod Device
 pub mod Fault
-pub mod Lines
 pub mod Replay
 pub mod ReplayCode
 pub mod Request

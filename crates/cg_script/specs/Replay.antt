@@ -11,7 +11,7 @@ use Rattle.cg_core.specs.Record.{Request, Abort}
 use Rattle.cg_core.specs.Machine.{Machine, Open, reply, stepped}
 use Rattle.cg_world.specs.World.{world_text}
 use Rattle.cg_script.specs.Answer.{answer_text}
-use Rattle.cg_script.specs.Lines.{LosesOfLine}
+use Rattle.cg_lines.specs.Lines.{LosesOfLine}
 use Rattle.cg_script.specs.Request.{SpellsLine}
 
 abbrev pub newline : List ℕ

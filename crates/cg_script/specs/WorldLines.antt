@@ -6,7 +6,7 @@ use Rattle.cg_text.specs.Words.{Line}
 use Rattle.cg_model.specs.Tree.{Tree}
 use Rattle.cg_world.specs.declared.stage.Stage.{Stage}
 use Rattle.cg_world.specs.Reader.{EndsWorld, HasTaken, SpellTree}
-use Rattle.cg_script.specs.Lines.{HasNoNewline}
+use Rattle.cg_lines.specs.Lines.{HasNoNewline}
 use Rattle.cg_script.specs.WorldPart.{joined}
 
 -- lines that have this front and so many bytes spell a tree only where that is too much

@@ -4,7 +4,7 @@ use Rattle.std.specs.List.{AllByRecursion, flat_map}
 use Rattle.cg_model.specs.Tree.{Tree}
 use Rattle.cg_world.specs.Reader.{EndsWorld}
 use Rattle.cg_world.specs.World.{SpellsWorld}
-use Rattle.cg_script.specs.Lines.{HasNoNewline}
+use Rattle.cg_lines.specs.Lines.{HasNoNewline}
 
 -- lines as a text, each with its newline
 abbrev pub joined : List (List ℕ) → List ℕ

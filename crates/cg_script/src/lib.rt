@@ -1,10 +1,8 @@
-//! Schedules as text: the lines of a source, a session's requests, their answers, and replay over a world.
+//! Schedules as text: a session's requests, their answers, the world at the head of a text, and replay over a world.
 #![tactic(auto)]
 
 mod answer;
-mod device;
 mod fault;
-mod lines;
 mod player;
 mod request;
 mod schedule;
@@ -12,9 +10,7 @@ mod session;
 mod world_reader;
 
 pub use answer::write_answer;
-pub use device::{DeviceFault, FromRead, FromWrite, Sink, Source, write_all};
 pub use fault::ScriptFault;
-pub use lines::{LineFault, LineKind, LineReader, steps_are_lines};
 pub use player::{Player, refuse};
 pub use request::{
     a_line_says_one_thing_at_most, read_line, write_line, written_lines_are_spelled,

@@ -2,15 +2,14 @@
 ghost use Rattle.std.specs.Prelude.{◌≡◌, ◌⊎◌, ◌≤◌, ◌<◌, ◌++◌, [], true, false, List, ℕ, IfOk, IfErr, IfSome, OnOk, OnErr};
 ghost use Rattle.std.specs.Result.{IsErrOf};
 ghost use Rattle.std.specs.Io.KnownBytes.{Appends};
-ghost use Rattle.cg_script.specs.Device.{AppendsFront, AppendsTo, Failed};
-ghost use Rattle.cg_script.specs.Lines.{pending, bytes_to_come, CanBreak, LosesOfLine};
+ghost use Rattle.cg_lines.specs.Device.{AppendsFront, AppendsTo, Failed};
+ghost use Rattle.cg_lines.specs.Lines.{pending, bytes_to_come, CanBreak, LosesOfLine};
 ghost use Rattle.cg_script.specs.Replay.{opened, Answers, IsOutput, IsOutputFrom, AnswersFirst, AnswersPassed, OneOutput, SomeOutput};
 ghost use Rattle.cg_script.specs.declared.fault.ScriptFault.TheVariants as faults;
 
-use crate::device::{Sink, Source, write_all};
 use crate::fault::ScriptFault;
-use crate::lines::{LineKind, LineReader};
 use crate::player::{Player, refuse};
+use cg_lines::{LineKind, LineReader, Sink, Source, write_all};
 use cg_world::World;
 use std::alloc::Global;
 

@@ -5,14 +5,13 @@ ghost use Rattle.cg_text.specs.Words.{Line};
 ghost use Rattle.cg_model.specs.Sound.{Sound};
 ghost use Rattle.cg_model.specs.Tree.{Tree};
 ghost use Rattle.cg_world.specs.Reader.{HasTaken, SomeEnds, SpellTree};
-ghost use Rattle.cg_script.specs.Lines.{pending, bytes_to_come, CanBreak};
+ghost use Rattle.cg_lines.specs.Lines.{pending, bytes_to_come, CanBreak};
 ghost use Rattle.cg_script.specs.WorldPart.{HasNoWorld, ReadsWorld};
 ghost use Rattle.cg_script.specs.WorldLines.{IsPart, IsPartBehind, SpoilEnd, SpoilWorld};
 ghost use Rattle.cg_script.specs.declared.fault.ScriptFault.TheVariants as faults;
 
-use crate::device::Source;
 use crate::fault::ScriptFault;
-use crate::lines::{LineKind, LineReader};
+use cg_lines::{LineKind, LineReader, Source};
 use cg_name::Refusal;
 use cg_world::{LONGEST_WORLD, World, WorldReader};
 use std::alloc::Global;

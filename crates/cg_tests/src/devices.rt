@@ -1,5 +1,5 @@
 //! Readers and writers that fail in mid-stream, and go on failing.
-use cg_script::{
+use cg_lines::{
     DeviceFault, FromRead, FromWrite, LineFault, LineKind, LineReader, Sink, write_all,
 };
 use std::io::{self, Read, Write};

@@ -6,8 +6,9 @@ mod host;
 
 use crate::host::Host;
 use cg_command_line::{Asked, Unasked, read_command_line};
+use cg_lines::FromWrite;
 use cg_program::{Status, replay_named, stop};
-use cg_script::{FromWrite, ScriptFault};
+use cg_script::ScriptFault;
 use std::process::ExitCode;
 use std::{env, io};
 

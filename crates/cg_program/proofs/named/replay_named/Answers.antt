@@ -1,4 +1,4 @@
-use Rattle.cg_script.specs.Lines.{pending}
+use Rattle.cg_lines.specs.Lines.{pending}
 use Rattle.cg_program.specs.Program.{Plays, Stops}
 use Rattle.cg_program.proofs.NamedLemmas.{done_named, ended_named}
 use Rattle.cg_program.proofs.named.replay_named.Goals as goal

@@ -1,5 +1,5 @@
 use Rattle.std.specs.Prelude.{Some, None}
-use Rattle.cg_script.specs.Lines.{pending}
+use Rattle.cg_lines.specs.Lines.{pending}
 use Rattle.cg_program.specs.Program.{Plays, Stops}
 use Rattle.cg_program.proofs.ProgramLemmas.{played, stopped}
 use Rattle.cg_program.proofs.replaying.play.Goals as goal

@@ -1,5 +1,5 @@
 use Rattle.std.proofs.Common.{sym, subst, ◌∙◌}
-use Rattle.cg_script.specs.Lines.{pending, TakesKnownLine}
+use Rattle.cg_lines.specs.Lines.{pending, TakesKnownLine}
 use Rattle.cg_script.proofs.OneLine.{when_ok}
 use Rattle.cg_script.proofs.Playing.{answered_too_long, answered_line, first_text, first_last}
 use Rattle.cg_script.proofs.schedule.answer_line.Goals as goal

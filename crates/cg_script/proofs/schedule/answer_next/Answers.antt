@@ -1,7 +1,7 @@
 use Rattle.std.proofs.Common.{subst}
-use Rattle.cg_script.specs.Device.{AppendsFront}
-use Rattle.cg_script.specs.Lines.{pending}
-use Rattle.cg_script.proofs.DeviceLemmas.{AppendsFront-whole, AppendsTo-front}
+use Rattle.cg_lines.specs.Device.{AppendsFront}
+use Rattle.cg_lines.specs.Lines.{pending}
+use Rattle.cg_lines.proofs.DeviceLemmas.{AppendsFront-whole, AppendsTo-front}
 use Rattle.cg_script.proofs.OneLine.{on_any_err}
 use Rattle.cg_script.proofs.Playing.{gathers_first}
 use Rattle.cg_script.proofs.schedule.answer_next.Goals as goal

@@ -1,9 +1,9 @@
 use Rattle.std.proofs.Common.{sym, subst, ◌∙◌}
 use Rattle.std.specs.Io.KnownBytes.{Appends}
 use Rattle.std.proofs.lemmas.Result.{err_from_is_err_and, on_ok_weaker, on_err_weaker}
-use Rattle.cg_script.specs.Device.{AppendsFront}
-use Rattle.cg_script.specs.Lines.{pending}
-use Rattle.cg_script.proofs.DeviceLemmas.{AppendsFront-whole}
+use Rattle.cg_lines.specs.Device.{AppendsFront}
+use Rattle.cg_lines.specs.Lines.{pending}
+use Rattle.cg_lines.proofs.DeviceLemmas.{AppendsFront-whole}
 use Rattle.cg_script.proofs.OneLine.{on_any_err, when_err, when_ok}
 use Rattle.cg_script.proofs.WorldLemmas.{err_handed_on}
 use Rattle.cg_script.proofs.Playing.{answers_passed, front_waiting, front_end, whole_end, plays_known_more, plays_known_on, shown_at_end}

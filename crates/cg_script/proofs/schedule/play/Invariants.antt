@@ -1,5 +1,5 @@
 use Rattle.std.proofs.Common.{◌≡◌}
-use Rattle.cg_script.specs.Lines.{pending, bytes_to_come}
+use Rattle.cg_lines.specs.Lines.{pending, bytes_to_come}
 use Rattle.cg_script.proofs.Playing.{PlaysKnown}
 use Rattle.cg_script.proofs.schedule.play.Given as goal
 

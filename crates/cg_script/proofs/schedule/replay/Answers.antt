@@ -1,6 +1,6 @@
 use Rattle.std.proofs.Common.{subst}
 use Rattle.std.specs.Prelude.{IfSome}
-use Rattle.cg_script.specs.Lines.{pending}
+use Rattle.cg_lines.specs.Lines.{pending}
 use Rattle.cg_script.specs.Replay.{opened, AnswersPassed}
 use Rattle.cg_script.proofs.Playing.{front_nothing}
 use Rattle.cg_script.proofs.schedule.replay.Goals as goal

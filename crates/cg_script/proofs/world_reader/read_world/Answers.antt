@@ -1,7 +1,7 @@
 -- The lines are taken up to the first that ends a world.
 use Rattle.std.proofs.Common.{◌∷◌, ◌++◌, [], sym, ◌∙◌, true≢false}
 use Rattle.std.proofs.lemmas.Result.{IfOk-weaker}
-use Rattle.cg_script.specs.Lines.{pending}
+use Rattle.cg_lines.specs.Lines.{pending}
 use Rattle.cg_script.proofs.WorldLemmas.{part_goes_on, part_reads, part_refutes}
 use Rattle.cg_script.proofs.world_reader.read_world.Goals as goal
 

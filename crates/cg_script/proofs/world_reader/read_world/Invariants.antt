@@ -1,4 +1,4 @@
-use Rattle.cg_script.specs.Lines.{pending, bytes_to_come}
+use Rattle.cg_lines.specs.Lines.{pending, bytes_to_come}
 use Rattle.cg_script.specs.WorldLines.{IsPart}
 use Rattle.cg_script.proofs.world_reader.read_world.Given as goal
 

@@ -1,8 +1,8 @@
 -- A line that is taken stands behind those before it, and one that isn't stops the world.
 use Rattle.std.proofs.Common.{◌+◌, ◌∷◌, ◌++◌, [], List, ℕ, length, subst, sym}
-use Rattle.cg_script.specs.Lines.{HasNoNewline, pending, TakesKnownLine}
+use Rattle.cg_lines.specs.Lines.{HasNoNewline, pending, TakesKnownLine}
 use Rattle.cg_script.specs.WorldLines.{SpoilEnd, SpoilWorld}
-use Rattle.cg_script.specs.declared.lines.LineKind.TheVariants.{Text, Last}
+use Rattle.cg_lines.specs.declared.lines.LineKind.TheVariants.{Text, Last}
 use Rattle.cg_script.proofs.WorldLemmas.{both_ok, part_last, part_line, part_stops, stops_at_end, stops_at_last, stops_at_long, stops_at_text, three_ok}
 use Rattle.cg_script.proofs.world_reader.take_line.Goals as goal
 

@@ -1,5 +1,0 @@
-use Rattle.cg_script.proofs.LinesLaw.{steps_are_lines}
-use Rattle.cg_script.proofs.lines.steps_are_lines.Goals as goal
-
-pub returns : goal.returns
-returns c = steps_are_lines
