@@ -1,4 +1,4 @@
--- The headline, of the machine over the tree of control groups.
+-- The main theorem, of the machine over the tree of control groups.
 use Rattle.std.specs.Prelude.{◌≡◌, ◌≢◌, ◌↔◌, ℕ, ◌≤◌, true, false, List, Some}
 use Rattle.std.specs.List.{AllByRecursion}
 use Rattle.cg_name.specs.declared.refusal.Refusal.TheVariants.{Busy}
@@ -19,7 +19,7 @@ use Rattle.cg_core_laws.specs.Room.{RoomKept, CommitSweeps}
 use Rattle.cg_core_laws.specs.Stacks.{IsOfHistory}
 use Rattle.cg_core_laws.specs.Ends.{EndsAll}
 use Rattle.cg_core_laws.specs.Reordered.{DropsOut, NewestClashesWithNone, PulledToTheFront}
-use Rattle.cg_core_laws.specs.Headline.{AreProper, IsSerial, IsFaithful, GoesBack, OthersStay, CommitsStay}
+use Rattle.cg_core_laws.specs.Serial.{AreProper, IsSerial, IsFaithful, GoesBack, OthersStay, CommitsStay}
 
 -- what holds after every list of steps of any sessions, interleaved in any way, from any sound tree, whatever the bound
 abbrev pub AfterAnySteps : (Tree → Machine cgroups → Type 0) → Type 0

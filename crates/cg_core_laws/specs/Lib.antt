@@ -1,5 +1,5 @@
 pub mod Unwind
-pub mod Headline
+pub mod Serial
 pub mod Stacks
 pub mod Reordered
 pub mod Room

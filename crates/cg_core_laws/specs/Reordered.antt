@@ -6,7 +6,7 @@ use Rattle.cg_model.specs.Opens.{numbers, among, opens}
 use Rattle.cg_model.specs.Live.{Item, Ran, AtSavepoint, Items, joined_if, survivors, committed, stacked}
 use Rattle.cg_model.specs.Run.{run_items, Accepted}
 use Rattle.cg_model.specs.Machine.{Machine}
-use Rattle.cg_core_laws.specs.Headline.{OnceEach, AreOpen}
+use Rattle.cg_core_laws.specs.Serial.{OnceEach, AreOpen}
 
 -- the transaction whose item it is
 abbrev pub transaction_of : {y : System} → Item y → ℕ

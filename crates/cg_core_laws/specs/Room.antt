@@ -10,7 +10,7 @@ use Rattle.cg_model.specs.Live.{Item, Items, live}
 use Rattle.cg_model.specs.Machine.{Machine}
 use Rattle.cg_model.specs.Room.{changes_group, inverse, has_entry, RoomFor, Sweeps}
 use Rattle.cg_core_laws.specs.Unwind.{with_items}
-use Rattle.cg_core_laws.specs.Headline.{AreOpen}
+use Rattle.cg_core_laws.specs.Serial.{AreOpen}
 
 -- the path is one of these
 abbrev pub is_listed : Path → List Path → Bool

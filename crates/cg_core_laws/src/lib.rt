@@ -1,4 +1,4 @@
-//! The headline over the definitions, on functions that do nothing: of every list of steps of any sessions, interleaved in
+//! The main theorem, of the definitions, on functions that do nothing: of every list of steps of any sessions, interleaved in
 //! any way.
 #![tactic(auto)]
 

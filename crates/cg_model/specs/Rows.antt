@@ -48,9 +48,9 @@ unfolding set_at insert empty checked
 places_of es = from_entries nat_cmp es
 
 -- a machine with eight CPUs, the root, and two processes in it
-unfoldable pub w0 : Tree
+unfoldable pub small_tree : Tree
 unfolding cpus_below groups_of places_of
-w0 = record {
+small_tree = record {
   controllers = record no_controllers { cpuset = true; cpu = true; memory = true };
   online = cpus_below 8;
   groups = groups_of (([], fresh) ∷ []);
@@ -59,8 +59,8 @@ w0 = record {
 
 -- the world with other groups and places
 unfoldable pub w0_with : List (Path × Settings) → List (ℕ × Path) → Tree
-unfolding w0 groups_of places_of
-w0_with gs ps = record w0 { groups = groups_of gs; places = places_of ps }
+unfolding small_tree groups_of places_of
+w0_with gs ps = record small_tree { groups = groups_of gs; places = places_of ps }
 
 -- requests of sessions by number
 abbrev pub Asked : Type 0
@@ -72,7 +72,7 @@ ample T = opened cgroups T 1048576
 
 -- the answers to requests, and the tree at the end; what runs are written with computes here and wherever this does
 unfoldable pub played : List Answer × Machine cgroups → List Answer × Tree
-unfolding get insert empty checked retain entries keys len set_at domain members in_common with_member such_that_below children descendants processes processes_in_subtree same_name same_path digits effect footprint cpus_below cpus_of w0 w0_with
+unfolding get insert empty checked retain entries keys len set_at domain members in_common with_member such_that_below children descendants processes processes_in_subtree same_name same_path digits effect footprint cpus_below cpus_of small_tree w0_with
 played r = (r.0, r.1.tree)
 
 -- a run that its history has room for

@@ -9,7 +9,7 @@ use Rattle.cg_text.specs.declared.settings.Settings.{Settings}
 use Rattle.cg_model.specs.System.{Done, Text}
 use Rattle.cg_model.specs.Command.{Command, Create, Remove, Migrate, Subtree, Show, Online, MaxDescendants, MaxDepth}
 use Rattle.cg_model.specs.History.{Begin, Do, Undo, Commit, Abort, Answer, Begun, Gave, Committed, Aborted, Refused}
-use Rattle.cg_model.specs.Rows.{Asked, play, play_to_end, w0, w0_with, cpus_below, /a, /b, /a/b, /a/c, cpu_alone, enable, up_to_1, passing_on, by}
+use Rattle.cg_model.specs.Rows.{Asked, play, play_to_end, small_tree, w0_with, cpus_below, /a, /b, /a/b, /a/c, cpu_alone, enable, up_to_1, passing_on, by}
 
 -- the sessions
 abbrev pub A : ℕ
@@ -42,19 +42,19 @@ at_root = (10, []) ∷ (11, []) ∷ []
 -- two sessions make two groups; the abort of the one takes its own away alone
 abbrev pub AbortBesideCommit : Type 0
 AbortBesideCommit =
-    play w0 ((A, Begin) ∷ (B, Begin) ∷ (A, Do (Create /a)) ∷ (B, Do (Create /b)) ∷ (A, Abort) ∷ (B, Commit) ∷ [])
+    play small_tree ((A, Begin) ∷ (B, Begin) ∷ (A, Do (Create /a)) ∷ (B, Do (Create /b)) ∷ (A, Abort) ∷ (B, Commit) ∷ [])
     ≡ (Begun 1 ∷ Begun 2 ∷ gave_done ∷ gave_done ∷ Aborted 1 ∷ Committed 1 ∷ [], w0_with (([], fresh) ∷ (/b, fresh) ∷ []) at_root)
 
 -- a group that isn't committed is locked, and free after the commit
 abbrev pub LockedUntilCommit : Type 0
 LockedUntilCommit =
-    play w0 ((A, Begin) ∷ (B, Begin) ∷ (A, Do (Create /a)) ∷ (B, Do (Create /a/b)) ∷ (A, Commit) ∷ (B, Do (Create /a/b)) ∷ (B, Abort) ∷ [])
+    play small_tree ((A, Begin) ∷ (B, Begin) ∷ (A, Do (Create /a)) ∷ (B, Do (Create /a/b)) ∷ (A, Commit) ∷ (B, Do (Create /a/b)) ∷ (B, Abort) ∷ [])
     ≡ (Begun 1 ∷ Begun 2 ∷ gave_done ∷ busy 1 ∷ Committed 1 ∷ gave_done ∷ Aborted 2 ∷ [], w0_with (([], fresh) ∷ (/a, fresh) ∷ []) at_root)
 
 -- a migration pins the group that the process leaves
 abbrev pub MigratePinsBothEnds : Type 0
 MigratePinsBothEnds =
-    play w0
+    play small_tree
     (committing (Subtree [] (enable cpu_alone) ∷ Create /a ∷ Create /b ∷ Migrate 10 /a ∷ [])
     ++ (A, Begin) ∷ (B, Begin) ∷ (A, Do (Migrate 10 /b)) ∷ (B, Do (Subtree /a (enable cpu_alone))) ∷ (A, Abort) ∷ (B, Do (Subtree /a (enable cpu_alone))) ∷ (B, Abort) ∷ [])
     ≡ (
@@ -65,7 +65,7 @@ MigratePinsBothEnds =
 -- a removal that isn't committed is not seen: the lock comes before the group's own checks
 abbrev pub UnseenRemoval : Type 0
 UnseenRemoval =
-    play w0
+    play small_tree
     (committing (Create /a ∷ Create /a/b ∷ [])
     ++ (A, Begin) ∷ (B, Begin) ∷ (A, Do (Remove /a/b)) ∷ (B, Do (Show /a/b files.Procs)) ∷ (B, Do (Create /a/c)) ∷ (A, Abort) ∷ (B, Commit) ∷ [])
     ≡ (
@@ -76,7 +76,7 @@ UnseenRemoval =
 -- commits are numbered as they come, and not as the transactions began
 abbrev pub CommitOrder : Type 0
 CommitOrder =
-    play w0
+    play small_tree
     ((A, Begin) ∷ (B, Begin) ∷ (A, Do (Create /a)) ∷ (B, Do (Create /b)) ∷ (B, Commit) ∷ (A, Commit) ∷ by C (Begin ∷ Do (Create /a/c) ∷ Do (Migrate 10 /b) ∷ Commit ∷ []))
     ≡ (
       Begun 1 ∷ Begun 2 ∷ gave_done ∷ gave_done ∷ Committed 1 ∷ Committed 2 ∷ Begun 3 ∷ gave_done ∷ gave_done ∷ Committed 3 ∷ [],
@@ -98,13 +98,13 @@ CountsAreLocked =
 -- two sessions may read the same group
 abbrev pub ReadersShare : Type 0
 ReadersShare =
-    (play w0 ((A, Begin) ∷ (B, Begin) ∷ (A, Do (Show [] files.Procs)) ∷ (B, Do (Show [] files.Procs)) ∷ (A, Abort) ∷ (B, Abort) ∷ [])).0
+    (play small_tree ((A, Begin) ∷ (B, Begin) ∷ (A, Do (Show [] files.Procs)) ∷ (B, Do (Show [] files.Procs)) ∷ (A, Abort) ∷ (B, Abort) ∷ [])).0
     ≡ Begun 1 ∷ Begun 2 ∷ text (codes "10\n11\n") ∷ text (codes "10\n11\n") ∷ Aborted 1 ∷ Aborted 2 ∷ []
 
 -- what was read stays until its reader ends
 abbrev pub ReadersAreProtected : Type 0
 ReadersAreProtected =
-    (play w0
+    (play small_tree
     (committing (Create /a ∷ [])
     ++ (A, Begin) ∷ (B, Begin) ∷ (A, Do (Show /a files.Procs)) ∷ (B, Do (Show /a files.Controllers)) ∷ (B, Do (Migrate 10 /a)) ∷ (A, Abort) ∷ (B, Do (Migrate 10 /a)) ∷ (B, Do (Show /a files.Procs))
     ∷ (C, Begin) ∷ (C, Do (Show /a files.Procs)) ∷ (C, Do (Migrate 11 [])) ∷ (B, Abort) ∷ (C, Abort) ∷ [])).0
@@ -113,7 +113,7 @@ ReadersAreProtected =
 -- a process belongs to the session that moved it, and both its groups stay
 abbrev pub ProcessesAreLocked : Type 0
 ProcessesAreLocked =
-    play w0
+    play small_tree
     (committing (Create /a ∷ [])
     ++ (A, Begin) ∷ (B, Begin) ∷ (A, Do (Migrate 10 /a)) ∷ (B, Do (Migrate 11 /a)) ∷ (B, Do (Migrate 10 [])) ∷ (B, Do (Create /a/c)) ∷ (B, Do (Remove /a)) ∷ (A, Abort) ∷ (B, Commit) ∷ [])
     ≡ (
@@ -124,13 +124,13 @@ ProcessesAreLocked =
 -- setting CPUs online locks the whole tree
 abbrev pub OnlineLocksAll : Type 0
 OnlineLocksAll =
-    play w0
+    play small_tree
     ((A, Begin) ∷ (B, Begin) ∷ (B, Do (Create /a)) ∷ (A, Do (Online (cpus_below 2))) ∷ (B, Abort) ∷ (A, Do (Online (cpus_below 2))) ∷ (A, Do (Show [] files.EffectiveCpus)) ∷ (A, Undo) ∷ (A, Undo)
     ∷ (A, Do (Show [] files.EffectiveCpus)) ∷ (A, Commit) ∷ [])
-    ≡ (Begun 1 ∷ Begun 2 ∷ gave_done ∷ busy 2 ∷ Aborted 2 ∷ gave_done ∷ text (codes "0-1\n") ∷ gave_done ∷ gave_done ∷ text (codes "0-7\n") ∷ Committed 1 ∷ [], w0)
+    ≡ (Begun 1 ∷ Begun 2 ∷ gave_done ∷ busy 2 ∷ Aborted 2 ∷ gave_done ∷ text (codes "0-1\n") ∷ gave_done ∷ gave_done ∷ text (codes "0-7\n") ∷ Committed 1 ∷ [], small_tree)
 
 -- at the end of a schedule what is still open is aborted, by number and not by session; what was committed stays
 abbrev pub AbortsAtTheEnd : Type 0
 AbortsAtTheEnd =
-    play_to_end w0 ((B, Begin) ∷ (A, Begin) ∷ (C, Begin) ∷ (B, Do (Create /b)) ∷ (A, Do (Create /a)) ∷ (C, Undo) ∷ (A, Commit) ∷ [])
+    play_to_end small_tree ((B, Begin) ∷ (A, Begin) ∷ (C, Begin) ∷ (B, Do (Create /b)) ∷ (A, Do (Create /a)) ∷ (C, Undo) ∷ (A, Commit) ∷ [])
     ≡ (Begun 1 ∷ Begun 2 ∷ Begun 3 ∷ gave_done ∷ gave_done ∷ Refused NothingToUndo ∷ Committed 1 ∷ Aborted 1 ∷ Aborted 3 ∷ [], w0_with (([], fresh) ∷ (/a, fresh) ∷ []) at_root)

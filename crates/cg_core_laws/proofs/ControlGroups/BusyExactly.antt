@@ -14,7 +14,7 @@ use Rattle.cg_model.specs.Run.{tree_of, own_tree}
 use Rattle.cg_model.specs.Reply.{holder, is_full, command_reply, attempt_reply, reply_at}
 use Rattle.cg_model.specs.Machine.{Machine, step}
 use Rattle.cg_model_laws.proofs.OwnChecks.{own_checks}
-use Rattle.cg_core_laws.specs.Headline.{IsLeastHolder, IsSerial, IsFaithful}
+use Rattle.cg_core_laws.specs.Serial.{IsLeastHolder, IsSerial, IsFaithful}
 use Rattle.cg_core_laws.specs.Laws.{IsLeastInTheWay}
 
 abbrev named_by_busy : Answer → ℕ

@@ -12,7 +12,7 @@ use Rattle.cg_model.specs.Live.{Item, Items, live}
 use Rattle.cg_model.specs.Machine.{Machine}
 use Rattle.cg_model.specs.Room.{changes_group, inverse, needs_group, has_entry, RoomFor}
 use Rattle.cg_core_laws.specs.Unwind.{with_items}
-use Rattle.cg_core_laws.specs.Headline.{IsSerial}
+use Rattle.cg_core_laws.specs.Serial.{IsSerial}
 use Rattle.cg_core_laws.specs.Room.{HasRoom, RoomyTakenOff, RoomyUnwinds, RoomKept, CommitSweeps}
 use Rattle.cg_core_laws.proofs.ControlGroups.GroupChanges.{there_undone, room_from}
 use Rattle.cg_core_laws.proofs.ControlGroups.UnwindingStages.{Stage, stage_sound, newest, next_stage}

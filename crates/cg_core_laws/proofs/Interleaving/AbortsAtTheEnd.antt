@@ -9,7 +9,7 @@ use Rattle.cg_model.specs.Live.{committed}
 use Rattle.cg_model.specs.Run.{run_items}
 use Rattle.cg_model.specs.Machine.{Machine, opened, step, steps}
 use Rattle.cg_model.specs.Output.{answers}
-use Rattle.cg_core_laws.specs.Headline.{OnceEach, AreProper, IsFaithful}
+use Rattle.cg_core_laws.specs.Serial.{OnceEach, AreProper, IsFaithful}
 use Rattle.cg_core_laws.specs.Ends.{GoDown, EndsAll}
 use Rattle.cg_core_laws.proofs.Interleaving.SystemLaws.{SystemLaws}
 use Rattle.cg_core_laws.proofs.Interleaving.LeastHolder.{Falls, falls_more, falling}

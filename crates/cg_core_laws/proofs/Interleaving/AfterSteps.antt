@@ -9,7 +9,7 @@ use Rattle.cg_model.specs.Opens.{numbers, among, transaction_in, commits}
 use Rattle.cg_model.specs.Live.{committed}
 use Rattle.cg_model.specs.Run.{Accepted, committed_through, Defined}
 use Rattle.cg_model.specs.Reply.{reply, Legal}
-use Rattle.cg_core_laws.specs.Headline.{AreProper}
+use Rattle.cg_core_laws.specs.Serial.{AreProper}
 use Rattle.cg_core_laws.proofs.Interleaving.SystemLaws.{SystemLaws}
 use Rattle.cg_core_laws.proofs.Interleaving.RunsOfStackEntries.{only}
 use Rattle.cg_core_laws.proofs.Interleaving.LogMachine.{Log, log_opened, log_step_at, log_noted, log_step, log_steps}

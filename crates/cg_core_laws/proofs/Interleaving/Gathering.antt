@@ -6,7 +6,7 @@ use Rattle.cg_model.specs.System.{System, Accept}
 use Rattle.cg_model.specs.Opens.{among}
 use Rattle.cg_model.specs.Live.{joined_if}
 use Rattle.cg_model.specs.Machine.{StackEntry, Did, Savepoint}
-use Rattle.cg_core_laws.specs.Headline.{OnceEach}
+use Rattle.cg_core_laws.specs.Serial.{OnceEach}
 use Rattle.cg_core_laws.proofs.Interleaving.SystemLaws.{SystemLaws}
 use Rattle.cg_core_laws.proofs.Interleaving.RunsOfStackEntries.{owner, Accepts, moved, Free, FreeOf, state, Runs, keep, only, skip, cut, Apart, Same, blocks}
 

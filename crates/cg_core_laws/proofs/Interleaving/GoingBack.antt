@@ -13,7 +13,7 @@ use Rattle.cg_model.specs.Live.{Ran, Items, below, live_after, live, committed_a
 use Rattle.cg_model.specs.Run.{committed_through}
 use Rattle.cg_model.specs.Reply.{has_savepoint, commands_above, undo_reply, reply_in, reply_out, reply_at}
 use Rattle.cg_model.specs.Machine.{Machine, step}
-use Rattle.cg_core_laws.specs.Headline.{IsFaithful, GoesBack, OthersStay, CommitsStay}
+use Rattle.cg_core_laws.specs.Serial.{IsFaithful, GoesBack, OthersStay, CommitsStay}
 
 module _ (y : System) (o : y.State) (m : Machine y) (faithful : IsFaithful y o m) where
   -- the answer in t, and t's stack after it

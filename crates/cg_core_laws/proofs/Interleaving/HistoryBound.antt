@@ -8,7 +8,7 @@ use Rattle.cg_model.specs.System.{System, Attempt, Refuse, Accept}
 use Rattle.cg_model.specs.History.{Request, Begin, Do, Save, Back, Undo, Commit, Abort, Answer, WentBack, is_recorded}
 use Rattle.cg_model.specs.Opens.{Opens, numbers, among, without, transaction_in}
 use Rattle.cg_model.specs.Machine.{StackEntry, Did, Savepoint, stack_has_savepoint}
-use Rattle.cg_core_laws.specs.Headline.{OnceEach, AreProper}
+use Rattle.cg_core_laws.specs.Serial.{OnceEach, AreProper}
 use Rattle.cg_core_laws.proofs.Interleaving.SystemLaws.{SystemLaws}
 use Rattle.cg_core_laws.proofs.Interleaving.RunsOfStackEntries.{owner, only, cut}
 use Rattle.cg_core_laws.proofs.Interleaving.LogMachine.{Log, log_opened, log_holder, pop, pop_all, log_back_to, try_do, do_at, undo_at, others, held, is_full_log, log_step_in, log_step_out, log_step_at, log_noted, log_step, log_steps}

@@ -6,7 +6,7 @@ use Rattle.cg_model.specs.History.{Request, Begin, Do, Save, Back, Undo, Commit,
 use Rattle.cg_model.specs.Opens.{Opens, numbers, among, without, transaction_in}
 use Rattle.cg_model.specs.Live.{live}
 use Rattle.cg_model.specs.Reply.{clashes_with, found_or, holder}
-use Rattle.cg_core_laws.specs.Headline.{IsLeastHolder}
+use Rattle.cg_core_laws.specs.Serial.{IsLeastHolder}
 use Rattle.cg_core_laws.proofs.Interleaving.RunsOfStackEntries.{only}
 use Rattle.cg_core_laws.proofs.Interleaving.LogMachine.{Log, log_opened, log_step_in, log_step_out, log_step_at, log_noted, log_step, log_steps}
 use Rattle.cg_core_laws.proofs.Interleaving.StepsWithoutTransaction.{of_out}

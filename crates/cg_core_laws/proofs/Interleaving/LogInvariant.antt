@@ -7,7 +7,7 @@ use Rattle.cg_model.specs.History.{Answer}
 use Rattle.cg_model.specs.Opens.{among, numbers}
 use Rattle.cg_model.specs.Machine.{StackEntry, Did, Savepoint}
 use Rattle.cg_core_laws.specs.Unwind.{IsLast}
-use Rattle.cg_core_laws.specs.Headline.{OnceEach}
+use Rattle.cg_core_laws.specs.Serial.{OnceEach}
 use Rattle.cg_core_laws.proofs.Interleaving.SystemLaws.{SystemLaws}
 use Rattle.cg_core_laws.proofs.Interleaving.RunsOfStackEntries.{owner, Accepts, moved, state, Runs, keep, only, skip, cut, Apart, Same}
 use Rattle.cg_core_laws.proofs.Interleaving.LogMachine.{Log, unmoved, pop, pop_all, log_back_to}

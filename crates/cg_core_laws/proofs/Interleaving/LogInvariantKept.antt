@@ -10,7 +10,7 @@ use Rattle.cg_model.specs.Opens.{Opens, numbers, among, without, transaction_in}
 use Rattle.cg_model.specs.Live.{joined_if}
 use Rattle.cg_model.specs.Reply.{found_or}
 use Rattle.cg_model.specs.Machine.{StackEntry, Did, Savepoint, hits, stack_has_savepoint}
-use Rattle.cg_core_laws.specs.Headline.{AreProper}
+use Rattle.cg_core_laws.specs.Serial.{AreProper}
 use Rattle.cg_core_laws.proofs.Interleaving.SystemLaws.{SystemLaws}
 use Rattle.cg_core_laws.proofs.Interleaving.RunsOfStackEntries.{owner, Accepts, moved, FreeOf, keep, only, Apart, Same, Clear, Passes, PassAlike}
 use Rattle.cg_core_laws.proofs.Interleaving.LogMachine.{Log, log_opened, log_holder, pop_all, try_do, do_at, undo_at, others, ended, is_full_log, log_step_in, log_step_out, log_step_at, log_noted, log_step, log_steps}

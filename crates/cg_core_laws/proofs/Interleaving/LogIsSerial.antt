@@ -1,4 +1,4 @@
--- The headline of the machine with a log, from what every step keeps: the tree, the orders in which what stands may run
+-- The main theorem, of the machine with a log, from what every step keeps: the tree, the orders in which what stands may run
 -- again, a transaction's own tree, the answers to commands, and the unwinding of open transactions.
 use Rattle.std.proofs.Common.{◌≡◌, ℕ, Bool, true, false, List, [], ◌∷◌, ◌++◌, ◌||◌, not, Option, Some, None, refl, sym, ap, ◌∙◌, subst}
 use Rattle.std.specs.List.{AllByRecursion}
@@ -7,7 +7,7 @@ use Rattle.cg_model.specs.History.{Request, Answer, is_recorded}
 use Rattle.cg_model.specs.Opens.{Opens, numbers, among, without}
 use Rattle.cg_model.specs.Reply.{attempt_reply, command_reply}
 use Rattle.cg_model.specs.Machine.{StackEntry}
-use Rattle.cg_core_laws.specs.Headline.{OnceEach}
+use Rattle.cg_core_laws.specs.Serial.{OnceEach}
 use Rattle.cg_core_laws.proofs.Interleaving.SystemLaws.{SystemLaws, Alike}
 use Rattle.cg_core_laws.proofs.Interleaving.RunsOfStackEntries.{state, Runs, keep, only, Apart, Same, blocks}
 use Rattle.cg_core_laws.proofs.Interleaving.LogMachine.{Log, log_holder, pop, try_do, do_at, others, log_noted, log_note}

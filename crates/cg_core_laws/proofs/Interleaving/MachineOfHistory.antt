@@ -8,7 +8,7 @@ use Rattle.cg_model.specs.Live.{live}
 use Rattle.cg_model.specs.Reply.{footprints, live_footprints}
 use Rattle.cg_model.specs.Machine.{StackEntry, Did, Savepoint, Transaction, opened, steps}
 use Rattle.cg_core_laws.specs.Stacks.{as_items, footprints_on, StackEntriesTrue, IsOfHistory}
-use Rattle.cg_core_laws.specs.Headline.{AreProper}
+use Rattle.cg_core_laws.specs.Serial.{AreProper}
 use Rattle.cg_core_laws.proofs.Interleaving.SystemLaws.{SystemLaws}
 use Rattle.cg_core_laws.proofs.Interleaving.RunsOfStackEntries.{only}
 use Rattle.cg_core_laws.proofs.Interleaving.LogMachine.{Log, log_opened}

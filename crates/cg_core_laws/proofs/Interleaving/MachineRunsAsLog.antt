@@ -9,7 +9,7 @@ use Rattle.cg_model.specs.History.{Request, Begin, Do, Save, Back, Undo, Commit,
 use Rattle.cg_model.specs.Opens.{Opens, numbers, without, transaction_in}
 use Rattle.cg_model.specs.Reply.{found_or}
 use Rattle.cg_model.specs.Machine.{StackEntry, Did, Savepoint, Transaction, Machine, opened, found, with_stack, dropped, hits, stack_holder, stack_has_savepoint, stack_entries, is_full_machine, unwound, back_to, accepted, done_unless_held, newest_undone, step_in, step_out, step_at, found_number, noted, step, steps}
-use Rattle.cg_core_laws.specs.Headline.{AreProper}
+use Rattle.cg_core_laws.specs.Serial.{AreProper}
 use Rattle.cg_core_laws.proofs.Interleaving.SystemLaws.{SystemLaws}
 use Rattle.cg_core_laws.proofs.Interleaving.RunsOfStackEntries.{owner, only, cut}
 use Rattle.cg_core_laws.proofs.Interleaving.LogMachine.{Log, log_opened, log_holder, pop, pop_all, log_back_to, try_do, do_at, undo_at, others, held, is_full_log, log_step_in, log_step_out, log_step_at, log_noted, log_step, log_steps}

@@ -9,7 +9,7 @@ use Rattle.cg_model.specs.Opens.{Opens, numbers, among, without, transaction_in,
 use Rattle.cg_model.specs.Live.{Items, Ran, AtSavepoint, live}
 use Rattle.cg_model.specs.Run.{own_tree}
 use Rattle.cg_model.specs.Reply.{has_savepoint, commands_above, is_full, undo_reply, command_reply, reply_in, reply_at, Legal}
-use Rattle.cg_core_laws.specs.Headline.{OnceEach}
+use Rattle.cg_core_laws.specs.Serial.{OnceEach}
 
 abbrev pub sessions : Opens → List ℕ
 sessions [] = []

@@ -2,7 +2,7 @@
 use Rattle.std.proofs.Common.{◌≡◌, ℕ, Bool, true, false, cond, [], ◌∷◌, ◌==◌, ◌||◌, ◌&&◌, not, Option, Some, refl, sym, ap, ◌∙◌}
 use Rattle.std.proofs.lemmas.Bool.{eqb-true, eq-eqb, or_right, and_right, and_parts}
 use Rattle.cg_model.specs.Opens.{Opens, numbers, among, without, transaction_in}
-use Rattle.cg_core_laws.specs.Headline.{OnceEach}
+use Rattle.cg_core_laws.specs.Serial.{OnceEach}
 
 -- the number of no open transaction
 abbrev pub closed : Opens → ℕ → Bool

@@ -7,7 +7,7 @@ use Rattle.cg_model.specs.Opens.{Opens, numbers, among, opens}
 use Rattle.cg_model.specs.Live.{joined_if, committed, stacked}
 use Rattle.cg_model.specs.Run.{run_items, Accepted}
 use Rattle.cg_model.specs.Machine.{StackEntry}
-use Rattle.cg_core_laws.specs.Headline.{OnceEach}
+use Rattle.cg_core_laws.specs.Serial.{OnceEach}
 use Rattle.cg_core_laws.specs.Reordered.{of_those, not_pulled, PulledToTheFront}
 use Rattle.cg_core_laws.proofs.Interleaving.SystemLaws.{SystemLaws}
 use Rattle.cg_core_laws.proofs.Interleaving.RunsOfStackEntries.{owner, Free, FreeOf, keep, only, Apart, Same, blocks}

@@ -7,7 +7,7 @@ use Rattle.cg_model.specs.Live.{committed, stacked}
 use Rattle.cg_model.specs.Run.{run_items, Accepted}
 use Rattle.cg_model.specs.Reply.{holder, live_count, slots}
 use Rattle.cg_model.specs.Machine.{Machine, step}
-use Rattle.cg_core_laws.specs.Headline.{IsOrder, IsLeastHolder, IsSerial, IsFaithful}
+use Rattle.cg_core_laws.specs.Serial.{IsOrder, IsLeastHolder, IsSerial, IsFaithful}
 use Rattle.cg_core_laws.proofs.Interleaving.SystemLaws.{SystemLaws}
 use Rattle.cg_core_laws.proofs.Interleaving.RunsOfStackEntries.{only, blocks}
 use Rattle.cg_core_laws.proofs.Interleaving.LogMachine.{Log, held, log_step_at, log_noted, log_step}

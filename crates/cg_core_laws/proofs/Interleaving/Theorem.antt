@@ -5,7 +5,7 @@ use Rattle.cg_model.specs.System.{System}
 use Rattle.cg_model.specs.History.{Request}
 use Rattle.cg_model.specs.Opens.{transaction_in, opens}
 use Rattle.cg_model.specs.Machine.{Machine, opened, steps}
-use Rattle.cg_core_laws.specs.Headline.{AreProper, IsSerial, IsFaithful, GoesBack, OthersStay, CommitsStay}
+use Rattle.cg_core_laws.specs.Serial.{AreProper, IsSerial, IsFaithful, GoesBack, OthersStay, CommitsStay}
 use Rattle.cg_core_laws.specs.Stacks.{IsOfHistory}
 use Rattle.cg_core_laws.proofs.Interleaving.SystemLaws.{SystemLaws}
 use Rattle.cg_core_laws.proofs.Interleaving.LogMachine.{Log, log_opened, log_steps}

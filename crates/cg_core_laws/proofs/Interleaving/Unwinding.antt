@@ -9,7 +9,7 @@ use Rattle.cg_model.specs.Opens.{numbers, among}
 use Rattle.cg_model.specs.Live.{Items, live}
 use Rattle.cg_model.specs.Machine.{StackEntry, Did, Savepoint}
 use Rattle.cg_core_laws.specs.Unwind.{with_items, TakenOff, Unwinds}
-use Rattle.cg_core_laws.specs.Headline.{AreOpen}
+use Rattle.cg_core_laws.specs.Serial.{AreOpen}
 use Rattle.cg_core_laws.proofs.Interleaving.SystemLaws.{SystemLaws}
 use Rattle.cg_core_laws.proofs.Interleaving.RunsOfStackEntries.{only, cut}
 use Rattle.cg_core_laws.proofs.Interleaving.LogMachine.{Log, pop}
