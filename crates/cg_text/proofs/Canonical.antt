@@ -8,6 +8,7 @@ use Rattle.cg_name.specs.Controller.{controller_word}
 use Rattle.cg_name.specs.declared.controller.Controller.{Controller}
 use Rattle.cg_name.specs.declared.controller.Controller.TheVariants.{Cpuset, Cpu, Io, Memory, Hugetlb, Pids, Rdma, Misc}
 use Rattle.cg_text.specs.Controllers.{has, all_controllers, no_controllers}
+use Rattle.cg_text.specs.FileText.{op_words}
 use Rattle.cg_text.specs.Laws.{OpsAreSpelled}
 use Rattle.cg_text.specs.Reading.{white_space_words, no_ops, sign_byte, SpellsOpsAfter, with_op}
 use Rattle.cg_text.specs.Words.{Word, is_filled}
@@ -154,10 +155,15 @@ module _ (ops : ControlOps) where
       (same_set (set_all all_controllers no_ops).plus ops.plus plus_is)
       (same_set (set_all all_controllers no_ops).minus ops.minus minus_is)
 
-  ops_spelled : SpellsOpsAfter no_ops (white_space_words (join_with_byte 32 (map word (filter is_named all_controllers)))) ops
-  ops_spelled =
-      subst (λ ws. SpellsOpsAfter no_ops ws ops) (sym (cut (filter is_named all_controllers)))
-      (subst (SpellsOpsAfter no_ops (map word (filter is_named all_controllers))) (after_named all_controllers no_ops ∙ all_set) (spelled (filter is_named all_controllers) no_ops))
+  all_spelled : SpellsOpsAfter no_ops (map word (filter is_named all_controllers)) ops
+  all_spelled =
+      subst (SpellsOpsAfter no_ops (map word (filter is_named all_controllers))) (after_named all_controllers no_ops ∙ all_set) (spelled (filter is_named all_controllers) no_ops)
 
+-- the words of operations spell them
+pub words_spelled : (ops : ControlOps) → SpellsOpsAfter no_ops (op_words ops) ops
+words_spelled ops = all_spelled ops
+
+-- and so does their text
 pub ops_are_spelled : OpsAreSpelled
-ops_are_spelled ops = ops_spelled ops
+ops_are_spelled ops =
+    subst (λ ws. SpellsOpsAfter no_ops ws ops) (sym (cut ops (filter (is_named ops) all_controllers))) (words_spelled ops)

@@ -1,6 +1,6 @@
 pub mod Lists
 mod Readers
-mod Files
+pub mod Files
 mod TrimmedLines
 mod Closing
 mod Blanks
@@ -13,4 +13,4 @@ pub mod Sets
 pub mod Operations
 pub mod Limits
 mod Spelled
-mod Canonical
+pub mod Canonical

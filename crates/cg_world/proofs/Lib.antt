@@ -16,6 +16,6 @@ pub mod Spelled
 pub mod Stages
 pub mod Taken
 pub mod Trees
-mod WrittenCpus
-mod WrittenLimits
+pub mod WrittenCpus
+pub mod WrittenLimits
 pub mod WrittenWords

@@ -58,7 +58,7 @@ each_mapped : {A B : Type 0} (f : A → B) (P : B → Type 0) (xs : List A) → 
 each_mapped f P [] h = tt
 each_mapped f P (x ∷ xs) h = (h.0, each_mapped f P xs h.1)
 
-filter_few : {A : Type 0} (p : A → Bool) (xs : List A) → length (filter p xs) ≤ length xs
+pub filter_few : {A : Type 0} (p : A → Bool) (xs : List A) → length (filter p xs) ≤ length xs
 filter_few p [] = omega arith
 filter_few p (x ∷ xs) = elim (p x) as (λ b. length (cond b (x ∷ filter p xs) (filter p xs)) ≤ length (x ∷ xs)) [
   | true ↦ omega (arith, filter_few p xs)
@@ -67,7 +67,7 @@ filter_few p (x ∷ xs) = elim (p x) as (λ b. length (cond b (x ∷ filter p xs
 
 -- ---- lengths
 
-word_short : (c : Controller) → length (controller_word c) ≤ 7
+pub word_short : (c : Controller) → length (controller_word c) ≤ 7
 word_short Cpuset = omega arith
 word_short Cpu = omega arith
 word_short Io = omega arith
@@ -92,7 +92,7 @@ or_minus_short (b ∷ t) = omega arith
 control_short : (s : sets.Controllers) → length (control_text s) ≤ 65
 control_short s = omega (arith, or_minus_short (join_with_byte 44 (map controller_word (members s))), names_short 44 (members s), at_most_eight s)
 
-flag_short : (b : Bool) → length (flag_word b) ≤ 1
+pub flag_short : (b : Bool) → length (flag_word b) ≤ 1
 flag_short true = omega arith
 flag_short false = omega arith
 
@@ -206,11 +206,11 @@ spells_control s = by_members (members s) refl
         (sym (ap (slice_split (λ b. b == 44)) (sym (control_some s (ap is_nonempty e)) ∙ ap (λ ds. join_with_byte 44 (map controller_word ds)) e) ∙ split_names c cs))
         (subst (λ ds. AddsControllers no_controllers (map controller_word ds) s) e (adds_members s)))
 
-spells_flag : (b : Bool) → SpellsFlag (flag_word b) b
+pub spells_flag : (b : Bool) → SpellsFlag (flag_word b) b
 spells_flag true = refl
 spells_flag false = refl
 
-spells_pid : (k : ℕ) → 1 ≤ k → k ≤ 4194303 → SpellsPid (decimal k) k
+pub spells_pid : (k : ℕ) → 1 ≤ k → k ≤ 4194303 → SpellsPid (decimal k) k
 spells_pid k low high =
     let n = decimal_is_IsNumeral k (omega arith) in
     subst (λ t. IsNumeral 10 t × (digits_value 10 t ≡ k) × (1 ≤ k) × (k ≤ 4194303)) (sym (nothing_trimmed (decimal k) (decimal_plain k (omega arith)))) (n.0, n.1, low, high)

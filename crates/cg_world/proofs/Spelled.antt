@@ -44,7 +44,7 @@ flagged-word : (b : Bool) → flagged (flag_word b) ≡ b
 flagged-word true = refl
 flagged-word false = refl
 
-one_flag : (w : Word) (a b : Bool) → SpellsFlag w a → SpellsFlag w b → a ≡ b
+pub one_flag : (w : Word) (a b : Bool) → SpellsFlag w a → SpellsFlag w b → a ≡ b
 one_flag w a b h k = sym (flagged-word a) ∙ ap flagged (sym h ∙ k) ∙ flagged-word b
 
 one_list : (most : ℕ) (w : Word) (s t : FiniteSet) → SpellsAskedCpus most w s → SpellsAskedCpus most w t → s ≡ t

@@ -1,0 +1,3 @@
+pub mod CommandText
+pub mod Spaced
+pub mod Laws
