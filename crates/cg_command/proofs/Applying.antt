@@ -1,10 +1,5 @@
 -- What holds of a tree after an accepted command.
-use Rattle.std.proofs.Common.{◌≡◌, Bool, true, false, cond, List, Some, is_some, Result, Ok, Err, IfOk, OnErr, refl, sym, ap, subst, ◌∙◌}
-use Rattle.std.specs.Ordering.{eq_by_cmp}
-use Rattle.cg_maps.specs.FiniteMap.{FiniteMap, get, set_at}
-use Rattle.cg_maps.proofs.Maps.{get-set_at}
-use Rattle.cg_name.specs.Order.{path_cmp_total, path_cmp_exact}
-use Rattle.cg_name.specs.Path.{Path, path_cmp}
+use Rattle.std.proofs.Common.{◌≡◌, List, Result, Ok, Err, IfOk, OnErr, sym, ap, subst, ◌∙◌}
 use Rattle.cg_model.specs.Change.{Change, undone, Fits}
 use Rattle.cg_model.specs.Command.{Command, IsProper}
 use Rattle.cg_model.specs.Sound.{Sound}
@@ -13,14 +8,6 @@ use Rattle.cg_model_laws.proofs.AcceptedCommands.{identity}
 use Rattle.cg_model_laws.proofs.SoundCommands.{sound_kept}
 use Rattle.cg_tree.specs.Room.{TreeWithRoom}
 use Rattle.cg_command.specs.Applied.{Applied}
-
--- with one entry more, what has an entry keeps it
-pub entry_kept : (E : FiniteMap path_cmp (Unit {0})) (p q : Path) → is_some (get E q) ≡ true → is_some (get (set_at E p (Some tt)) q) ≡ true
-entry_kept E p q h = ap is_some (get-set_at path_cmp_total path_cmp_exact E p (Some tt) q) ∙ either (eq_by_cmp path_cmp q p)
-  where
-    either : (b : Bool) → is_some (cond b (Some tt) (get E q)) ≡ true
-    either true = refl
-    either false = h
 
 module _ (c : Command) (t u : TreeWithRoom) (o : Outcome) (cs : List Change) (a : Applied c t o cs u) where
   pub fits_after : Fits cs u.tree
@@ -32,7 +19,7 @@ module _ (c : Command) (t u : TreeWithRoom) (o : Outcome) (cs : List Change) (a 
   pub sound_after : IsProper c → Sound t.tree → Sound u.tree
   sound_after p s = subst Sound (sym a.tree) (sound_kept c t.tree o cs p s a.effect)
 
-pub sound_kept_by : {X E : Type 0} (c : Command) (t u : TreeWithRoom) (outcome : X → Outcome) (changes : X → List Change) (r : Result X E) → IfOk r (λ x. Applied c t (outcome x) (changes x) u) → OnErr r (u.tree ≡ t.tree)
+pub sound_kept_by : {X E : Type 0} (c : Command) (t u : TreeWithRoom) (outcome : X → Outcome) (changes : X → List Change) (r : Result X E) → IfOk r (λ x. Applied c t (outcome x) (changes x) u) → OnErr r (u ≡ t)
     → IsProper c → Sound t.tree → Sound u.tree
 sound_kept_by c t u outcome changes (Ok x) a e p s = sound_after c t u (outcome x) (changes x) a p s
-sound_kept_by c t u outcome changes (Err x) a e p s = subst Sound (sym e) s
+sound_kept_by c t u outcome changes (Err x) a e p s = subst (λ v. Sound v.tree) (sym e) s

@@ -1,14 +1,15 @@
 -- What an accepted command leaves.
-use Rattle.std.specs.Prelude.{◌≡◌, true, List}
-use Rattle.cg_name.specs.Path.{Path}
+use Rattle.std.specs.Prelude.{◌≡◌, List, Some}
+use Rattle.cg_maps.specs.FiniteMap.{FiniteMap}
+use Rattle.cg_name.specs.Path.{path_cmp}
 use Rattle.cg_command.specs.declared.command.Outcome as rust
 use Rattle.cg_command.specs.declared.command.Outcome.TheVariants as outcomes
 use Rattle.cg_model.specs.Change.{Change, done}
-use Rattle.cg_model.specs.Command.{Command}
+use Rattle.cg_model.specs.Command.{Command, Create}
 use Rattle.cg_model.specs.Effect.{effect}
 use Rattle.cg_model.specs.Room.{RoomFor}
 use Rattle.cg_model.specs.System.{Outcome, Done, Text, Accept}
-use Rattle.cg_tree.specs.Room.{TreeWithRoom, has_entry}
+use Rattle.cg_tree.specs.Room.{TreeWithRoom, has_entry, with_entry}
 
 abbrev pub outcome_of : rust.Outcome → Outcome
 outcome_of outcomes.Done = Done
@@ -20,6 +21,7 @@ pub record Applied (c : Command) (t : TreeWithRoom) (o : Outcome) (cs : List Cha
   pub tree : u.tree ≡ done cs t.tree
   pub room : RoomFor (has_entry u) cs
 
--- what has an entry keeps it
-abbrev pub KeepsEntries : TreeWithRoom → TreeWithRoom → Type 0
-KeepsEntries t u = (p : Path) → has_entry t p ≡ true → has_entry u p ≡ true
+-- the entries after an accepted command: those before, and that of a group that it makes
+abbrev pub entries_after : Command → FiniteMap path_cmp (Unit {0}) → FiniteMap path_cmp (Unit {0})
+entries_after (Create p) E = with_entry (Some p) E
+entries_after _ E = E

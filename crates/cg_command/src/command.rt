@@ -1,7 +1,7 @@
 //! The ten commands (the kernel's cgroup-v2 page, "Organizing Processes and Threads", "Core Interface Files" and "Cpuset
 //! Interface Files").
 ghost use Rattle.std.specs.Prelude.{◌≡◌, IfOk, IfErr, OnErr, OnOk};
-ghost use Rattle.cg_command.specs.Applied.{outcome_of, Applied, KeepsEntries};
+ghost use Rattle.cg_command.specs.Applied.{entries_after, outcome_of, Applied};
 ghost use Rattle.cg_command.specs.Meaning.{command_of};
 ghost use Rattle.cg_model.specs.Change.{done, undone, Fits};
 ghost use Rattle.cg_model.specs.Command.{IsAccepted};
@@ -169,8 +169,8 @@ impl Command {
     }
 
     /// Changes the tree as the accepted command does, and gives its outcome and its inverse: the list of its changes. The
-    /// inverse fits, and undoing it at once gives the tree before. An error, where there is no memory, leaves every key of
-    /// the tree as it was. No room is taken away.
+    /// inverse fits, and undoing it at once gives the tree before. A group that is made gets an entry, and no other changes.
+    /// An error, where there is no memory, leaves the tree as it was.
     pub fn apply(&self, alloc: Global, tree: &mut Tree) -> Result<(Outcome, Inverse), AllocError>
         requires { IsAccepted (effect (command_of self.now) tree.old.tree) }
         ensures effect { IfOk result (λ r. effect (command_of self.now) tree.old.tree ≡ Accept (outcome_of r.0) r.1) }
@@ -179,8 +179,8 @@ impl Command {
         ensures room { IfOk result (λ r. RoomFor (has_entry tree.new) r.1) }
         ensures identity { IfOk result (λ r. undone r.1 tree.new.tree ≡ tree.old.tree) }
         ensures sound { Sound tree.old.tree → Sound tree.new.tree }
-        ensures entries { KeepsEntries tree.old tree.new }
-        ensures err { OnErr result (tree.new.tree ≡ tree.old.tree) }
+        ensures entries { OnOk result (tree.new.entries ≡ entries_after (command_of self.now) tree.old.entries) }
+        ensures err { OnErr result (tree.new ≡ tree.old) }
     {
         self.run(alloc, tree)
     }
@@ -189,8 +189,8 @@ impl Command {
     fn run(&self, alloc: Global, tree: &mut Tree) -> Result<(Outcome, Inverse), AllocError>
         requires { IsAccepted (effect (command_of self.now) tree.old.tree) }
         ensures applied { IfOk result (λ r. Applied (command_of self.now) tree.old (outcome_of r.0) r.1 tree.new) }
-        ensures entries { KeepsEntries tree.old tree.new }
-        ensures err { OnErr result (tree.new.tree ≡ tree.old.tree) }
+        ensures entries { OnOk result (tree.new.entries ≡ entries_after (command_of self.now) tree.old.entries) }
+        ensures err { OnErr result (tree.new ≡ tree.old) }
     {
         match self {
             Command::Create { path } => Ok((Outcome::Done, create(path, alloc, tree)?)),
