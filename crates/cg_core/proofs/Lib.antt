@@ -1,5 +1,3 @@
-mod Creating
-mod Kept
 mod Refusing
 mod MachineLaws
 mod WorkedRows

@@ -10,9 +10,17 @@ use Rattle.cg_model.specs.Tree.{Tree}
 use Rattle.cg_model.specs.Command.{Command}
 use Rattle.cg_model.specs.System.{Refuse}
 use Rattle.cg_model.specs.Effect.{effect}
-use Rattle.cg_model.specs.History.{is_command_refusal}
+use Rattle.cg_model.specs.History.{is_command_refusal, is_own_check}
+use Rattle.cg_model_laws.proofs.OwnChecks.{own_checks}
 use Rattle.cg_core.specs.Record.{Record, Request, Answer, Do, Refused}
-use Rattle.cg_core.specs.Machine.{Machine, Open, stepped, reply, number_in, is_full_history, answer_of, changed, recorded}
+use Rattle.cg_core.specs.Machine.{Machine, Open, stepped, reply, number_in, is_full_history, effect_answer, changed, recorded}
+
+own_is_command_refusal : (r : Refusal) → is_own_check r ≡ true → is_command_refusal r ≡ true
+own_is_command_refusal (refusals.Busy t) e = refl
+own_is_command_refusal _ e = e
+
+pub refused_is_recorded : (c : Command) (T : Tree) (r : Refusal) → effect c T ≡ Refuse r → is_command_refusal r ≡ true
+refused_is_recorded c T r e = own_is_command_refusal r (own_checks c T r e)
 
 pub not_memory : (r : Refusal) → is_command_refusal r ≡ true → is_memory (answers.Refused r) ≡ false
 not_memory refusals.Memory e = absurd (true≢false (sym e))
@@ -56,7 +64,7 @@ refuse_step O l T None h s t c r own room e k = absurd (none_is_some own)
 refuse_step O l T (Some o) h s t c r own room e k =
     let m : Machine = record { opening = O; limit = l; tree = T; open_one = Some o; history = h } in
     let mine : (o.session == s ≡ true) × (o.number ≡ t) = own_session (o.session == s) o.number t own in
-    let replied : reply m s (Do c) ≡ Refused r = λ i. cond (mine.0 i) (cond (room i) (Refused refusals.Full) (answer_of (e i))) (Refused refusals.NoTransaction) in
+    let replied : reply m s (Do c) ≡ Refused r = λ i. cond (mine.0 i) (cond (room i) (Refused refusals.Full) (effect_answer (e i))) (Refused refusals.NoTransaction) in
     step_by_reply m s (Do c) (Refused r) replied
     ∙ (λ i. record m { history = cond (k i) (h ++ refused_record s (mine.1 i) c r ∷ []) h })
 

@@ -3,7 +3,8 @@ use Rattle.std.specs.Prelude.{ℕ, ◌+◌, Bool, ◌==◌, nat_lt, if◌then◌
 use Rattle.cg_name.specs.declared.refusal.Refusal.TheVariants.{NoTransaction, AlreadyOpen, Full, Busy}
 use Rattle.cg_model.specs.Tree.{Tree}
 use Rattle.cg_model.specs.Command.{Effect}
-use Rattle.cg_model.specs.System.{Refuse, Accept}
+use Rattle.cg_model.specs.System as systems
+use Rattle.cg_model.specs.System.{Outcome, Refuse, Accept}
 use Rattle.cg_model.specs.Effect.{effect}
 use Rattle.cg_model.specs.Change.{done}
 use Rattle.cg_core.specs.Record as records
@@ -39,14 +40,19 @@ abbrev pub begin_reply : Machine → ℕ → Option Open → Answer
 begin_reply m s (Some o) = if o.session == s then Refused AlreadyOpen else Refused (Busy (record { 0 = o.number }))
 begin_reply m s None = if is_full_history m then Refused Full else Begun (begins m.history + 1)
 
-abbrev pub answer_of : Effect → Answer
-answer_of (Refuse r) = Refused r
-answer_of (Accept o cs) = records.Done
+-- the answer to an accepted command
+abbrev pub given : Outcome → Answer
+given systems.Done = records.Done
+given (systems.Text x) = records.Text x
+
+abbrev pub effect_answer : Effect → Answer
+effect_answer (Refuse r) = Refused r
+effect_answer (Accept o cs) = given o
 
 -- the reply to a request of the open transaction o
 abbrev pub own_reply : Machine → Open → Request → Answer
 own_reply m o Begin = Refused AlreadyOpen
-own_reply m o (Do c) = if is_full_history m then Refused Full else answer_of (effect c m.tree)
+own_reply m o (Do c) = if is_full_history m then Refused Full else effect_answer (effect c m.tree)
 own_reply m o Commit = Committed (commits m.history + 1)
 own_reply m o Abort = Aborted o.number
 

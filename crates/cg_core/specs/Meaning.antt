@@ -1,18 +1,13 @@
 -- What the machine's values mean in the model.
 use Rattle.std.specs.Prelude.{Bool, true, false}
 use Rattle.cg_name.specs.declared.refusal.Refusal.TheVariants as refusals
-use Rattle.cg_core.specs.declared.command.Command as rust
-use Rattle.cg_core.specs.declared.command.Command.TheVariants as commands
 use Rattle.cg_core.specs.declared.record.Request.{Request}
 use Rattle.cg_core.specs.declared.record.Request.TheVariants as requests
 use Rattle.cg_core.specs.declared.record.Answer.{Answer}
 use Rattle.cg_core.specs.declared.record.Answer.TheVariants as answers
 use Rattle.cg_core.specs.declared.record.Record.{Record}
-use Rattle.cg_model.specs.Command as model
+use Rattle.cg_command.specs.Meaning.{command_of}
 use Rattle.cg_core.specs.Record as records
-
-abbrev pub command_of : rust.Command → model.Command
-command_of (commands.Create p) = model.Create p
 
 abbrev pub request_of : Request → records.Request
 request_of requests.Begin = records.Begin

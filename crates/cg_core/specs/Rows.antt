@@ -15,9 +15,9 @@ use Rattle.cg_core.specs.Record.{Request, Begin, Do, Commit, Abort, Answer, Begu
 use Rattle.cg_core.specs.Machine.{Machine, reply, stepped}
 
 -- a machine with eight CPUs, the root and two processes in it
-unfoldable pub w0 : Tree
+unfoldable pub small_tree : Tree
 unfolding insert empty checked such_that_below with_member set_at
-w0 = record {
+small_tree = record {
   controllers = record no_controllers { cpuset = true; cpu = true; memory = true };
   online = such_that_below 8 (λ n. true);
   groups = insert empty [] fresh;
@@ -25,7 +25,7 @@ w0 = record {
 }
 
 unfoldable pub opened : ℕ → Machine
-opened limit = record { opening = w0; limit = limit; tree = w0; open_one = None; history = [] }
+opened limit = record { opening = small_tree; limit = limit; tree = small_tree; open_one = None; history = [] }
 
 -- requests of sessions by number
 abbrev pub Asked : Type 0
@@ -59,7 +59,7 @@ made_and_aborted = (1, Begin) ∷ (1, Do (Create a)) ∷ (1, Abort) ∷ []
 abbrev pub CreateAndAbort : Type 0
 CreateAndAbort =
     (answers (opened 1048576) made_and_aborted ≡ Begun 1 ∷ Done ∷ Aborted 1 ∷ [])
-    × ((after (opened 1048576) made_and_aborted).tree ≡ w0)
+    × ((after (opened 1048576) made_and_aborted).tree ≡ small_tree)
 
 -- the refusals of one session, and of another that has no transaction
 abbrev pub OwnRefusals : Type 0

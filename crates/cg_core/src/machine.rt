@@ -1,7 +1,6 @@
 //! The machine: its steps, one transaction at a time.
 ghost use Rattle.std.specs.Prelude.{◌≡◌, ◌+◌, ◌≤◌, ◌^◌, Bool, true, false, is_some, not, map, OnOk, IfOk, IfErr, IfSome, [], None, Some};
 ghost use Rattle.std.specs.Bool.{OnTrue, OnFalse};
-ghost use Rattle.cg_world.specs.World.{IsRepresentable};
 ghost use Rattle.std.specs.Option.{option_map};
 ghost use Rattle.cg_model.specs.Effect.{effect};
 ghost use Rattle.cg_model.specs.Sound.{Sound};
@@ -10,11 +9,12 @@ ghost use Rattle.cg_model.specs.Command.{IsAccepted};
 ghost use Rattle.cg_core.specs.Record as model;
 ghost use Rattle.cg_core.specs.Machine.{reply, stepped, is_full_history, number_in, count_of};
 
-use crate::command::Command;
+use crate::applying::apply;
 use crate::history::History;
 use crate::record::{Answer, Record, Request, SessionId};
-use crate::tree::Tree;
+use cg_command::Command;
 use cg_name::{Refusal, TxnNumber};
+use cg_tree::Tree;
 use cg_world::World;
 use std::alloc::{AllocError, Global};
 use std::marker::Model;
@@ -56,7 +56,8 @@ impl Model for Core {
 }
 
 impl Core {
-    ghost use Rattle.cg_core.specs.Meaning.{command_of, request_of, answer_of, record_of, is_memory, takes_memory};
+    ghost use Rattle.cg_command.specs.Meaning.{command_of};
+    ghost use Rattle.cg_core.specs.Meaning.{request_of, answer_of, record_of, is_memory, takes_memory};
 
     /// A machine on this world's tree, whose history has at most `limit` slots, from 2 to 1,048,576, reserved ones included;
     /// an error where there is no memory for it.
@@ -69,7 +70,7 @@ impl Core {
         Ok(Core {
             opening,
             limit,
-            tree: Tree::from_world(world),
+            tree: Tree::from_world(alloc, world)?,
             current: None,
             history: History::new(alloc),
         })
@@ -77,12 +78,9 @@ impl Core {
 
     /// The tree as it stands.
     pub fn tree(&self) -> &Tree
-        ensures value { result.now ≡ self.now.tree }
+        ensures value { result.now.tree ≡ self.now.tree }
         ensures sound { Sound self.now.tree }
-        ensures valid { IsRepresentable self.now.tree }
     {
-        // The plain tree below tells that code can hold it.
-        let _ = self.tree.plain();
         &self.tree
     }
 
@@ -160,7 +158,7 @@ impl Core {
         if self.is_full() {
             return Answer::Refused(Refusal::Full);
         }
-        let Ok(before) = self.tree.copy(alloc) else {
+        let Ok(before) = self.copy_tree(alloc) else {
             return Answer::Refused(Refusal::Memory);
         };
         if self.history.reserve(2).is_err() {
@@ -241,15 +239,14 @@ impl Core {
         if self.is_full() {
             return Answer::Refused(Refusal::Full);
         }
-        match command.check(alloc, &self.tree) {
+        match command.check(&self.tree) {
             Ok(()) => self.accept(alloc, session, txn, command),
-            Err(Refusal::Memory) => Answer::Refused(Refusal::Memory),
             Err(refusal) => self.refuse(session, txn, command, refusal),
         }
     }
 
     // Records a command of the open transaction that the tree refuses.
-    #[tactic(auto, using(crate::proofs::Creating::refused_is_recorded), unfolding(crate::specs::Machine::reply, crate::specs::Machine::stepped))]
+    #[tactic(auto, using(crate::proofs::Refusing::refused_is_recorded), unfolding(crate::specs::Machine::reply, crate::specs::Machine::stepped))]
     fn refuse(
         &mut self,
         session: SessionId,
@@ -292,9 +289,12 @@ impl Core {
         ensures state { OnFalse (is_memory result) (self.new ≡ stepped self.old session.0 (model.Do (command_of command))) }
         ensures memory { OnTrue (is_memory result) (self.new ≡ self.old) }
     {
-        if self.history.reserve(2).is_err() || command.apply(alloc, &mut self.tree).is_err() {
+        if self.history.reserve(2).is_err() {
             return Answer::Refused(Refusal::Memory);
         }
+        let Ok((answer, copy)) = apply(alloc, &command, &mut self.tree) else {
+            return Answer::Refused(Refusal::Memory);
+        };
         if let Some(open) = &mut self.current {
             open.commands += 1;
         }
@@ -302,9 +302,16 @@ impl Core {
             session,
             txn,
             request: Request::Do(command),
-            answer: Answer::Done,
+            answer: copy,
         });
-        Answer::Done
+        answer
+    }
+
+    // A tree that equals the machine's.
+    fn copy_tree(&self, alloc: Global) -> Result<Tree, AllocError>
+        ensures { IfOk result (λ t. t.tree ≡ self.now.tree) }
+    {
+        Tree::from_world(alloc, self.tree.to_world(alloc)?)
     }
 
     fn is_full(&self) -> bool

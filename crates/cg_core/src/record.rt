@@ -1,7 +1,7 @@
 //! Requests, answers and records.
 ghost use Rattle.std.specs.Prelude.{◌≡◌, IfOk, IfErr};
 
-use crate::command::Command;
+use cg_command::Command;
 use cg_name::{Refusal, TxnNumber};
 use std::alloc::{AllocError, Global};
 

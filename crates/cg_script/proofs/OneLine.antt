@@ -1,80 +1,42 @@
 -- A line spells one call at most, and so has one answer at most.
-use Rattle.std.proofs.Common.{◌≡◌, ℕ, List, [], ◌∷◌, Option, Some, None, codes, refl, sym, ap, subst, ◌∙◌, inl, inr, arith, Result, Ok, Err, OnOk, OnErr, false, true≢false, true}
+use Rattle.std.proofs.Common.{◌≡◌, ℕ, List, ◌∷◌, Option, Some, None, refl, sym, ap, subst, ◌∙◌, inl, inr, arith, Result, Ok, Err, OnOk, OnErr, false, true≢false, true}
 use Rattle.std.specs.Result.{is_err}
-use Rattle.cg_name.specs.Path.{SpellsPath}
-use Rattle.cg_name.proofs.WrittenPaths.{one_path}
 use Rattle.cg_text.proofs.Cuts.{one_saying}
 use Rattle.cg_text.specs.Words.{Word, Says}
-use Rattle.cg_model.specs.Command.{Command, Create, Remove, Migrate, Subtree, Freeze, Cpus, Show, Online, MaxDescendants, MaxDepth}
+use Rattle.cg_command_text.proofs.Keywords.{which}
+use Rattle.cg_command_text.proofs.OneCommand.{one_command}
 use Rattle.cg_core.specs.Record.{Request, Begin, Do, Commit, Abort}
-use Rattle.cg_script.specs.Request.{SpellsCommand, SpellsRequest, SpellsCall, SpellsLine}
+use Rattle.cg_script.specs.Request.{SpellsRequest, SpellsCall, SpellsLine}
 use Rattle.cg_script.specs.Replay.{Replay, Asked, Answers, IsOneTooMany}
 
 head_same : {X : Type 0} {x y : X} {xs ys : List X} → x ∷ xs ≡ y ∷ ys → x ≡ y
 head_same e = cc
 
-second_same : {X : Type 0} {x y : X} {u v : X} → u ∷ x ∷ [] ≡ v ∷ y ∷ [] → x ≡ y
-second_same e = cc
-
 rest_same : {X : Type 0} {x y : X} {xs ys : List X} → x ∷ xs ≡ y ∷ ys → xs ≡ ys
 rest_same e = cc
 
--- the third byte of the first word, which tells the words of requests apart
+-- the third byte of the first word, which tells the words of requests without a command apart
 abbrev third : List Word → ℕ
 third ((a ∷ b ∷ c ∷ w) ∷ ws) = c
 third _ = 0
-
--- what is asked for is a creation
-asked_word : (ws : List Word) (c : Command) → SpellsCommand ws c → (path : Word) × (ws ≡ codes "create" ∷ path ∷ [])
-asked_word ws (Create p) a = (a.0, a.1)
-asked_word ws (Remove p) a = absurd a
-asked_word ws (Migrate k p) a = absurd a
-asked_word ws (Subtree p ops) a = absurd a
-asked_word ws (Freeze p v) a = absurd a
-asked_word ws (Cpus p v) a = absurd a
-asked_word ws (Show p f) a = absurd a
-asked_word ws (Online v) a = absurd a
-asked_word ws (MaxDescendants p v) a = absurd a
-asked_word ws (MaxDepth p v) a = absurd a
-
-command_one : (ws : List Word) (c d : Command) → SpellsCommand ws c → SpellsCommand ws d → c ≡ d
-command_one ws (Create p) (Create q) a b = ap (λ x. Create x) (one_path a.0 p q a.2 (subst (λ w. SpellsPath w q) (second_same (sym b.1 ∙ a.1)) b.2))
-command_one ws (Create q) (Remove p) a b = absurd b
-command_one ws (Create q) (Migrate k p) a b = absurd b
-command_one ws (Create q) (Subtree p ops) a b = absurd b
-command_one ws (Create q) (Freeze p v) a b = absurd b
-command_one ws (Create q) (Cpus p v) a b = absurd b
-command_one ws (Create q) (Show p f) a b = absurd b
-command_one ws (Create q) (Online v) a b = absurd b
-command_one ws (Create q) (MaxDescendants p v) a b = absurd b
-command_one ws (Create q) (MaxDepth p v) a b = absurd b
-command_one ws (Remove p) d a b = absurd a
-command_one ws (Migrate k p) d a b = absurd a
-command_one ws (Subtree p ops) d a b = absurd a
-command_one ws (Freeze p v) d a b = absurd a
-command_one ws (Cpus p v) d a b = absurd a
-command_one ws (Show p f) d a b = absurd a
-command_one ws (Online v) d a b = absurd a
-command_one ws (MaxDescendants p v) d a b = absurd a
-command_one ws (MaxDepth p v) d a b = absurd a
 
 request_one : (ws : List Word) (r q : Request) → SpellsRequest ws r → SpellsRequest ws q → r ≡ q
 request_one ws Begin Begin a b = refl
 request_one ws Commit Commit a b = refl
 request_one ws Abort Abort a b = refl
-request_one ws (Do c) (Do d) a b = ap (λ x. Do x) (command_one ws c d a b)
+request_one ws (Do c) (Do d) a b = ap (λ x. Do x) (one_command ws c d a b)
 request_one ws Begin Commit a b = absurd (omega (arith, ap third (sym a ∙ b)))
 request_one ws Begin Abort a b = absurd (omega (arith, ap third (sym a ∙ b)))
-request_one ws Begin (Do d) a b = absurd (omega (arith, ap third (sym a ∙ (asked_word ws d b).1)))
+request_one ws Begin (Do d) a b = absurd (which ws _ d a b)
 request_one ws Commit Begin a b = absurd (omega (arith, ap third (sym a ∙ b)))
 request_one ws Commit Abort a b = absurd (omega (arith, ap third (sym a ∙ b)))
-request_one ws Commit (Do d) a b = absurd (omega (arith, ap third (sym a ∙ (asked_word ws d b).1)))
+request_one ws Commit (Do d) a b = absurd (which ws _ d a b)
 request_one ws Abort Begin a b = absurd (omega (arith, ap third (sym a ∙ b)))
 request_one ws Abort Commit a b = absurd (omega (arith, ap third (sym a ∙ b)))
-request_one ws Abort (Do d) a b = absurd (omega (arith, ap third (sym a ∙ (asked_word ws d b).1)))
-request_one ws (Do c) Begin a b = absurd (omega (arith, ap third (sym (asked_word ws c a).1 ∙ b)))
-request_one ws (Do c) Commit a b = absurd (omega (arith, ap third (sym (asked_word ws c a).1 ∙ b)))
-request_one ws (Do c) Abort a b = absurd (omega (arith, ap third (sym (asked_word ws c a).1 ∙ b)))
+request_one ws Abort (Do d) a b = absurd (which ws _ d a b)
+request_one ws (Do c) Begin a b = absurd (which ws _ c b a)
+request_one ws (Do c) Commit a b = absurd (which ws _ c b a)
+request_one ws (Do c) Abort a b = absurd (which ws _ c b a)
 
 call_one : (ws : List Word) (n m : List ℕ) (r q : Request) → SpellsCall ws n r → SpellsCall ws m q → ◌≡◌ {A = List ℕ × Request} (n, r) (m, q)
 call_one ws n m r q a b =

@@ -1,16 +1,17 @@
 -- A line that is written spells what it was written for.
 use Rattle.std.proofs.Common.{◌≡◌, ℕ, ◌<◌, ◌≤◌, true, List, [], ◌∷◌, ◌++◌, length, Some, codes, refl, sym, ap, subst, arith, length-append}
 use Rattle.std.specs.List.{AllByRecursion, list_all}
-use Rattle.cg_name.specs.Path.{path_word}
 use Rattle.cg_name.specs.SaveName.{IsSaveName}
 use Rattle.cg_name.specs.Word.{FitsLine, is_plain_byte}
-use Rattle.cg_text.specs.Words.{Word, IsWrittenLine, line_of}
-use Rattle.cg_model.specs.Command.{Command, Create, Remove, Migrate, Subtree, Freeze, Cpus, Show, Online, MaxDescendants, MaxDepth}
-use Rattle.cg_core.specs.Record.{Request, Begin, Do, Commit, Abort}
-use Rattle.cg_script.specs.Request.{SpellsRequest, SpellsLine, request_text, request_line, CanBeAsked, CanAskFor, WrittenLinesAreSpelled}
 use Rattle.cg_name.proofs.Written.{plain_fits}
-use Rattle.cg_name.proofs.WrittenPaths.{path_fits, spelled}
+use Rattle.cg_text.specs.Words.{Word, IsWrittenLine, line_of}
 use Rattle.cg_text.proofs.WrittenLines.{says_line}
+use Rattle.cg_model.specs.Command.{Command}
+use Rattle.cg_core.specs.Record.{Request, Begin, Do, Commit, Abort}
+use Rattle.cg_command_text.specs.CommandText.{SpellsCommand, CanAskFor}
+use Rattle.cg_command_text.proofs.Keywords.{keyword, written_keyword}
+use Rattle.cg_command_text.proofs.WrittenCommands.{written_commands_are_spelled}
+use Rattle.cg_script.specs.Request.{SpellsRequest, SpellsLine, request_text, request_line, CanBeAsked, WrittenLinesAreSpelled}
 use Rattle.cg_script.proofs.SessionNames.{save_name_fits, save_name_says}
 
 -- words that a request's text joins and that spell it
@@ -19,36 +20,29 @@ record Written (r : Request) : Type 0 where
   more : List Word
   joined : line_of (first ∷ more) ≡ request_text r
   fit : AllByRecursion FitsLine (first ∷ more)
-  short : length (request_text r) ≤ 32777
+  short : length (request_text r) ≤ 65519
   request : SpellsRequest (first ∷ more) r
 
-keyword : (w : Word) → 0 < length w → list_all is_plain_byte w ≡ true → AllByRecursion FitsLine (w ∷ [])
-keyword w some plain = (plain_fits w some plain, tt)
+alone : (w : Word) → 0 < length w → list_all is_plain_byte w ≡ true → AllByRecursion FitsLine (w ∷ [])
+alone w some plain = (plain_fits w some plain, tt)
 
 command_written : (c : Command) → CanAskFor c → Written (Do c)
-command_written (Create p) h = record {
-  first = codes "create";
-  more = path_word p ∷ [];
-  joined = refl;
-  fit = (plain_fits (codes "create") (omega arith) refl, ((path_fits p h).0, tt));
-  short = omega (arith, (path_fits p h).1);
-  request = (path_word p, refl, spelled p h);
-}
-command_written (Remove p) h = absurd h
-command_written (Migrate k p) h = absurd h
-command_written (Subtree p ops) h = absurd h
-command_written (Freeze p v) h = absurd h
-command_written (Cpus p v) h = absurd h
-command_written (Show p f) h = absurd h
-command_written (Online v) h = absurd h
-command_written (MaxDescendants p v) h = absurd h
-command_written (MaxDepth p v) h = absurd h
+command_written c h =
+    let w = written_commands_are_spelled c h in
+    let k = written_keyword c in record {
+      first = keyword c;
+      more = k.0;
+      joined = ap line_of (sym k.1);
+      fit = subst (AllByRecursion FitsLine) k.1 w.fit;
+      short = w.short;
+      request = subst (λ ws. SpellsCommand ws c) k.1 w.spelled;
+    }
 
 request_written : (r : Request) → CanBeAsked r → Written r
-request_written Begin h = record { first = codes "begin"; more = []; joined = refl; fit = keyword (codes "begin") (omega arith) refl; short = omega arith; request = refl }
+request_written Begin h = record { first = codes "begin"; more = []; joined = refl; fit = alone (codes "begin") (omega arith) refl; short = omega arith; request = refl }
 request_written (Do c) h = command_written c h
-request_written Commit h = record { first = codes "commit"; more = []; joined = refl; fit = keyword (codes "commit") (omega arith) refl; short = omega arith; request = refl }
-request_written Abort h = record { first = codes "abort"; more = []; joined = refl; fit = keyword (codes "abort") (omega arith) refl; short = omega arith; request = refl }
+request_written Commit h = record { first = codes "commit"; more = []; joined = refl; fit = alone (codes "commit") (omega arith) refl; short = omega arith; request = refl }
+request_written Abort h = record { first = codes "abort"; more = []; joined = refl; fit = alone (codes "abort") (omega arith) refl; short = omega arith; request = refl }
 
 line_spelled : (n : List ℕ) (r : Request) → IsSaveName n → Written r → SpellsLine (request_line n r) (Some (n, r))
 line_spelled n r h w =

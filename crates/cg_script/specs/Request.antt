@@ -1,15 +1,9 @@
 -- The lines of a schedule: which session asks for what.
 use Rattle.std.specs.Prelude.{◌≡◌, ℕ, List, [], ◌∷◌, ◌++◌, Option, Some, None, codes, ⊤}
-use Rattle.cg_name.specs.Path.{IsPath, SpellsPath, path_word}
 use Rattle.cg_name.specs.SaveName.{IsSaveName}
 use Rattle.cg_text.specs.Words.{Word, Says}
-use Rattle.cg_model.specs.Command.{Command, Create}
 use Rattle.cg_core.specs.Record.{Request, Begin, Do, Commit, Abort}
-
--- the words of a command; the others can't be asked for yet
-abbrev pub SpellsCommand : List Word → Command → Type 0
-SpellsCommand ws (Create p) = (path : Word) × (ws ≡ codes "create" ∷ path ∷ []) × SpellsPath path p
-SpellsCommand ws _ = ⊥
+use Rattle.cg_command_text.specs.CommandText.{SpellsCommand, CanAskFor, command_text}
 
 -- the words behind the session's name
 abbrev pub SpellsRequest : List Word → Request → Type 0
@@ -30,11 +24,6 @@ abbrev pub SpellsLine : List ℕ → Option (List ℕ × Request) → Type 0
 SpellsLine line None = Says line None
 SpellsLine line (Some call) = (ws : List Word) × Says line (Some ws) × SpellsCall ws call.0 call.1
 
--- the text of a command, its words with single spaces; the others can't be asked for yet
-abbrev pub command_text : Command → List ℕ
-command_text (Create p) = codes "create " ++ path_word p
-command_text _ = []
-
 -- what stands behind the session's name
 abbrev pub request_text : Request → List ℕ
 request_text Begin = codes "begin"
@@ -45,11 +34,6 @@ request_text Abort = codes "abort"
 -- the line in which a session asks, without its newline
 abbrev pub request_line : List ℕ → Request → List ℕ
 request_line n r = n ++ 32 ∷ request_text r
-
--- a command that can be asked for: a creation, at a path of a group
-abbrev pub CanAskFor : Command → Type 0
-CanAskFor (Create p) = IsPath p
-CanAskFor _ = ⊥
 
 -- a request that can be asked for
 abbrev pub CanBeAsked : Request → Type 0

@@ -8,8 +8,9 @@ ghost use Rattle.cg_core.specs.Record as model;
 ghost use Rattle.cg_script.specs.Request.{SpellsCall, SpellsLine, SpellsRequest, request_line, request_text, OneCall, WrittenLinesAreSpelled};
 
 use crate::session::SessionName;
-use cg_core::{Command, Request};
-use cg_name::{Path, Refusal, or_truncate};
+use cg_command_text::{read_command, write_command};
+use cg_core::Request;
+use cg_name::{Refusal, or_truncate};
 use cg_text::read_words;
 use std::alloc::{AllocError, Global};
 
@@ -50,10 +51,7 @@ fn read_request(alloc: Global, words: &[&str]) -> Result<Request, Refusal>
         ["begin"] => Ok(Request::Begin),
         ["commit"] => Ok(Request::Commit),
         ["abort"] => Ok(Request::Abort),
-        ["create", path] => Ok(Request::Do(Command::Create {
-            path: Path::read(alloc, path)?,
-        })),
-        _ => Err(Refusal::Syntax),
+        _ => Ok(Request::Do(read_command(alloc, words)?)),
     }
 }
 
@@ -99,10 +97,7 @@ fn append_request(request: &Request, out: &mut Vec<u8>) -> Result<(), AllocError
         Request::Begin => out.extend_from_slice(b"begin")?,
         Request::Commit => out.extend_from_slice(b"commit")?,
         Request::Abort => out.extend_from_slice(b"abort")?,
-        Request::Do(Command::Create { path }) => {
-            out.extend_from_slice(b"create ")?;
-            path.write(out)?;
-        }
+        Request::Do(command) => write_command(command, out)?,
     }
     Ok(())
 }

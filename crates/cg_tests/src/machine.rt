@@ -1,5 +1,6 @@
 //! The worlds that a machine gives: of its tree, and the one that it was opened on.
-use cg_core::{Command, Core, Request, SessionId};
+use cg_command::Command;
+use cg_core::{Core, Request, SessionId};
 use cg_name::{Path, Refusal};
 use cg_world::World;
 use std::alloc::{AllocError, Global};

@@ -22,13 +22,33 @@ fn rewrite(alloc: Global, line: &str, out: &mut Vec<u8>) -> Result<(), Refusal> 
     }
 }
 
-const LINES: [(&str, &str); 6] = [
+const LINES: [(&str, &str); 20] = [
     ("\t A\t begin ", "> A begin"),
     ("s-1_Z  create \"/\"\r", "> s-1_Z create /"),
     ("A create /é", "> A create \"/é\""),
     ("B create \"/a \\\"b/#\"", "> B create \"/a \\\"b/#\""),
     ("0123456789abcdef commit", "> 0123456789abcdef commit"),
     ("B abort", "> B abort"),
+    ("A remove\t\"/a\"\r", "> A remove /a"),
+    ("A migrate 0010 /a", "> A migrate 10 /a"),
+    ("A migrate 4194303 /", "> A migrate 4194303 /"),
+    (
+        "A subtree /a +io -cpu  +cpu\t-memory",
+        "> A subtree /a +cpu +io -memory",
+    ),
+    ("A subtree / ", "> A subtree /"),
+    ("A freeze /a 1", "> A freeze /a 1"),
+    ("A freeze /a 0", "> A freeze /a 0"),
+    ("A cpus /a 1,0,5-6,1023", "> A cpus /a 0-1,5-6,1023"),
+    ("A cpus /a", "> A cpus /a"),
+    ("A show / cgroup.procs", "> A show / cgroup.procs"),
+    ("A online 003,2", "> A online 2-3"),
+    (
+        "A maxdescendants /a 2147483647",
+        "> A maxdescendants /a max",
+    ),
+    ("A maxdescendants /a 010", "> A maxdescendants /a 10"),
+    ("A maxdepth /a max", "> A maxdepth /a max"),
 ];
 
 #[test]
