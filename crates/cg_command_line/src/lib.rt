@@ -16,7 +16,16 @@ const STANDARD_INPUT: &str = "-";
 #[derive(Clone, Copy, Debug)]
 pub enum Asked<'a> {
     /// To replay the schedule over the world that these words name.
-    Replay { world: &'a str, schedule: &'a str },
+    Replay {
+        world: &'a str,
+        schedule: &'a str,
+    },
+    /// To show this file of the group at this path, in the world that the first word names.
+    Show {
+        world: &'a str,
+        path: &'a str,
+        file: &'a str,
+    },
 }
 
 /// Why the words of a command line ask for nothing.
@@ -53,6 +62,11 @@ pub fn read_command_line<'a, R: Print + Eprint + AllocGlobal>(
                 world: given.get_str("WORLD").unwrap_or(STANDARD_INPUT),
                 schedule: given.get_str("SCHEDULE").unwrap_or(STANDARD_INPUT),
             }),
+            Some(("show", given)) => Ok(Asked::Show {
+                world: given.get_str("WORLD").unwrap_or(STANDARD_INPUT),
+                path: given.get_str("PATH").unwrap_or_default(),
+                file: given.get_str("FILE").unwrap_or_default(),
+            }),
             _ => Err(Unasked::Refused),
         },
         Err(error) => Err(answer(rt, &error)),
@@ -76,10 +90,13 @@ fn answer<R: Print + Eprint>(rt: &R, error: &Error) -> Unasked {
 fn command<'a>(alloc: Global) -> Result<Command<'a>, AllocError> {
     Command::new(alloc, "cgtx")
         .bin_name("cgtx")?
-        .about("Replays schedules of requests against a tree of control groups.")
+        .about(
+            "Replays schedules of requests against a tree of control groups, and shows its files.",
+        )
         .subcommand_required(true)
         .disable_help_subcommand(true)
-        .subcommand(replay(alloc)?)
+        .subcommand(replay(alloc)?)?
+        .subcommand(show(alloc)?)
 }
 
 fn replay<'a>(alloc: Global) -> Result<Command<'a>, AllocError> {
@@ -93,4 +110,21 @@ fn replay<'a>(alloc: Global) -> Result<Command<'a>, AllocError> {
         .about("Replays a schedule over a world, and writes the answers and the world that results")
         .arg(world)?
         .arg(schedule)
+}
+
+fn show<'a>(alloc: Global) -> Result<Command<'a>, AllocError> {
+    let world = Arg::new(alloc, "WORLD")
+        .required(true)
+        .help("The file of the world, or - for standard input");
+    let path = Arg::new(alloc, "PATH")
+        .required(true)
+        .help("The path of the group, as in a world");
+    let file = Arg::new(alloc, "FILE")
+        .required(true)
+        .help("The name of the file, such as cgroup.procs");
+    Command::new(alloc, "show")
+        .about("Shows an interface file of a group of a world")
+        .arg(world)?
+        .arg(path)?
+        .arg(file)
 }

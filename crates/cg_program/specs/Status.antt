@@ -1,9 +1,9 @@
 -- The exit statuses.
 use Rattle.std.specs.Prelude.{ℕ}
 use Rattle.cg_program.specs.declared.status.Status.{Status}
-use Rattle.cg_program.specs.declared.status.Status.TheVariants.{Done, Syntax, Failed}
+use Rattle.cg_program.specs.declared.status.Status.TheVariants.{Done, Refused, Failed}
 
 abbrev pub code_of : Status → ℕ
 code_of Done = 0
-code_of Syntax = 2
+code_of Refused = 2
 code_of Failed = 3

@@ -4,9 +4,11 @@
 mod inputs;
 mod named;
 mod replaying;
+mod showing;
 mod status;
 
 pub use inputs::{Inputs, OpenFault};
-pub use named::replay_named;
+pub use named::{replay_named, show_named};
 pub use replaying::{replay_to, stop};
+pub use showing::show_to;
 pub use status::Status;

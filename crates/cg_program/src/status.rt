@@ -10,8 +10,9 @@ use cg_script::ScriptFault;
 pub enum Status {
     /// What was asked for is done.
     Done,
-    /// A text isn't in its grammar, the command line among them.
-    Syntax,
+    /// What was asked for can't be done: a text isn't in its grammar, the command line among them, or there is no such
+    /// group or file.
+    Refused,
     /// Memory, a source or the sink failed.
     Failed,
 }
@@ -23,7 +24,7 @@ impl Status {
     {
         match self {
             Status::Done => 0,
-            Status::Syntax => 2,
+            Status::Refused => 2,
             Status::Failed => 3,
         }
     }
@@ -33,7 +34,7 @@ impl Status {
         ensures { code_of result ≡ status_of fault }
     {
         match fault {
-            ScriptFault::Syntax => Status::Syntax,
+            ScriptFault::Syntax => Status::Refused,
             ScriptFault::Memory | ScriptFault::ReadFault | ScriptFault::WriteFault => {
                 Status::Failed
             }

@@ -1,0 +1,17 @@
+use Rattle.std.proofs.Common.{inr, ap}
+use Rattle.std.specs.Prelude.{Err}
+use Rattle.cg_program.specs.ShowFault.{refusal_of_fault}
+use Rattle.cg_program.proofs.ShowLemmas.{told_read_fault, told_write_fault}
+use Rattle.cg_program.proofs.showing.show_to.Goals as goal
+
+pub returns-in-Err-clause-told : goal.returns-in-Err-clause-told
+returns-in-Err-clause-told g c =
+    let e = c.in-Err.fault in
+    inr (
+      refusal_of_fault e,
+      c.tell.ensures.status,
+      c.tell.ensures.line,
+      c.in-Err.ensures.why,
+      λ h. c.in-Err.ensures.reads (ap (λ f. Err f) (told_read_fault e h)),
+      λ h. c.in-Err.ensures.writes (ap (λ f. Err f) (told_write_fault e h)),
+    )
