@@ -9,12 +9,12 @@ use Rattle.cg_model.specs.Groups.{exceeds_depth, reaches_descendants}
 use Rattle.cg_model.specs.Tree.{Tree, group}
 use Rattle.cg_tree.specs.Prefix.{prefix_group}
 
-next_along : {A : Type 0} (f : Path → A) (p : Path) (n : ℕ) → n < length p → drop n (along f p) ≡ f (take n p) ∷ drop (suc n) (along f p)
+pub next_along : {A : Type 0} (f : Path → A) (p : Path) (n : ℕ) → n < length p → drop n (along f p) ≡ f (take n p) ∷ drop (suc n) (along f p)
 next_along f [] n h = absurd (omega (arith, h))
 next_along f (m ∷ p) zero h = refl
 next_along f (m ∷ p) (suc n) h = next_along (λ q. f (m ∷ q)) p n (omega (arith, h))
 
-end_along : {A : Type 0} (f : Path → A) (p : Path) → drop (length p) (along f p) ≡ []
+pub end_along : {A : Type 0} (f : Path → A) (p : Path) → drop (length p) (along f p) ≡ []
 end_along f [] = refl
 end_along f (m ∷ p) = end_along (λ q. f (m ∷ q)) p
 
@@ -31,7 +31,7 @@ next_depth f p n b h e =
 pub end_of_depths : (f : Path → Bool) (p : Path) (n : ℕ) → n ≡ length p → from_depth f p n ≡ list_any (λ b. b) []
 end_of_depths f p n e = ap (from_depth f p) e ∙ ap (list_any (λ b. b)) (end_along f p)
 
-within : (T : Tree) (p : Path) (n : ℕ) → n < length p → prefix_group T p n ≡ group T (take n p)
+pub within : (T : Tree) (p : Path) (n : ℕ) → n < length p → prefix_group T p n ≡ group T (take n p)
 within T p n h = let b : nat_le n (length p) ≡ true = grind (arith, nat_tests, h) in ap (λ t. cond t (group T (take n p)) None) b
 
 -- what is asked of the group at the first n names is asked of that path

@@ -1,4 +1,4 @@
-mod Above
+pub mod Above
 mod Applying
 mod Changing
 mod Emptying

@@ -1,0 +1,5 @@
+pub mod Holding
+pub mod Holdings
+pub mod Marks
+pub mod Meaning
+pub mod Stacks
