@@ -5,6 +5,10 @@ pub mod LawsOfGroups
 pub mod BusyExactly
 -- live commands of different open transactions change keys that don't touch
 pub mod LiveKeysApart
+-- the machine is the one that its history gives, whole
+pub mod WholeMachine
+-- a step from a history goes on by the records alone
+pub mod SteppingOn
 -- which groups a list of changes makes or takes away
 mod GroupChanges
 -- stages of unwinding: the tree is sound, and taking an item off leads to the next stage

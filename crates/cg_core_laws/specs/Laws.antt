@@ -17,6 +17,7 @@ use Rattle.cg_model.specs.Room.{inverse}
 use Rattle.cg_model_laws.specs.Laws.{KeysDontTouch}
 use Rattle.cg_core_laws.specs.Room.{RoomKept, CommitSweeps}
 use Rattle.cg_core_laws.specs.Stacks.{IsOfHistory}
+use Rattle.cg_core_laws.specs.MachineOf.{machine_of}
 use Rattle.cg_core_laws.specs.Ends.{EndsAll}
 use Rattle.cg_core_laws.specs.Reordered.{DropsOut, NewestClashesWithNone, PulledToTheFront}
 use Rattle.cg_core_laws.specs.Serial.{AreProper, IsSerial, IsFaithful, GoesBack, OthersStay, CommitsStay}
@@ -36,6 +37,10 @@ Faithful = AfterAnySteps (λ opening m. IsFaithful cgroups opening m)
 -- stacks, numbers and counts are those of the history
 abbrev pub OfHistory : Type 0
 OfHistory = AfterAnySteps (λ opening m. IsOfHistory cgroups opening m)
+
+-- and so it is that of its history, whole
+abbrev pub WholeOfHistory : Type 0
+WholeOfHistory = AfterAnySteps (λ opening m. m ≡ machine_of opening m.bound m.history)
 
 -- the bound stays that of the opening
 abbrev pub BoundKept : Type 0

@@ -1,6 +1,7 @@
 pub mod Unwind
 pub mod Serial
 pub mod Stacks
+pub mod MachineOf
 pub mod Reordered
 pub mod Room
 pub mod Scripts

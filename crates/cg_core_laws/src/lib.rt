@@ -3,7 +3,8 @@
 #![tactic(auto)]
 
 ghost use Rattle.cg_core_laws.specs.Scripts.{CommittedScripts, CommitTrees, TreesOfScripts};
-ghost use Rattle.cg_core_laws.specs.Laws.{AnswersAreSteps, BoundKept, BusyExactly, CommitsKept, Drop, Faithful, Front, GoingBack, KeysOfOthersApart, NewestDrop, OfHistory, OthersUntouched, Roomy, SchedulesEnd, Serial, Sweeping};
+ghost use Rattle.cg_core_laws.specs.MachineOf.{StepsByHistory};
+ghost use Rattle.cg_core_laws.specs.Laws.{AnswersAreSteps, BoundKept, BusyExactly, CommitsKept, Drop, Faithful, Front, GoingBack, KeysOfOthersApart, NewestDrop, OfHistory, OthersUntouched, Roomy, SchedulesEnd, Serial, Sweeping, WholeOfHistory};
 
 /// The tree is the opening tree changed by the surviving commands alone; every inverse fits when its turn comes, in
 /// whatever interleaving open transactions are unwound; and the committed transactions in commit order, then each open one
@@ -35,7 +36,14 @@ pub fn the_machine_is_faithful_to_its_history()
 /// that each command had when it was accepted; and the bound is the opening's.
 pub fn the_machine_is_that_of_its_history()
     ensures history { OfHistory }
+    ensures whole { WholeOfHistory }
     ensures bound { BoundKept }
+{}
+
+/// From a history that steps lead to, the answer to the next request is the reply that the history gives, and the machine
+/// after it is that of the history with its record, where there is one; steps lead to that history too.
+pub fn steps_go_on_by_the_history()
+    ensures { StepsByHistory }
 {}
 
 /// Undo, Back, Abort and Commit are never refused where they have something to do, and take off exactly their own items.

@@ -35,7 +35,7 @@ module _ (y : System) where
   answers_are_steps m [] = refl
   answers_are_steps m (r ∷ rs) = answers_are_steps (step y m r.0 r.1).0 rs
 
-  steps_more : (m : Machine y) (rs qs : List (ℕ × Request y)) → steps y m (rs ++ qs) ≡ steps y (steps y m rs) qs
+  pub steps_more : (m : Machine y) (rs qs : List (ℕ × Request y)) → steps y m (rs ++ qs) ≡ steps y (steps y m rs) qs
   steps_more m [] qs = refl
   steps_more m (r ∷ rs) qs = steps_more (step y m r.0 r.1).0 rs qs
 
