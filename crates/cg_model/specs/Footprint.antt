@@ -77,3 +77,13 @@ footprint (Show p f) T = S p ∷ []
 footprint (Online v) T = X [] ∷ []
 footprint (MaxDescendants p v) T = X p ∷ []
 footprint (MaxDepth p v) T = X p ∷ []
+
+-- the group whose subtree the footprint marks to be changed, if it marks one: that mark stands first
+abbrev pub changed : List Mark → Option Path
+changed (X p ∷ f) = Some p
+changed _ = None
+
+-- it marks the subtree of the group at p
+abbrev pub marks_subtree : Path → List Mark → Bool
+marks_subtree p (X q ∷ f) = same_path p q
+marks_subtree p _ = false
