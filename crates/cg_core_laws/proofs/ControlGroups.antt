@@ -19,3 +19,9 @@ mod NeededAbove
 mod Sweeping
 -- going back has room at every turn
 pub mod RoomForGoingBack
+-- a command that marks a group's subtree changes the group, or finds it there
+mod MarkedGroups
+-- no group is needed by two transactions
+mod NeededOnce
+-- taking an item off lets go what nothing needs any more
+pub mod LettingGo

@@ -16,6 +16,7 @@ use Rattle.cg_model.specs.Output.{answers}
 use Rattle.cg_model.specs.Room.{inverse}
 use Rattle.cg_model_laws.specs.Laws.{KeysDontTouch}
 use Rattle.cg_core_laws.specs.Room.{RoomKept, CommitSweeps}
+use Rattle.cg_core_laws.specs.LettingGo.{NewestLetsGo, OldestLetsGo}
 use Rattle.cg_core_laws.specs.Stacks.{IsOfHistory}
 use Rattle.cg_core_laws.specs.MachineOf.{machine_of}
 use Rattle.cg_core_laws.specs.Ends.{EndsAll}
@@ -106,3 +107,11 @@ Roomy = AfterAnySteps RoomKept
 -- so it is while a commit drains its stack
 abbrev pub Sweeping : Type 0
 Sweeping = AfterAnySteps CommitSweeps
+
+-- a lock on a group's subtree tells whether going back may still need the group's entry
+abbrev pub LettingGo : Type 0
+LettingGo = AfterAnySteps NewestLetsGo
+
+-- so it does while a commit drains its stack
+abbrev pub Draining : Type 0
+Draining = AfterAnySteps OldestLetsGo

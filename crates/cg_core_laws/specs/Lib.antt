@@ -4,6 +4,7 @@ pub mod Stacks
 pub mod MachineOf
 pub mod Reordered
 pub mod Room
+pub mod LettingGo
 pub mod Scripts
 pub mod Ends
 pub mod Laws

@@ -4,7 +4,7 @@ use Rattle.cg_model.specs.Tree.{Tree}
 use Rattle.cg_model.specs.Sound.{Sound}
 use Rattle.cg_model.specs.Footprint.{footprint}
 use Rattle.cg_model.specs.Cgroups.{cgroups}
-use Rattle.cg_model.specs.History.{Request, Record, Answer, History, is_recorded, named_in, IsProperRequest}
+use Rattle.cg_model.specs.History.{Request, Answer, History, is_recorded, named_in, IsProperRequest}
 use Rattle.cg_model.specs.Opens.{opens, begins, commits, transaction_in}
 use Rattle.cg_model.specs.Live.{Item, Ran, AtSavepoint, live}
 use Rattle.cg_model.specs.Run.{tree_of}

@@ -4,7 +4,7 @@
 
 ghost use Rattle.cg_core_laws.specs.Scripts.{CommittedScripts, CommitTrees, TreesOfScripts};
 ghost use Rattle.cg_core_laws.specs.MachineOf.{StepsByHistory};
-ghost use Rattle.cg_core_laws.specs.Laws.{AnswersAreSteps, BoundKept, BusyExactly, CommitsKept, Drop, Faithful, Front, GoingBack, KeysOfOthersApart, NewestDrop, OfHistory, OthersUntouched, Roomy, SchedulesEnd, Serial, Sweeping, WholeOfHistory};
+ghost use Rattle.cg_core_laws.specs.Laws.{AnswersAreSteps, BoundKept, BusyExactly, CommitsKept, Draining, Drop, Faithful, Front, GoingBack, KeysOfOthersApart, LettingGo, NewestDrop, OfHistory, OthersUntouched, Roomy, SchedulesEnd, Serial, Sweeping, WholeOfHistory};
 
 /// The tree is the opening tree changed by the surviving commands alone; every inverse fits when its turn comes, in
 /// whatever interleaving open transactions are unwound; and the committed transactions in commit order, then each open one
@@ -100,4 +100,13 @@ pub fn going_back_has_room()
 /// While a commit drains its stack from the oldest item, the entries that nobody needs may be swept.
 pub fn commits_may_sweep()
     ensures { Sweeping }
+{}
+
+/// The lock that a transaction holds on a group's subtree tells whether going back may still need the group's entry. An item
+/// that is taken off, the newest one at every stage of unwinding or the oldest one while a commit drains its stack, lets go
+/// exactly the entry of the group whose subtree its command marked, where no item left on that stack marks it and there is no
+/// group; and that entry may be swept.
+pub fn a_lock_tells_what_going_back_needs()
+    ensures newest { LettingGo }
+    ensures oldest { Draining }
 {}

@@ -47,7 +47,7 @@ module _ {O : Tree} {ts : List ℕ} (u : ℕ) (is_open : among u ts ≡ true) (p
       let cs : List Change = inverse O x in
       let before : Tree = undone cs T in
       let next : Stage O ts (with_items u (l ++ older) stacks) before = next_stage stage u x (l ++ older) is_open e in
-      let top : IsNewest cs T = newest stage u x (l ++ older) is_open e in
+      let top : IsNewest x cs T = newest stage u x (l ++ older) is_open e in
       elim (changes_group p cs) as (λ b. changes_group p cs ≡ b → (b || needs_group O p l) ≡ true) [
         | true ↦ λ own. refl
         | false ↦ λ other.

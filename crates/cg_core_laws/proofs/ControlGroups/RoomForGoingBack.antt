@@ -19,7 +19,7 @@ use Rattle.cg_core_laws.proofs.ControlGroups.UnwindingStages.{Stage, stage_sound
 use Rattle.cg_core_laws.proofs.ControlGroups.Sweeping.{sweeps}
 
 -- what one of these transactions needs, some of them needs
-needed_by : (f : ℕ → Bool) (t : ℕ) (ts : List ℕ) → among t ts ≡ true → f t ≡ true → list_any f ts ≡ true
+pub needed_by : (f : ℕ → Bool) (t : ℕ) (ts : List ℕ) → among t ts ≡ true → f t ≡ true → list_any f ts ≡ true
 needed_by f t [] m e = m
 needed_by f t (u ∷ us) m e = elim (or_cases _ _ m) [
   | inl k ↦ or_left _ _ (subst (λ v. f v ≡ true) (eqb-true t u k) e)
@@ -48,7 +48,7 @@ module _ (O : Tree) (ts : List ℕ) (stacks : ℕ → Items cgroups) (T : Tree) 
         at false k = refl
 
     -- taking the newest item off frees the entries of the groups that it changes at most
-    freed : (p : Path) → entry p ≡ true → (has_entry O (with_items t l stacks) ts before p ≡ true) ⊎ (changes_group p (inverse O x) ≡ true)
+    pub freed : (p : Path) → entry p ≡ true → (has_entry O (with_items t l stacks) ts before p ≡ true) ⊎ (changes_group p (inverse O x) ≡ true)
     freed p h = at (changes_group p (inverse O x)) refl
       where
         at : (b : Bool) → changes_group p (inverse O x) ≡ b → (has_entry O (with_items t l stacks) ts before p ≡ true) ⊎ (b ≡ true)
@@ -61,7 +61,7 @@ module _ (O : Tree) (ts : List ℕ) (stacks : ℕ → Items cgroups) (T : Tree) 
       own_entry p e = or_right _ _ (needed_by (λ u. needs_group O p (stacks u)) t ts is_open (ap (needs_group O p) stack ∙ or_left _ _ e))
 
       -- the groups that are there before its command have entries
-      entry_before : (p : Path) → is_some (group before p) ≡ true → entry p ≡ true
+      pub entry_before : (p : Path) → is_some (group before p) ≡ true → entry p ≡ true
       entry_before p g = at (changes_group p (inverse O x)) refl
         where
           at : (b : Bool) → changes_group p (inverse O x) ≡ b → entry p ≡ true
@@ -73,7 +73,7 @@ module _ (O : Tree) (ts : List ℕ) (stacks : ℕ → Items cgroups) (T : Tree) 
         place_entry : (k : ℕ) (p : Path) → place_of before k ≡ Some p → entry p ≡ true
         place_entry k p e = let (s, there, admitted) = (stage_sound (next_stage stage t x l is_open stack)).process k p e in entry_before p (ap is_some there)
 
-        turn : RoomFor entry (inverse O x)
+        pub turn : RoomFor entry (inverse O x)
         turn = room_from entry before place_entry (inverse O x) (newest stage t x l is_open stack).tell own_entry
 
   has_room : Stage O ts stacks T → HasRoom O stacks ts T
@@ -95,7 +95,7 @@ module _ (O : Tree) (ts : List ℕ) where
   )
 
 module _ (O : Tree) (m : Machine cgroups) (serial : IsSerial cgroups O m) where
-  first_stage : Stage O (numbers (opens m.history)) (λ t. live t m.history) m.tree
+  pub first_stage : Stage O (numbers (opens m.history)) (λ t. live t m.history) m.tree
   first_stage = record { unwinds = serial.unwinds }
 
   pub room_kept : RoomKept O m

@@ -3,7 +3,7 @@ use Rattle.std.proofs.Common.{◌≡◌, ℕ, Bool, true, false, cond, List, [],
 use Rattle.cg_model.specs.Tree.{Tree}
 use Rattle.cg_model.specs.Sound.{Sound}
 use Rattle.cg_model.specs.Cgroups.{cgroups}
-use Rattle.cg_model.specs.History.{Request, Answer, History, is_recorded, IsProperRequest}
+use Rattle.cg_model.specs.History.{Request, History, is_recorded, IsProperRequest}
 use Rattle.cg_model.specs.Reply.{reply}
 use Rattle.cg_model.specs.Machine.{Machine, opened, step, steps}
 use Rattle.cg_core_laws.specs.MachineOf.{machine_of, Reached, with_record, history_after, StepsOn, StepsByHistory}

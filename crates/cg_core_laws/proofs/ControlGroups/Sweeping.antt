@@ -33,7 +33,7 @@ listed P q (p ∷ ps) h e = elim (or_cases _ _ e) [
 ]
 
 -- where each of these transactions that needs the one path needs the other, some that need the one need the other
-needed_with : (f g : ℕ → Bool) (ts us : List ℕ) → ((u : ℕ) → among u ts ≡ true → f u ≡ true → g u ≡ true) → ((u : ℕ) → among u us ≡ true → among u ts ≡ true) → list_any f us ≡ true → list_any g us ≡ true
+pub needed_with : (f g : ℕ → Bool) (ts us : List ℕ) → ((u : ℕ) → among u ts ≡ true → f u ≡ true → g u ≡ true) → ((u : ℕ) → among u us ≡ true → among u ts ≡ true) → list_any f us ≡ true → list_any g us ≡ true
 needed_with f g ts [] h within e = e
 needed_with f g ts (u ∷ us) h within e = elim (or_cases _ _ e) [
   | inl here ↦ or_left _ _ (h u (within u (or_left _ _ (eq-eqb u u refl))) here)
