@@ -1,7 +1,8 @@
 -- What a list of holdings says is how often each stands there.
-use Rattle.std.proofs.Common.{◌≡◌, ℕ, suc, ◌+◌, ◌&&◌, Bool, true, false, cond, inl, inr, List, [], ◌∷◌, Option, Some, refl, sym, subst, ap, ◌∙◌, arith, unwrap_or}
-use Rattle.std.proofs.lemmas.Bool.{eqb-true, eq-eqb, and_parts, and_from}
+use Rattle.std.proofs.Common.{◌≡◌, ℕ, suc, ◌+◌, ◌<◌, ◌&&◌, ◌||◌, Bool, true, false, cond, inl, inr, List, [], ◌∷◌, Option, Some, refl, sym, subst, ap, ◌∙◌, arith, unwrap_or}
+use Rattle.std.proofs.lemmas.Bool.{false≢true, eqb-true, eq-eqb, and_parts, and_from}
 use Rattle.std.proofs.lemmas.List.Sums.{sum_by-cons}
+use Rattle.std.specs.List.{list_any}
 use Rattle.std.specs.Ordering.{eq_by_cmp}
 use Rattle.cg_maps.specs.FiniteMap.{get}
 use Rattle.cg_maps.proofs.Maps as maps
@@ -80,3 +81,27 @@ counted_in_list u m (h ∷ hs) =
 -- the table that the list tells
 pub told : (T : Holdings) (hs : List Holding) → table_of hs ≡ T → (u : ℕ) (m : Mark) → holdings T u m ≡ held u m hs
 told T hs says u m = ap (λ x. holdings x u m) (sym says) ∙ counted_in_list u m hs
+
+-- some holding here is one of m by u where u holds m at all
+pub any_held : (u : ℕ) (m : Mark) (hs : List Holding) → list_any (is_holding u m) hs ≡ true → 0 < held u m hs
+any_held u m [] e = absurd (false≢true e)
+any_held u m (h ∷ hs) e =
+    elim (is_holding u m h) as (λ b. is_holding u m h ≡ b → b || list_any (is_holding u m) hs ≡ true → 0 < held u m (h ∷ hs)) [
+      | true ↦ λ is y.
+          let one : held u m (h ∷ hs) ≡ 1 + held u m hs = held-cons u m h hs ∙ ap (λ b. cond b 1 0 + held u m hs) is in
+          omega (arith, one)
+      | false ↦ λ is y.
+          let none : held u m (h ∷ hs) ≡ 0 + held u m hs = held-cons u m h hs ∙ ap (λ b. cond b 1 0 + held u m hs) is in
+          let rest : 0 < held u m hs = any_held u m hs y in
+          omega (arith, none, rest)
+    ] refl e
+
+pub held_any : (u : ℕ) (m : Mark) (hs : List Holding) → 0 < held u m hs → list_any (is_holding u m) hs ≡ true
+held_any u m [] low = absurd (omega (arith, low))
+held_any u m (h ∷ hs) low =
+    elim (is_holding u m h) as (λ b. is_holding u m h ≡ b → b || list_any (is_holding u m) hs ≡ true) [
+      | true ↦ λ is. refl
+      | false ↦ λ is.
+          let none : held u m (h ∷ hs) ≡ 0 + held u m hs = held-cons u m h hs ∙ ap (λ b. cond b 1 0 + held u m hs) is in
+          held_any u m hs (omega (arith, none, low))
+    ] refl

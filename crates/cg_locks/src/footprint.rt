@@ -1,11 +1,11 @@
 //! Footprints: the marks under which one command runs.
-ghost use Rattle.std.specs.Prelude.{◌≡◌, ◌∷◌, ◌++◌, [], IfOk, OnOk, map, take};
+ghost use Rattle.std.specs.Prelude.{◌≡◌, ◌∷◌, ◌++◌, [], IfOk, OnOk, map, option_copied, take};
 ghost use Rattle.std.specs.List.{count_by, list_any};
 ghost use Rattle.cg_command.specs.Meaning.{command_of};
 ghost use Rattle.cg_locks.specs.Marks.{times};
 ghost use Rattle.cg_locks.specs.Meaning.{mark_of};
 ghost use Rattle.cg_model.specs.Footprint as model;
-ghost use Rattle.cg_model.specs.Footprint.{clash, count_of, counts, footprint, is_limited, old_place};
+ghost use Rattle.cg_model.specs.Footprint.{changed, clash, count_of, counts, footprint, is_limited, old_place};
 ghost use Rattle.cg_model.specs.Tree.{place_of};
 ghost use Rattle.cg_tree.specs.Prefix.{prefix_group};
 
@@ -64,6 +64,17 @@ impl Footprint {
         ensures { map mark_of result.now ≡ self.now }
     {
         self.marks.as_slice()
+    }
+
+    /// The path of the group whose subtree these mark to be changed, if they mark one: that mark stands first. Takes no
+    /// memory.
+    pub fn changed(&self) -> Option<&Path>
+        ensures { option_copied result ≡ changed self.now }
+    {
+        match self.marks().first() {
+            Some(Mark::Changed(path)) => Some(path),
+            _ => None,
+        }
     }
 
     // Whether the mark clashes with one of these.

@@ -7,7 +7,7 @@ ghost use Rattle.cg_model.specs.Footprint as model;
 
 use crate::footprint::Footprint;
 use crate::mark::Mark;
-use cg_name::TxnNumber;
+use cg_name::{Path, TxnNumber};
 use std::alloc::{AllocError, Global};
 
 // One transaction holds one mark, once.
@@ -23,6 +23,13 @@ impl Holding {
         ensures { result ≡ is_holding transaction.0 (mark_of mark.now) self.now }
     {
         transaction == self.transaction && mark.is_same(&self.mark)
+    }
+
+    // Whether this transaction holds here the subtree of the group at the path, to change it.
+    pub(crate) fn is_of_changed(&self, transaction: TxnNumber, path: &Path) -> bool
+        ensures { result ≡ is_holding transaction.0 (model.X path.now) self.now }
+    {
+        transaction == self.transaction && self.mark.is_changed(path)
     }
 
     // Whether another transaction holds here what clashes with the footprint.

@@ -3,6 +3,7 @@
 ghost use Rattle.std.specs.Prelude.{◌≡◌, IfOk};
 ghost use Rattle.cg_locks.specs.Marks.{same_mark};
 ghost use Rattle.cg_locks.specs.Meaning.{mark_of};
+ghost use Rattle.cg_model.specs.Footprint as model;
 ghost use Rattle.cg_model.specs.Footprint.{clash};
 
 use cg_name::Path;
@@ -75,6 +76,16 @@ impl Mark {
             (Mark::Stays(path), Mark::Stays(other)) => path == other,
             (Mark::Process(pid), Mark::Process(other)) => pid == other,
             (Mark::Descendants(path), Mark::Descendants(other)) => path == other,
+            _ => false,
+        }
+    }
+    // Whether this is the mark of the subtree of the group at the path, to be changed.
+    #[tactic(auto, using(crate::proofs::Marks::compared))]
+    pub(crate) fn is_changed(&self, path: &Path) -> bool
+        ensures { result ≡ same_mark (model.X path.now) (mark_of self.now) }
+    {
+        match self {
+            Mark::Changed(own) => path == own,
             _ => false,
         }
     }

@@ -1,5 +1,5 @@
 //! The table of the marks that open transactions hold.
-ghost use Rattle.std.specs.Prelude.{◌≡◌, ◌≢◌, ◌+◌, ◌==◌, ◌≤◌, ◌↔◌, ℕ, cond, IfSome, IsTrue, OnErr, OnOk, None};
+ghost use Rattle.std.specs.Prelude.{◌≡◌, ◌≢◌, ◌+◌, ◌==◌, ◌<◌, ◌≤◌, ◌↔◌, ℕ, cond, IfSome, IsTrue, OnErr, OnOk, None};
 ghost use Rattle.cg_locks.specs.Holdings.{holdings, HoldsAll, HoldsMark, IsInTheWay};
 ghost use Rattle.cg_locks.specs.Marks.{times};
 ghost use Rattle.cg_locks.specs.Meaning.{mark_of};
@@ -8,7 +8,7 @@ ghost use Rattle.cg_model.specs.Footprint as model;
 use crate::footprint::Footprint;
 use crate::holding::{Holding, count, least_other, push_all, remove_all};
 use crate::mark::Mark;
-use cg_name::TxnNumber;
+use cg_name::{Path, TxnNumber};
 use std::alloc::{AllocError, Global};
 use std::marker::Model;
 
@@ -68,6 +68,15 @@ impl LockTable {
         ensures { IsTrue result ↔ HoldsMark self.now transaction.0 footprint.now (mark_of mark.now) }
     {
         footprint.times(mark) <= count(&self.held, transaction, mark)
+    }
+
+    /// Whether the transaction holds the subtree of the group at the path, to change it. Takes no memory.
+    pub fn holds_changed(&self, transaction: TxnNumber, path: &Path) -> bool
+        ensures { IsTrue result ↔ (0 < holdings self.now transaction.0 (model.X path.now)) }
+    {
+        self.held
+            .iter()
+            .any(|holding| holding.is_of_changed(transaction, path))
     }
 
     /// Adds one holding by the transaction of each mark of the footprint. An error, where there is no memory for them, leaves
