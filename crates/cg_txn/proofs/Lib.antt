@@ -1,0 +1,4 @@
+mod Changed
+mod Names
+pub mod Steps
+mod Taking

@@ -1,0 +1,14 @@
+-- What is left goes back to where all went.
+use Rattle.std.proofs.Common.{◌≡◌, length}
+use Rattle.cg_txn.specs.Items.{names_of, stack_of}
+use Rattle.cg_txn.specs.Stack.{next_back}
+use Rattle.cg_txn.proofs.items.take_back.Given as goal
+
+abbrev pub invariant-loop-item : goal.invariant-loop-item
+invariant-loop-item l = record {
+  value : next_back l.name (stack_of l.items.items) ≡ next_back l.name (stack_of l.fn.items.items);
+  names : l.names.keys ≡ names_of l.items.items;
+}
+
+abbrev pub decreases-loop-item : goal.decreases-loop-item
+decreases-loop-item l = length l.items.items

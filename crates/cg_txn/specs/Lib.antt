@@ -1,0 +1,4 @@
+pub mod Code
+pub mod Items
+pub mod Laws
+pub mod Stack
