@@ -1,0 +1,4 @@
+mod Backwards
+pub mod Keeping
+mod Letting
+pub mod Steps

@@ -1,0 +1,3 @@
+pub mod LettingGo
+pub mod Steps
+pub mod TakingOff

@@ -1,0 +1,44 @@
+//! What one command holds is let go: at the end of its transaction, or as it is taken off.
+ghost use Rattle.cg_rollback.specs.LettingGo.{IsLetGo, MayLetGo};
+ghost use Rattle.cg_rollback.specs.TakingOff.{ComesOff, MayComeOff};
+
+use cg_locks::{Footprint, LockTable};
+use cg_name::TxnNumber;
+use cg_tree::Tree;
+use cg_txn::Entry;
+
+// Lets go of the footprint of one command of the transaction, and of the dead entry that it kept, where no other command of
+// the transaction keeps it.
+fn let_go(tree: &mut Tree, locks: &mut LockTable, number: TxnNumber, footprint: &Footprint)
+    requires { MayLetGo number.0 footprint.now tree.old locks.old }
+    ensures { IsLetGo number.0 footprint.now tree.old locks.old tree.new locks.new }
+{
+    locks.release(number, footprint);
+    if let Some(path) = footprint.changed() {
+        if !locks.holds_changed(number, path) {
+            tree.sweep(path);
+        }
+    }
+}
+
+// Takes one command of the transaction off: what it changed is put back, and what it holds is let go.
+pub(crate) fn take_off(tree: &mut Tree, locks: &mut LockTable, number: TxnNumber, entry: Entry)
+    requires { MayComeOff number.0 entry.inverse entry.footprint tree.old locks.old }
+    ensures { ComesOff number.0 entry.inverse entry.footprint tree.old locks.old tree.new locks.new }
+{
+    let Entry {
+        inverse,
+        footprint,
+        ..
+    } = entry;
+    inverse.undo(tree);
+    let_go(tree, locks, number, &footprint);
+}
+
+// Lets go of what one command of the transaction holds; the command stays done.
+pub(crate) fn keep(tree: &mut Tree, locks: &mut LockTable, number: TxnNumber, entry: Entry)
+    requires { MayLetGo number.0 entry.footprint tree.old locks.old }
+    ensures { IsLetGo number.0 entry.footprint tree.old locks.old tree.new locks.new }
+{
+    let_go(tree, locks, number, &entry.footprint);
+}
