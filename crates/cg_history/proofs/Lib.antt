@@ -1,0 +1,2 @@
+mod BySession
+mod Records

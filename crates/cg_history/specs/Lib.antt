@@ -1,0 +1,4 @@
+pub mod Code
+pub mod Meaning
+pub mod SessionMap
+pub mod SessionMapLends

@@ -1,0 +1,83 @@
+//! Values by sessions.
+ghost use Rattle.std.specs.Prelude.{◌≡◌, ◌∷◌, [], length, None, option_copied, OnErr, OnOk};
+ghost use Rattle.std.specs.Borrow.{sem};
+ghost use Rattle.std.specs.Option.{option_copied_mut};
+ghost use Rattle.cg_history.specs.SessionMap.{found, without};
+
+use crate::session::SessionId;
+use indexmap::IndexMap;
+use std::alloc::{AllocError, Global};
+use std::marker::Model;
+
+/// Values by sessions, in the order in which they came.
+#[derive(Drop)]
+pub struct SessionMap<V> {
+    entries: IndexMap<SessionId, V>,
+}
+
+impl<V> Model for SessionMap<V> {
+    ghost use Rattle.std.specs.Prelude.{List, ℕ};
+    ghost use Rattle.std.specs.Coded.{coded×, coded_ℕ, coded_list};
+    ghost use Rattle.cg_history.specs.SessionMap.{by_session, IsOnceEach};
+
+    ghost Value = { List (ℕ × V) };
+
+    ghost coded = { coded_list (coded× coded_ℕ V.code) };
+
+    ghost view = { λ m. by_session m.entries.entries };
+
+    ghost invariant = { λ m. IsOnceEach (by_session m.entries.entries) };
+}
+
+impl<V: Drop> SessionMap<V> {
+    ghost use Rattle.cg_history.specs.SessionMapLends.{lends_value};
+
+    /// A map with no value.
+    pub fn new(alloc: Global) -> SessionMap<V>
+        ensures { result ≡ [] }
+    {
+        SessionMap {
+            entries: IndexMap::new(alloc),
+        }
+    }
+
+    /// How many sessions have a value.
+    pub fn len(&self) -> usize
+        ensures { result ≡ length self.now }
+    {
+        self.entries.len()
+    }
+
+    /// The value of the session, if it has one.
+    pub fn get(&self, session: SessionId) -> Option<&V>
+        ensures { option_copied result ≡ found session.0 self.now }
+    {
+        self.entries.get(&session)
+    }
+
+    /// The value of the session, to be written, if it has one.
+    pub fn get_mut(&mut self, session: SessionId) -> Option<&mut V>
+        ensures* writes_back { sem 𝓛 (lends_value V.row self.entry session.0 result) }
+        ensures value { option_copied_mut result ≡ found session.0 self.old }
+    {
+        self.entries.get_mut(&session)
+    }
+
+    /// Gives a value to the session, which has none. An error, where there is no memory for it, leaves the map as it was.
+    pub fn insert(&mut self, session: SessionId, value: V) -> Result<(), AllocError>
+        requires { found session.0 self.old ≡ None }
+        ensures ok { OnOk result (self.new ≡ (session.0, value) ∷ self.old) }
+        ensures err { OnErr result (self.new ≡ self.old) }
+    {
+        self.entries.insert(session, value)?;
+        Ok(())
+    }
+
+    /// Takes the value of the session out, if it has one.
+    pub fn remove(&mut self, session: SessionId) -> Option<V>
+        ensures value { result ≡ found session.0 self.old }
+        ensures removed { self.new ≡ without session.0 self.old }
+    {
+        self.entries.shift_remove(&session)
+    }
+}
