@@ -13,6 +13,8 @@ mod devices;
 #[cfg(test)]
 mod files;
 #[cfg(test)]
+mod locks;
+#[cfg(test)]
 mod machine;
 #[cfg(test)]
 mod path_maps;
@@ -22,5 +24,7 @@ mod paths;
 mod printed;
 #[cfg(test)]
 mod requests;
+#[cfg(test)]
+mod transactions;
 #[cfg(test)]
 mod trees;
