@@ -10,9 +10,9 @@ pub mod WholeMachine
 -- a step from a history goes on by the records alone
 pub mod SteppingOn
 -- which groups a list of changes makes or takes away
-mod GroupChanges
+pub mod GroupChanges
 -- stages of unwinding: the tree is sound, and taking an item off leads to the next stage
-mod UnwindingStages
+pub mod UnwindingStages
 -- below a path that is absent there is no group, and what is needed below it is needed with it
 mod NeededAbove
 -- what is neither a group nor needed may be swept
@@ -20,7 +20,7 @@ mod Sweeping
 -- going back has room at every turn
 pub mod RoomForGoingBack
 -- a command that marks a group's subtree changes the group, or finds it there
-mod MarkedGroups
+pub mod MarkedGroups
 -- no group is needed by two transactions
 mod NeededOnce
 -- taking an item off lets go what nothing needs any more

@@ -8,7 +8,7 @@ mod TakingOff
 -- stack entries that don't clash can be swapped, so those of one transaction can be gathered
 mod Gathering
 -- the open transactions: each once, and without one of them
-mod OpenTransactions
+pub mod OpenTransactions
 -- a command answers in a part of the work as in the whole, where it clashes with none of the rest
 mod AnswersInParts
 -- the machine with one log of all that stands, in place of stacks

@@ -1,4 +1,4 @@
 -- The theory of interleaving, of any system of commands.
-mod Interleaving
+pub mod Interleaving
 -- The tree of control groups as such a system, and the room that going back needs.
-mod ControlGroups
+pub mod ControlGroups

@@ -47,9 +47,13 @@ WholeOfHistory = AfterAnySteps (λ opening m. m ≡ machine_of opening m.bound m
 abbrev pub BoundKept : Type 0
 BoundKept = (opening : Tree) (bound : ℕ) (requests : List (ℕ × Request cgroups)) → AreProper requests → (steps cgroups (opened cgroups opening bound) requests).bound ≡ bound
 
--- a session with an open transaction goes back, and ends it, unrefused
+-- each session with an open transaction goes back, and ends it, unrefused
+abbrev pub GoBack : Machine cgroups → Type 0
+GoBack m = (s t : ℕ) → transaction_in s (opens m.history) ≡ Some t → GoesBack cgroups m s t
+
+-- so it is after any steps
 abbrev pub GoingBack : Type 0
-GoingBack = AfterAnySteps (λ opening m. (s t : ℕ) → transaction_in s (opens m.history) ≡ Some t → GoesBack cgroups m s t)
+GoingBack = AfterAnySteps (λ opening m. GoBack m)
 
 -- no step changes the stack of another transaction
 abbrev pub OthersUntouched : Type 0
@@ -67,9 +71,13 @@ pub record IsLeastInTheWay (opening : Tree) (m : Machine cgroups) (t : ℕ) (c :
 
 -- Busy is answered exactly where a transaction is in the way and no earlier refusal applies: the session has a transaction,
 -- and the history isn't full
+abbrev pub IsBusyExactly : Tree → Machine cgroups → Type 0
+IsBusyExactly opening m = (s t : ℕ) → transaction_in s (opens m.history) ≡ Some t → is_full m.bound m.history ≡ false → (c : Command) (u : ℕ)
+    → ((step cgroups m s (Do c)).1 ≡ Refused (Busy (record { 0 = u }))) ↔ IsLeastInTheWay opening m t c u
+
+-- so it is after any steps
 abbrev pub BusyExactly : Type 0
-BusyExactly = AfterAnySteps (λ opening m. (s t : ℕ) → transaction_in s (opens m.history) ≡ Some t → is_full m.bound m.history ≡ false → (c : Command) (u : ℕ)
-    → ((step cgroups m s (Do c)).1 ≡ Refused (Busy (record { 0 = u }))) ↔ IsLeastInTheWay opening m t c u)
+BusyExactly = AfterAnySteps IsBusyExactly
 
 -- no key that a live command changed touches a key that a live command of another open transaction changed
 abbrev pub LiveKeysApart : Tree → Machine cgroups → Type 0

@@ -30,7 +30,7 @@ there_replaced f None (Some s) = refl
 there_replaced f (Some v) (Some s) = refl
 
 -- a put of any other key leaves whether a group is there
-there_put : (p : Path) (k : Key) (v : Option (ValueOf k)) (T : Tree) → is_group_key p k ≡ false → is_some (group (put k v T) p) ≡ is_some (group T p)
+pub there_put : (p : Path) (k : Key) (v : Option (ValueOf k)) (T : Tree) → is_group_key p k ≡ false → is_some (group (put k v T) p) ≡ is_some (group T p)
 there_put p (Group q) v T e = ap is_some (group_apart T q v p (paths_differ p q e))
 there_put p (Place k) v T e = refl
 there_put p (Part q f) v T e = elim (path_cases p q) [

@@ -77,7 +77,7 @@ module _ (T : Tree) (p : Path) where
   of_one true e = refl
   of_one false e = e
 
-  none_emptied : (q : Path) (s t : Controllers) (es : List (Path × Settings)) → changes_group p (emptied es (control_change q s t)) ≡ false
+  pub none_emptied : (q : Path) (s t : Controllers) (es : List (Path × Settings)) → changes_group p (emptied es (control_change q s t)) ≡ false
   none_emptied q s t [] = refl
   none_emptied q s t (e ∷ es) = cond_both (is_empty_set e.1.cpus) _ (change (Part e.0 keys.Cpus) (Some e.1.cpus) (Some empty) ∷ emptied es (control_change q s t)) (λ cs. changes_group p cs ≡ false) (λ _. none_emptied q s t es) (λ _. none_emptied q s t es)
 

@@ -27,7 +27,7 @@ needed_by f t (u ∷ us) m e = elim (or_cases _ _ m) [
 ]
 
 -- what each needs alike, they need alike
-needed_alike : (f g : ℕ → Bool) → ((u : ℕ) → f u ≡ g u) → (ts : List ℕ) → list_any f ts ≡ list_any g ts
+pub needed_alike : (f g : ℕ → Bool) → ((u : ℕ) → f u ≡ g u) → (ts : List ℕ) → list_any f ts ≡ list_any g ts
 needed_alike f g same [] = refl
 needed_alike f g same (t ∷ ts) = λ i. same t i || needed_alike f g same ts i
 
