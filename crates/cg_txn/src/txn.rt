@@ -67,6 +67,13 @@ impl Txn {
         self.items.len()
     }
 
+    /// Whether a savepoint with this name stands. Takes no memory.
+    pub fn has_savepoint(&self, name: SaveName) -> bool
+        ensures { result ≡ has_savepoint name self.now.items }
+    {
+        self.names.contains(&name)
+    }
+
     /// Reserves room for one more item, so that a command can be put on the stack whatever comes between. An error, where
     /// there is no memory, leaves the stack as it was.
     pub fn reserve(&mut self) -> Result<(), AllocError>
@@ -110,7 +117,7 @@ impl Txn {
         ensures refusals { IfErr result (λ e. (e ≡ Refusal.NameTaken) ⊎ (e ≡ Refusal.Memory)) }
         ensures err { OnErr result (self.new ≡ self.old) }
     {
-        if self.names.contains(&name) {
+        if self.has_savepoint(name) {
             return Err(Refusal::NameTaken);
         }
         if self.items.reserve(1).is_err() {
@@ -152,7 +159,7 @@ impl Txn {
         ensures there { OnOk result (has_savepoint name self.old.items ≡ true) }
         ensures err { OnErr result (self.new ≡ self.old) }
     {
-        if !self.names.contains(&name) {
+        if !self.has_savepoint(name) {
             return Err(Refusal::NoSavepoint);
         }
         self.reserved = false;
