@@ -1,10 +1,10 @@
 -- Entries, the oldest first, as values by sessions.
-use Rattle.std.proofs.Common.{◌≡◌, ℕ, ◌+◌, ◌==◌, Bool, true, false, cond, List, [], ◌∷◌, ◌++◌, length, Option, Some, None, is_some, refl, sym, ap, subst, ◌∙◌, true≢false, arith}
+use Rattle.std.proofs.Common.{◌≡◌, ℕ, ◌+◌, ◌==◌, Bool, true, false, cond, List, [], ◌∷◌, ◌++◌, length, Option, Some, None, is_some, option_map, slice_get, refl, sym, ap, ◌∙◌, true≢false, arith}
 use Rattle.std.proofs.lemmas.Bool.{eqb-true, eq-eqb}
 use Rattle.std.proofs.lemmas.List.{length-append}
 use Rattle.std.specs.Map.{lookup, remove_entry, set_value}
 use Rattle.cg_history.specs.declared.session.SessionId.{SessionId}
-use Rattle.cg_history.specs.SessionMap.{by_session, found, with_value, without, IsOnceEach}
+use Rattle.cg_history.specs.SessionMap.{by_session, found, oldest, with_value, without, IsOnceEach}
 
 -- sessions are compared as numbers
 eqb-swapped : (a b : ℕ) → (a == b) ≡ (b == a)
@@ -66,6 +66,18 @@ module _ {V : Type 0} where
           nothing_else : (o : Option V) → or_else o None ≡ o
           nothing_else None = refl
           nothing_else (Some v) = refl
+
+  -- ---- the session that came first
+
+  oldest-append : (xs : List (ℕ × V)) (x : ℕ × V) → oldest (xs ++ x ∷ []) ≡ Some x.0
+  oldest-append [] x = refl
+  oldest-append (y ∷ []) x = refl
+  oldest-append (y ∷ z ∷ xs) x = oldest-append (z ∷ xs) x
+
+  -- it is that of the first entry
+  pub first_came : (es : List (SessionId × V)) (e : SessionId × V) → slice_get es 0 ≡ Some e → oldest (by_session es) ≡ Some e.0.0
+  first_came [] e is = absurd (true≢false (sym (ap is_some is)))
+  first_came (f ∷ es) e is = oldest-append (by_session es) (f.0.0, f.1) ∙ ap (option_map (λ (x : SessionId × V). x.0.0)) is
 
   -- ---- a value is written
 

@@ -1,2 +1,2 @@
-mod BySession
-mod Records
+pub mod BySession
+pub mod Records

@@ -26,3 +26,9 @@ without s (x ∷ xs) = cond (x.0 == s) (without s xs) (x ∷ without s xs)
 abbrev pub IsOnceEach : {V : Type 0} → List (ℕ × V) → Type 0
 IsOnceEach [] = Unit {0}
 IsOnceEach (x ∷ xs) = (found x.0 xs ≡ None) × IsOnceEach xs
+
+-- the session that came first, whose entry stands last
+abbrev pub oldest : {V : Type 0} → List (ℕ × V) → Option ℕ
+oldest [] = None
+oldest (x ∷ []) = Some x.0
+oldest (x ∷ y ∷ xs) = oldest (y ∷ xs)

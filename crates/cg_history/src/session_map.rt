@@ -1,8 +1,8 @@
 //! Values by sessions.
-ghost use Rattle.std.specs.Prelude.{◌≡◌, ◌∷◌, [], length, None, option_copied, OnErr, OnOk};
+ghost use Rattle.std.specs.Prelude.{◌≡◌, ◌∷◌, [], length, None, option_copied, option_map, OnErr, OnOk};
 ghost use Rattle.std.specs.Borrow.{sem};
 ghost use Rattle.std.specs.Option.{option_copied_mut};
-ghost use Rattle.cg_history.specs.SessionMap.{found, without};
+ghost use Rattle.cg_history.specs.SessionMap.{found, oldest, without};
 
 use crate::session::SessionId;
 use indexmap::IndexMap;
@@ -46,6 +46,16 @@ impl<V: Drop> SessionMap<V> {
         ensures { result ≡ length self.now }
     {
         self.entries.len()
+    }
+
+    /// The session that came first of those that have a value.
+    pub fn oldest(&self) -> Option<SessionId>
+        ensures { option_map (λ s. s.0) result ≡ oldest self.now }
+    {
+        match self.entries.first() {
+            Some((session, _)) => Some(*session),
+            None => None,
+        }
     }
 
     /// The value of the session, if it has one.

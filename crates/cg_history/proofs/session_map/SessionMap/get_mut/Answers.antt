@@ -1,4 +1,4 @@
-use Rattle.std.proofs.Common.{◌∙◌, Option, Some, None, IsSome, OnSome, refl, sym, ap, subst}
+use Rattle.std.proofs.Common.{◌∙◌, Option, Some, None, OnSome, refl, sym, ap, subst}
 use Rattle.std.specs.Borrow.{MutBor}
 use Rattle.cg_history.specs.SessionMap.{by_session, found, with_value, IsOnceEach}
 use Rattle.cg_history.proofs.BySession.{found_is, written_is, written_once}
