@@ -1,3 +1,19 @@
-mod Refusing
-mod MachineLaws
-mod WorkedRows
+mod AtHistory
+mod Begun
+mod EndingByAbort
+mod EndingByCommit
+mod EndingRefused
+mod Endings
+mod Open
+mod Opened
+mod RunCommands
+mod ReturningByOne
+mod ReturningParts
+mod ReturningToSavepoints
+mod Savepoints
+mod Showing
+mod Slots
+-- What the tree and the lock table hold at each stage.
+mod Stages
+mod Stepping
+mod TheLaws

@@ -1,7 +1,8 @@
-pub mod Record
-pub mod Machine
-pub mod MachineCode
-pub mod Laws
-pub mod Rows
+pub mod Answers
+pub mod Code
 pub mod Core
-pub mod Meaning
+pub mod Doing
+pub mod Parts
+pub mod Refusing
+pub mod Stage
+pub mod State

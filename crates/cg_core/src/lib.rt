@@ -1,12 +1,13 @@
-//! The machine: one transaction at a time over a tree, with its history.
+//! The machine: any number of open transactions over one tree, with subtree locks, savepoints and going back by inverses.
 #![tactic(auto)]
 
-mod applying;
-mod history;
-pub mod laws;
+mod beginning;
+mod doing;
+mod ending;
 mod machine;
-mod record;
+mod returning;
+mod running;
+mod saving;
 
-pub use history::History;
+pub use cg_history::{Answer, Record, Request, SessionId};
 pub use machine::Core;
-pub use record::{Answer, Record, Request, SessionId};

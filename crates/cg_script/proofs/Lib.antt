@@ -1,3 +1,5 @@
+mod Endings
+mod MachineOutputs
 mod OneLine
 mod Playing
 mod SessionNames

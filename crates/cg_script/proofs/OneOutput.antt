@@ -3,8 +3,9 @@ use Rattle.std.proofs.Common.{◌≡◌, ℕ, List, [], ◌∷◌, ◌++◌, Opt
 use Rattle.cg_name.specs.Refusal.{refusal_text}
 use Rattle.cg_name.specs.declared.refusal.Refusal.TheVariants.{Syntax}
 use Rattle.cg_text.specs.Words.{lines_of}
-use Rattle.cg_core.specs.Machine.{stepped}
-use Rattle.cg_core.specs.Record.{Request}
+use Rattle.cg_core.specs.State.{after}
+use Rattle.cg_model.specs.Cgroups.{cgroups}
+use Rattle.cg_model.specs.History.{Request}
 use Rattle.cg_script.specs.Request.{SpellsLine}
 use Rattle.cg_script.specs.Replay.{Replay, IsOneTooMany, session_number, with_name, newline, answer_line, Answers, AnswersAll, ending_text, opened, OneOutput, SomeOutput}
 use Rattle.cg_script.proofs.Playing.{answers_one}
@@ -25,7 +26,7 @@ lines_one (line ∷ lines) s t u a b x y =
 pub one_output : OneOutput
 one_output T limit text a b x y =
     let same = lines_one (lines_of text) (opened T limit) x.last y.last x.answers y.answers x.answered y.answered in
-    x.whole ∙ ap (λ w. w ++ ending_text x.last.machine) same.0 ∙ ap (λ (r : Replay). y.answers ++ ending_text r.machine) same.1 ∙ sym y.whole
+    x.whole ∙ ap (λ w. w ++ ending_text x.last.core) same.0 ∙ ap (λ (r : Replay). y.answers ++ ending_text r.core) same.1 ∙ sym y.whole
 
 -- ---- there can't be none
 
@@ -36,12 +37,12 @@ abbrev Answered : Replay → List ℕ → Type 0
 Answered s line = (out : List ℕ) × (t : Replay) × Answers s line out t
 
 -- a line that has no answer has none as a line outside the grammar
-too_many : (s : Replay) (line : List ℕ) → (Answered s line → ⊥) → (c : List ℕ × Request) → SpellsLine line (Some c) → (k : Option ℕ) → session_number s.names c.0 ≡ k → session_number s.names c.0 ≡ None
+too_many : (s : Replay) (line : List ℕ) → (Answered s line → ⊥) → (c : List ℕ × Request cgroups) → SpellsLine line (Some c) → (k : Option ℕ) → session_number s.names c.0 ≡ k → session_number s.names c.0 ≡ None
 too_many s line none c h None e = e
 too_many s line none c h (Some k) e =
-    absurd (none (answer_line s.machine k c.1, record { names = with_name s.names c.0; machine = stepped s.machine k c.1 }, inr (inl (c.0, c.1, k, h, (e, refl, refl)))))
+    absurd (none (answer_line s.core k c.1, record { names = with_name s.names c.0; core = after s.core k c.1 }, inr (inl (c.0, c.1, k, h, (e, refl, refl)))))
 
-outside : (s : Replay) (line : List ℕ) → (Answered s line → ⊥) → (call : Option (List ℕ × Request)) → SpellsLine line call → IsOneTooMany s.names call
+outside : (s : Replay) (line : List ℕ) → (Answered s line → ⊥) → (call : Option (List ℕ × Request cgroups)) → SpellsLine line call → IsOneTooMany s.names call
 outside s line none None h = none ([], s, inl (h, refl, refl))
 outside s line none (Some c) h = too_many s line none c h (session_number s.names c.0) refl
 
@@ -61,4 +62,4 @@ surely_all (line ∷ lines) s none =
 pub some_output : SomeOutput
 some_output T limit text none =
     surely_all (lines_of text) (opened T limit) (λ all.
-    none (all.0 ++ ending_text all.1.machine) (record { answers = all.0; last = all.1; answered = all.2; whole = refl }))
+    none (all.0 ++ ending_text all.1.core) (record { answers = all.0; last = all.1; answered = all.2; whole = refl }))

@@ -4,8 +4,9 @@ use Rattle.std.specs.Result.{is_err}
 use Rattle.std.specs.Io.KnownBytes.{Appends, Keeps}
 use Rattle.cg_name.specs.Refusal.{refusal_text}
 use Rattle.cg_name.specs.declared.refusal.Refusal.TheVariants.{Syntax}
-use Rattle.cg_core.specs.Record.{Request}
-use Rattle.cg_core.specs.Machine.{stepped}
+use Rattle.cg_core.specs.State.{after}
+use Rattle.cg_model.specs.Cgroups.{cgroups}
+use Rattle.cg_model.specs.History.{Request}
 use Rattle.cg_lines.specs.Device.{AppendsFront, AppendsTo, WritesWhole}
 use Rattle.cg_text.specs.Words.{lines_of}
 use Rattle.cg_lines.specs.Lines.{TakesKnownLine, LosesOfLine}
@@ -30,12 +31,12 @@ answers_one s t u line a b (inl h) (inr (inl k)) = absurd (none_some (line_one l
 answers_one s t u line a b (inl h) (inr (inr k)) = absurd (k.0 None h.0)
 answers_one s t u line a b (inr (inl h)) (inl k) = absurd (none_some (line_one line None (Some (h.0, h.1)) k.0 h.3))
 answers_one s t u line a b (inr (inl h)) (inr (inl k)) =
-    let call : ◌≡◌ {A = List ℕ × Request} (h.0, h.1) (k.0, k.1) = some_same (line_one line (Some (h.0, h.1)) (Some (k.0, k.1)) h.3 k.3) in
+    let call : ◌≡◌ {A = List ℕ × Request cgroups} (h.0, h.1) (k.0, k.1) = some_same (line_one line (Some (h.0, h.1)) (Some (k.0, k.1)) h.3 k.3) in
     let name : h.0 ≡ k.0 = ap (λ c. c.0) call in
     let request : h.1 ≡ k.1 = ap (λ c. c.1) call in
     let number : h.2 ≡ k.2 = some_same (sym h.4.0 ∙ ap (session_number s.names) name ∙ k.4.0) in (
-      h.4.1 ∙ (λ i. answer_line s.machine (number i) (request i)) ∙ sym k.4.1,
-      h.4.2 ∙ (λ i. record { names = with_name s.names (name i); machine = stepped s.machine (number i) (request i) }) ∙ sym k.4.2,
+      h.4.1 ∙ (λ i. answer_line s.core (number i) (request i)) ∙ sym k.4.1,
+      h.4.2 ∙ (λ i. record { names = with_name s.names (name i); core = after s.core (number i) (request i) }) ∙ sym k.4.2,
     )
 answers_one s t u line a b (inr (inl h)) (inr (inr k)) = absurd (none_some (sym (k.0 (Some (h.0, h.1)) h.3) ∙ h.4.0))
 answers_one s t u line a b (inr (inr h)) (inl k) = absurd (h.0 None k.0)
@@ -54,11 +55,11 @@ answered_too_long (Some text) None line before out s h e = absurd h
 answered_too_long (Some text) (Some rest) line before out s h e =
     (refusal_text Syntax ++ newline, e, (h.1, lines_of-begins text h.1 rest h.3, inr (inr (refused, refl, refl))))
   where
-    too_long : (call : Option (List ℕ × Request)) → SpellsLine h.1 call → length h.1 ≤ 65536
+    too_long : (call : Option (List ℕ × Request cgroups)) → SpellsLine h.1 call → length h.1 ≤ 65536
     too_long None k = k.0.short
     too_long (Some c) k = k.1.0.short
 
-    refused : (call : Option (List ℕ × Request)) → SpellsLine h.1 call → IsOneTooMany s.names call
+    refused : (call : Option (List ℕ × Request cgroups)) → SpellsLine h.1 call → IsOneTooMany s.names call
     refused call k = let long = h.2 in let short = too_long call k in absurd (omega arith)
 
 -- a line of at most 65,536 bytes is a text's first
@@ -184,8 +185,8 @@ module _ (s : Replay) (text out done : List ℕ) (t : Replay) (rest : List (List
   others : (more : List ℕ) × (o.answers ≡ done ++ more) × AnswersAll t rest more o.last
   others = p.back o.answers o.last o.answered
 
-  behind_done : out ≡ done ++ (others.0 ++ ending_text o.last.machine)
-  behind_done = o.whole ∙ ap (λ x. x ++ ending_text o.last.machine) others.1 ∙ append_assoc done others.0 (ending_text o.last.machine)
+  behind_done : out ≡ done ++ (others.0 ++ ending_text o.last.core)
+  behind_done = o.whole ∙ ap (λ x. x ++ ending_text o.last.core) others.1 ∙ append_assoc done others.0 (ending_text o.last.core)
 
 -- some of what waits at most is written behind the rest
 pub front_waiting : (s t : Replay) (text rest a b c : Option (List ℕ)) (waiting : List ℕ) → PlaysKnown s text a b waiting t rest → AppendsFront b c waiting → FrontOf s text a c
@@ -194,36 +195,36 @@ front_waiting s t (Some text) None a b c waiting p w = absurd p
 front_waiting s t (Some text) (Some rest) a b c waiting p w = λ out o.
     let all = others s text out p.0 t (lines_of rest) p.1 o in
     subst (λ bytes. AppendsFront a c bytes) (sym (behind_done s text out p.0 t (lines_of rest) p.1 o))
-    (AppendsFront-longer a c p.0 (all.0 ++ ending_text o.last.machine) (AppendsTo-front a b c p.0 waiting p.2 w))
+    (AppendsFront-longer a c p.0 (all.0 ++ ending_text o.last.core) (AppendsTo-front a b c p.0 waiting p.2 w))
 
 -- behind the last line nothing is answered but the end
 module _ (s t : Replay) (text rest out : List ℕ) (done : List ℕ) (p : Plays s (lines_of text) done t (lines_of rest)) (e : rest ≡ []) (o : IsOutputFrom s text out) where
-  output_at_end : out ≡ done ++ ending_text t.machine
+  output_at_end : out ≡ done ++ ending_text t.core
   output_at_end =
       let q : Plays s (lines_of text) done t [] = subst (λ ls. Plays s (lines_of text) done t ls) (ap lines_of e ∙ lines_of-nil) p in
       let all = others s text out done t [] q o in
-      behind_done s text out done t [] q o ∙ (λ i. done ++ (all.2.0 i ++ ending_text (all.2.1 i).machine))
+      behind_done s text out done t [] q o ∙ (λ i. done ++ (all.2.0 i ++ ending_text (all.2.1 i).core))
 
 -- the end is shown of the last state, by whichever name
-pub shown_at_end : (t u : Replay) (waiting shown : List ℕ) → u ≡ t → shown ≡ waiting ++ ending_text u.machine → shown ≡ waiting ++ ending_text t.machine
-shown_at_end t u waiting shown same e = e ∙ (λ i. waiting ++ ending_text (same i).machine)
+pub shown_at_end : (t u : Replay) (waiting shown : List ℕ) → u ≡ t → shown ≡ waiting ++ ending_text u.core → shown ≡ waiting ++ ending_text t.core
+shown_at_end t u waiting shown same e = e ∙ (λ i. waiting ++ ending_text (same i).core)
 
-pub front_end : (s t : Replay) (text rest a b c : Option (List ℕ)) (waiting : List ℕ) → PlaysKnown s text a b waiting t rest → IfSome rest (λ x. x ≡ []) → AppendsFront b c (waiting ++ ending_text t.machine) → FrontOf s text a c
+pub front_end : (s t : Replay) (text rest a b c : Option (List ℕ)) (waiting : List ℕ) → PlaysKnown s text a b waiting t rest → IfSome rest (λ x. x ≡ []) → AppendsFront b c (waiting ++ ending_text t.core) → FrontOf s text a c
 front_end s t None rest a b c waiting p e w = tt
 front_end s t (Some text) None a b c waiting p e w = absurd p
 front_end s t (Some text) (Some rest) a b c waiting p e w = λ out o.
     subst (λ bytes. AppendsFront a c bytes) (sym (output_at_end s t text rest out p.0 p.1 e o))
-    (AppendsTo-front a b c (p.0 ++ ending_text t.machine) (waiting ++ ending_text t.machine) (AppendsTo-behind a b p.0 waiting (ending_text t.machine) p.2) w)
+    (AppendsTo-front a b c (p.0 ++ ending_text t.core) (waiting ++ ending_text t.core) (AppendsTo-behind a b p.0 waiting (ending_text t.core) p.2) w)
 
-pub whole_end : (s t : Replay) (text rest a b c : Option (List ℕ)) (waiting : List ℕ) → PlaysKnown s text a b waiting t rest → IfSome rest (λ x. x ≡ []) → Appends b c (waiting ++ ending_text t.machine)
+pub whole_end : (s t : Replay) (text rest a b c : Option (List ℕ)) (waiting : List ℕ) → PlaysKnown s text a b waiting t rest → IfSome rest (λ x. x ≡ []) → Appends b c (waiting ++ ending_text t.core)
     → IfSome text (λ x. (out : List ℕ) × IsOutputFrom s x out × Appends a c out)
 whole_end s t None rest a b c waiting p e w = tt
 whole_end s t (Some text) None a b c waiting p e w = absurd p
 whole_end s t (Some text) (Some rest) a b c waiting p e w =
     let q : Plays s (lines_of text) p.0 t [] = subst (λ ls. Plays s (lines_of text) p.0 t ls) (ap lines_of e ∙ lines_of-nil) p.1 in (
-      p.0 ++ ending_text t.machine,
-      record { answers = p.0 ++ []; last = t; answered = q.forth [] t (refl, refl); whole = ap (λ x. x ++ ending_text t.machine) (sym (append-nil p.0)) },
-      AppendsTo-whole a b c (p.0 ++ ending_text t.machine) (waiting ++ ending_text t.machine) (AppendsTo-behind a b p.0 waiting (ending_text t.machine) p.2) w,
+      p.0 ++ ending_text t.core,
+      record { answers = p.0 ++ []; last = t; answered = q.forth [] t (refl, refl); whole = ap (λ x. x ++ ending_text t.core) (sym (append-nil p.0)) },
+      AppendsTo-whole a b c (p.0 ++ ending_text t.core) (waiting ++ ending_text t.core) (AppendsTo-behind a b p.0 waiting (ending_text t.core) p.2) w,
     )
 
 pub front_nothing : (s : Replay) (text a : Option (List ℕ)) → FrontOf s text a a

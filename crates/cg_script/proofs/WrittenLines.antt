@@ -7,7 +7,8 @@ use Rattle.cg_name.proofs.Written.{plain_fits}
 use Rattle.cg_text.specs.Words.{Word, IsWrittenLine, line_of}
 use Rattle.cg_text.proofs.WrittenLines.{says_line}
 use Rattle.cg_model.specs.Command.{Command}
-use Rattle.cg_core.specs.Record.{Request, Begin, Do, Commit, Abort}
+use Rattle.cg_model.specs.Cgroups.{cgroups}
+use Rattle.cg_model.specs.History.{Request, Begin, Do, Save, Back, Undo, Commit, Abort}
 use Rattle.cg_command_text.specs.CommandText.{SpellsCommand, CanAskFor}
 use Rattle.cg_command_text.proofs.Keywords.{keyword, written_keyword}
 use Rattle.cg_command_text.proofs.WrittenCommands.{written_commands_are_spelled}
@@ -15,7 +16,7 @@ use Rattle.cg_script.specs.Request.{SpellsRequest, SpellsLine, request_text, req
 use Rattle.cg_script.proofs.SessionNames.{save_name_fits, save_name_says}
 
 -- words that a request's text joins and that spell it
-record Written (r : Request) : Type 0 where
+record Written (r : Request cgroups) : Type 0 where
   first : Word
   more : List Word
   joined : line_of (first ∷ more) ≡ request_text r
@@ -38,13 +39,27 @@ command_written c h =
       request = subst (λ ws. SpellsCommand ws c) k.1 w.spelled;
     }
 
-request_written : (r : Request) → CanBeAsked r → Written r
+-- a word and the name of a savepoint
+named_written : (w : Word) (n : List ℕ) (r : Request cgroups) → IsSaveName n → 0 < length w → list_all is_plain_byte w ≡ true → length w ≤ 4 → line_of (w ∷ n ∷ []) ≡ request_text r → SpellsRequest (w ∷ n ∷ []) r → Written r
+named_written w n r h some plain four joined request = record {
+  first = w;
+  more = n ∷ [];
+  joined = joined;
+  fit = (plain_fits w some plain, (save_name_fits n h, tt));
+  short = subst (λ (l : List ℕ). length l ≤ 65519) joined (omega (arith, h.short, four, length-append w (32 ∷ n)));
+  request = request;
+}
+
+request_written : (r : Request cgroups) → CanBeAsked r → Written r
 request_written Begin h = record { first = codes "begin"; more = []; joined = refl; fit = alone (codes "begin") (omega arith) refl; short = omega arith; request = refl }
 request_written (Do c) h = command_written c h
+request_written (Save n) h = named_written (codes "save") n (Save n) h (omega arith) refl (omega arith) refl (refl, h)
+request_written (Back n) h = named_written (codes "back") n (Back n) h (omega arith) refl (omega arith) refl (refl, h)
+request_written Undo h = record { first = codes "undo"; more = []; joined = refl; fit = alone (codes "undo") (omega arith) refl; short = omega arith; request = refl }
 request_written Commit h = record { first = codes "commit"; more = []; joined = refl; fit = alone (codes "commit") (omega arith) refl; short = omega arith; request = refl }
 request_written Abort h = record { first = codes "abort"; more = []; joined = refl; fit = alone (codes "abort") (omega arith) refl; short = omega arith; request = refl }
 
-line_spelled : (n : List ℕ) (r : Request) → IsSaveName n → Written r → SpellsLine (request_line n r) (Some (n, r))
+line_spelled : (n : List ℕ) (r : Request cgroups) → IsSaveName n → Written r → SpellsLine (request_line n r) (Some (n, r))
 line_spelled n r h w =
     let ws : List Word = n ∷ w.first ∷ w.more in
     let whole : line_of ws ≡ request_line n r = ap (λ t. n ++ 32 ∷ t) w.joined in

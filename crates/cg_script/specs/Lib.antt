@@ -1,5 +1,7 @@
 pub mod Answer
 pub mod Fault
+pub mod MachineOutput
+pub mod Player
 pub mod Replay
 pub mod ReplayCode
 pub mod Request

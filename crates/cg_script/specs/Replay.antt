@@ -1,5 +1,5 @@
 -- What a schedule's text is answered, over a world: the whole of what is written.
-use Rattle.std.specs.Prelude.{◌≡◌, ◌⊎◌, ℕ, ◌+◌, nat_eq, nat_lt, if◌then◌else◌, List, [], ◌∷◌, ◌++◌, length, Option, Some, None, position}
+use Rattle.std.specs.Prelude.{◌≡◌, ◌⊎◌, ℕ, ◌+◌, nat_eq, nat_lt, if◌then◌else◌, List, [], ◌∷◌, ◌++◌, length, map, reverse, Option, Some, None, position}
 use Rattle.std.specs.List.{list_any}
 use Rattle.std.specs.Cmp.Lexicographic.{pointwise}
 use Rattle.std.specs.Io.KnownBytes.{Appends}
@@ -7,8 +7,11 @@ use Rattle.cg_name.specs.Refusal.{refusal_text}
 use Rattle.cg_name.specs.declared.refusal.Refusal.TheVariants.{Syntax}
 use Rattle.cg_text.specs.Words.{lines_of}
 use Rattle.cg_model.specs.Tree.{Tree}
-use Rattle.cg_core.specs.Record.{Request, Abort}
-use Rattle.cg_core.specs.Machine.{Machine, Open, reply, stepped}
+use Rattle.cg_model.specs.Cgroups.{cgroups}
+use Rattle.cg_model.specs.History.{Request, Abort, History}
+use Rattle.cg_model.specs.Opens.{opens}
+use Rattle.cg_model.specs.Run.{tree_of}
+use Rattle.cg_core.specs.State.{CoreState, reply, after}
 use Rattle.cg_world.specs.World.{world_text}
 use Rattle.cg_script.specs.Answer.{answer_text}
 use Rattle.cg_lines.specs.Lines.{LosesOfLine}
@@ -17,10 +20,10 @@ use Rattle.cg_script.specs.Request.{SpellsLine}
 abbrev pub newline : List ℕ
 newline = 10 ∷ []
 
--- a schedule so far: the names of its sessions in the order in which they first stood in a line, and the machine
+-- a schedule so far: the names of its sessions in the order in which they first stood in a line, and the machine, as a core
 pub record Replay : Type 0 where
   pub names : List (List ℕ)
-  pub machine : Machine
+  pub core : CoreState
 
 -- the number after this place
 abbrev pub number_after : Option ℕ → Option ℕ
@@ -38,33 +41,33 @@ abbrev pub with_name : List (List ℕ) → List ℕ → List (List ℕ)
 with_name names n = if list_any (pointwise nat_eq n) names then names else names ++ n ∷ []
 
 -- a session of a line has no number: its name is one too many
-abbrev pub IsOneTooMany : List (List ℕ) → Option (List ℕ × Request) → Type 0
+abbrev pub IsOneTooMany : List (List ℕ) → Option (List ℕ × Request cgroups) → Type 0
 IsOneTooMany names None = ⊥
 IsOneTooMany names (Some call) = session_number names call.0 ≡ None
 
-abbrev pub answer_line : Machine → ℕ → Request → List ℕ
-answer_line m k r = answer_text (reply m k r) ++ newline
+abbrev pub answer_line : CoreState → ℕ → Request cgroups → List ℕ
+answer_line c k r = answer_text (reply c k r) ++ newline
 
 -- A line says nothing, and nothing is answered;
 abbrev pub Skips : Replay → List ℕ → List ℕ → Replay → Type 0
 Skips s line out t = SpellsLine line None × (out ≡ []) × (t ≡ s)
 
 -- or it is a session's request, and the machine answers;
-abbrev pub AsksAs : Replay → List ℕ → Request → ℕ → List ℕ → Replay → Type 0
+abbrev pub AsksAs : Replay → List ℕ → Request cgroups → ℕ → List ℕ → Replay → Type 0
 AsksAs s n r k out t =
-    (session_number s.names n ≡ Some k) × (out ≡ answer_line s.machine k r) × (t ≡ record { names = with_name s.names n; machine = stepped s.machine k r })
+    (session_number s.names n ≡ Some k) × (out ≡ answer_line s.core k r) × (t ≡ record { names = with_name s.names n; core = after s.core k r })
 
 abbrev pub Asks : Replay → List ℕ → List ℕ → Replay → Type 0
-Asks s line out t = (n : List ℕ) × (r : Request) × (k : ℕ) × SpellsLine line (Some (n, r)) × AsksAs s n r k out t
+Asks s line out t = (n : List ℕ) × (r : Request cgroups) × (k : ℕ) × SpellsLine line (Some (n, r)) × AsksAs s n r k out t
 
 -- or it is in the grammar only with a name too many, or not at all, and is refused.
 abbrev pub Fails : Replay → List ℕ → List ℕ → Replay → Type 0
 Fails s line out t =
-    ((call : Option (List ℕ × Request)) → SpellsLine line call → IsOneTooMany s.names call)
+    ((call : Option (List ℕ × Request cgroups)) → SpellsLine line call → IsOneTooMany s.names call)
     × (out ≡ refusal_text Syntax ++ newline) × (t ≡ s)
 
 -- a session's request is answered, or refused since its name is one too many
-abbrev pub Asked : Replay → List ℕ → Request → List ℕ → Replay → Type 0
+abbrev pub Asked : Replay → List ℕ → Request cgroups → List ℕ → Replay → Type 0
 Asked s n r out t =
     ((k : ℕ) × AsksAs s n r k out t) ⊎ ((session_number s.names n ≡ None) × (out ≡ refusal_text Syntax ++ newline) × (t ≡ s))
 
@@ -89,28 +92,40 @@ AnswersPassed s text left old new =
     (passed : List (List ℕ)) × (behind : List ℕ) × (lines_of text ≡ passed ++ lines_of behind) × LosesOfLine (Some behind) left
     × (answers : List ℕ) × (t : Replay) × AnswersAll s passed answers t × Appends old new answers
 
--- at the end the open transaction is aborted
-abbrev pub last_answer : Machine → Option Open → List ℕ
-last_answer m None = []
-last_answer m (Some o) = answer_line m o.session Abort
+-- the sessions that have an open transaction, the least number first: in the history the newest stands first
+abbrev pub ending_sessions : History cgroups → List ℕ
+ending_sessions h = map (λ p. p.0) (reverse (opens h))
 
-abbrev pub aborted_in : Machine → Option Open → Machine
-aborted_in m None = m
-aborted_in m (Some o) = stepped m o.session Abort
+-- the answers to the aborts of these, one after another
+abbrev pub abort_lines : CoreState → List ℕ → List ℕ
+abort_lines c [] = []
+abort_lines c (k ∷ ks) = answer_line c k Abort ++ abort_lines (after c k Abort) ks
 
--- the answers to all lines, the answer to the last abort, and the tree
-abbrev pub ending_text : Machine → List ℕ
-ending_text m = last_answer m m.open_one ++ world_text (aborted_in m m.open_one).tree
+abbrev pub aborted_by : CoreState → List ℕ → CoreState
+aborted_by c [] = c
+aborted_by c (k ∷ ks) = aborted_by (after c k Abort) ks
+
+-- the tree as it stands
+abbrev pub tree_now : CoreState → Tree
+tree_now c = tree_of cgroups c.opening c.history
+
+-- at the end these abort, and the tree is written
+abbrev pub ending_by : CoreState → List ℕ → List ℕ
+ending_by c ks = abort_lines c ks ++ world_text (tree_now (aborted_by c ks))
+
+-- at the end all that is still open is aborted
+abbrev pub ending_text : CoreState → List ℕ
+ending_text c = ending_by c (ending_sessions c.history)
 
 abbrev pub opened : Tree → ℕ → Replay
-opened T l = record { names = []; machine = record { opening = T; limit = l; tree = T; open_one = None; history = [] } }
+opened T l = record { names = []; core = record { opening = T; bound = l; history = [] } }
 
 -- what is written for a schedule's text from here on
 pub record IsOutputFrom (s : Replay) (text out : List ℕ) : Type 0 where
   pub answers : List ℕ
   pub last : Replay
   pub answered : AnswersAll s (lines_of text) answers last
-  pub whole : out ≡ answers ++ ending_text last.machine
+  pub whole : out ≡ answers ++ ending_text last.core
 
 -- what is written for a schedule's text, over a world and a limit of the history
 abbrev pub IsOutput : Tree → ℕ → List ℕ → List ℕ → Type 0

@@ -2,7 +2,7 @@
 ghost use Rattle.std.specs.Prelude.{◌≡◌, ◌++◌, ◌∷◌, IfErr, OnOk, OnErr, length, take};
 ghost use Rattle.std.specs.Fmt.{decimal};
 ghost use Rattle.cg_name.specs.Refusal.{argument_of, refusal_text};
-ghost use Rattle.cg_core.specs.Meaning.{answer_of};
+ghost use Rattle.cg_history.specs.Meaning.{answer_of};
 ghost use Rattle.cg_script.specs.Answer.{answer_text};
 
 use cg_core::Answer;

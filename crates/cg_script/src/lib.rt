@@ -15,6 +15,8 @@ pub use player::{Player, refuse};
 pub use request::{
     a_line_says_one_thing_at_most, read_line, write_line, written_lines_are_spelled,
 };
-pub use schedule::{a_schedule_has_an_output, a_schedule_has_one_output_at_most, replay};
+pub use schedule::{
+    a_schedule_has_an_output, a_schedule_has_one_output_at_most, outputs_are_the_machines, replay,
+};
 pub use session::SessionName;
 pub use world_reader::read_world;

@@ -1,11 +1,13 @@
 //! A schedule being played: its sessions' names and the machine.
-ghost use Rattle.std.specs.Prelude.{◌≡◌, ◌≤◌, ◌++◌, List, ℕ, MatchOption, IfOk, IfErr, OnOk, OnErr, length, take};
+ghost use Rattle.std.specs.Prelude.{◌≡◌, ◌≤◌, ◌<◌, ◌++◌, List, ℕ, MatchOption, IfOk, IfErr, OnOk, OnErr, length, take, true, false};
 ghost use Rattle.cg_name.specs.declared.refusal.Refusal.TheVariants.{Syntax};
 ghost use Rattle.std.specs.Option.{option_map};
 ghost use Rattle.cg_name.specs.Refusal.{refusal_text};
-ghost use Rattle.cg_core.specs.Meaning.{answer_of, request_of};
+ghost use Rattle.cg_history.specs.Meaning.{answer_of, request_of};
+ghost use Rattle.cg_model.specs.Opens.{opens};
+ghost use Rattle.cg_world.specs.World.{world_text};
 ghost use Rattle.cg_script.specs.Answer.{answer_text};
-ghost use Rattle.cg_script.specs.Replay.{Answers, Asked, ending_text, opened, newline, session_number, with_name};
+ghost use Rattle.cg_script.specs.Replay.{Answers, Asked, ending_text, opened, newline, session_number, tree_now, with_name};
 
 use crate::answer::write_answer;
 use crate::request::read_line;
@@ -32,14 +34,15 @@ impl Model for Player {
     ghost use Rattle.indexmap.specs.IndexSet.{index_set_len};
     ghost use Rattle.cg_script.specs.Replay.{Replay};
     ghost use Rattle.cg_script.specs.ReplayCode.{replay_code};
+    ghost use Rattle.cg_script.specs.Player.{IsReached};
 
     ghost Value = { Replay };
 
     ghost coded = { replay_code };
 
-    ghost view = { λ p. record { names = p.names.keys; machine = p.core } };
+    ghost view = { λ p. record { names = p.names.keys; core = p.core } };
 
-    ghost invariant = { λ p. index_set_len p.names ≤ 4096 };
+    ghost invariant = { λ p. (index_set_len p.names ≤ 4096) × IsReached p.core };
 }
 
 impl Player {
@@ -74,10 +77,10 @@ impl Player {
         }
     }
 
-    /// Answers the end of the schedule, at the end of `out`: aborts the open transaction, and shows the tree. `Memory`
+    /// Answers the end of the schedule, at the end of `out`: aborts what is open, the least number first, and shows the tree. `Memory`
     /// is the only refusal, and leaves `out` as it was.
     pub fn end(&mut self, alloc: Global, out: &mut Vec<u8>) -> Result<(), AllocError>
-        ensures ok { OnOk result (out.new.items ≡ out.old.items ++ ending_text self.old.machine) }
+        ensures ok { OnOk result (out.new.items ≡ out.old.items ++ ending_text self.old.core) }
         ensures err { OnErr result (out.new.items ≡ out.old.items) }
     {
         let start = out.len();
@@ -87,14 +90,26 @@ impl Player {
 
     // The same, where an error leaves what stood there at the front.
     fn append_end(&mut self, alloc: Global, out: &mut Vec<u8>) -> Result<(), AllocError>
-        ensures ok { OnOk result (out.new.items ≡ out.old.items ++ ending_text self.old.machine) }
+        ensures ok { OnOk result (out.new.items ≡ out.old.items ++ ending_text self.old.core) }
         ensures kept { OnErr result (take (length out.old.items) out.new.items ≡ out.old.items) }
     {
-        if let Some(session) = self.core.open_session() {
-            let answer = self.core.step(alloc, session, Request::Abort);
-            end_line(&answer, out)?;
-        }
+        'ends: while self.append_abort(alloc, out)? {}
         self.core.tree().write(out)
+    }
+
+    // Aborts the open transaction with the least number, and appends the answer's line. False where none is open.
+    fn append_abort(&mut self, alloc: Global, out: &mut Vec<u8>) -> Result<bool, AllocError>
+        ensures aborted { IfOk result (λ more. more ≡ true → (line : List ℕ) × (out.new.items ≡ out.old.items ++ line) × (ending_text self.old.core ≡ line ++ ending_text self.new.core)) }
+        ensures ended { IfOk result (λ more. more ≡ false → (self.new ≡ self.old) × (out.new.items ≡ out.old.items) × (ending_text self.old.core ≡ world_text (tree_now self.old.core))) }
+        ensures fewer { IfOk result (λ more. more ≡ true → length (opens self.new.core.history) < length (opens self.old.core.history)) }
+        ensures err { OnErr result (out.new.items ≡ out.old.items) }
+    {
+        let Some(session) = self.core.oldest() else {
+            return Ok(false);
+        };
+        let answer = self.core.step(alloc, session, Request::Abort);
+        end_line(&answer, out)?;
+        Ok(true)
     }
 
     // The session of this name, which gets the next number where it is new: none where it is one too many.

@@ -3,14 +3,15 @@ ghost use Rattle.std.specs.Prelude.{◌≡◌, ◌++◌, IfOk, IfErr, OnOk, OnEr
 ghost use Rattle.std.specs.Option.{option_map};
 ghost use Rattle.std.specs.Result.{IsErrOf};
 ghost use Rattle.cg_name.specs.Refusal.{IsSyntaxOrMemory};
-ghost use Rattle.cg_core.specs.Meaning.{request_of};
-ghost use Rattle.cg_core.specs.Record as model;
+ghost use Rattle.cg_history.specs.Meaning.{request_of};
+ghost use Rattle.cg_model.specs.Cgroups.{cgroups};
+ghost use Rattle.cg_model.specs.History as model;
 ghost use Rattle.cg_script.specs.Request.{SpellsCall, SpellsLine, SpellsRequest, request_line, request_text, OneCall, WrittenLinesAreSpelled};
 
 use crate::session::SessionName;
 use cg_command_text::{read_command, write_command};
 use cg_core::Request;
-use cg_name::{Refusal, or_truncate};
+use cg_name::{Refusal, SaveName, or_truncate};
 use cg_text::read_words;
 use std::alloc::{AllocError, Global};
 
@@ -18,7 +19,7 @@ use std::alloc::{AllocError, Global};
 /// isn't a line of the grammar, too long, or not UTF-8.
 pub fn read_line(alloc: Global, line: &[u8]) -> Result<Option<(SessionName, Request)>, Refusal>
     ensures value { IfOk result (λ call. SpellsLine line.now (option_map (λ c. (c.0, request_of c.1)) call)) }
-    ensures syntax { IsErrOf result Refusal.Syntax → (call : Option (List ℕ × model.Request)) → SpellsLine line.now call → ⊥ }
+    ensures syntax { IsErrOf result Refusal.Syntax → (call : Option (List ℕ × model.Request cgroups)) → SpellsLine line.now call → ⊥ }
     ensures refusals { IfErr result IsSyntaxOrMemory }
 {
     let Some(words) = read_words(alloc, line)? else {
@@ -30,7 +31,7 @@ pub fn read_line(alloc: Global, line: &[u8]) -> Result<Option<(SessionName, Requ
 // The session and the request that the words of a line spell.
 fn read_call(alloc: Global, words: &[&str]) -> Result<(SessionName, Request), Refusal>
     ensures value { IfOk result (λ c. SpellsCall (map (λ w. w.now) words.now) c.0 (request_of c.1)) }
-    ensures syntax { IsErrOf result Refusal.Syntax → (n : List ℕ) (r : model.Request) → SpellsCall (map (λ w. w.now) words.now) n r → ⊥ }
+    ensures syntax { IsErrOf result Refusal.Syntax → (n : List ℕ) (r : model.Request cgroups) → SpellsCall (map (λ w. w.now) words.now) n r → ⊥ }
     ensures refusals { IfErr result IsSyntaxOrMemory }
 {
     let [name, others @ ..] = words else {
@@ -44,11 +45,14 @@ fn read_call(alloc: Global, words: &[&str]) -> Result<(SessionName, Request), Re
 // The request that the words behind a session's name spell.
 fn read_request(alloc: Global, words: &[&str]) -> Result<Request, Refusal>
     ensures value { IfOk result (λ r. SpellsRequest (map (λ w. w.now) words.now) (request_of r)) }
-    ensures syntax { IsErrOf result Refusal.Syntax → (r : model.Request) → SpellsRequest (map (λ w. w.now) words.now) r → ⊥ }
+    ensures syntax { IsErrOf result Refusal.Syntax → (r : model.Request cgroups) → SpellsRequest (map (λ w. w.now) words.now) r → ⊥ }
     ensures refusals { IfErr result IsSyntaxOrMemory }
 {
     match words {
         ["begin"] => Ok(Request::Begin),
+        ["save", name] => Ok(Request::Save(SaveName::read(name)?)),
+        ["back", name] => Ok(Request::Back(SaveName::read(name)?)),
+        ["undo"] => Ok(Request::Undo),
         ["commit"] => Ok(Request::Commit),
         ["abort"] => Ok(Request::Abort),
         _ => Ok(Request::Do(read_command(alloc, words)?)),
@@ -95,9 +99,22 @@ fn append_request(request: &Request, out: &mut Vec<u8>) -> Result<(), AllocError
 {
     match request {
         Request::Begin => out.extend_from_slice(b"begin")?,
+        Request::Save(name) => append_named("save ", name, out)?,
+        Request::Back(name) => append_named("back ", name, out)?,
+        Request::Undo => out.extend_from_slice(b"undo")?,
         Request::Commit => out.extend_from_slice(b"commit")?,
         Request::Abort => out.extend_from_slice(b"abort")?,
         Request::Do(command) => write_command(command, out)?,
     }
+    Ok(())
+}
+
+// A word and a savepoint's name.
+fn append_named(word: &str, name: &SaveName, out: &mut Vec<u8>) -> Result<(), AllocError>
+    ensures ok { OnOk result (out.new.items ≡ out.old.items ++ (word.now ++ name.now)) }
+    ensures kept { OnErr result (take (length out.old.items) out.new.items ≡ out.old.items) }
+{
+    out.extend_from_slice(word.as_bytes())?;
+    out.extend_from_slice(name.as_bytes())?;
     Ok(())
 }

@@ -5,6 +5,7 @@ ghost use Rattle.std.specs.Io.KnownBytes.{Appends};
 ghost use Rattle.cg_lines.specs.Device.{AppendsFront, AppendsTo, Failed};
 ghost use Rattle.cg_lines.specs.Lines.{pending, bytes_to_come, CanBreak, LosesOfLine};
 ghost use Rattle.cg_script.specs.Replay.{opened, Answers, IsOutput, IsOutputFrom, AnswersFirst, AnswersPassed, OneOutput, SomeOutput};
+ghost use Rattle.cg_script.specs.MachineOutput.{OutputsAreTheMachines};
 ghost use Rattle.cg_script.specs.declared.fault.ScriptFault.TheVariants as faults;
 
 use crate::fault::ScriptFault;
@@ -185,4 +186,9 @@ pub fn a_schedule_has_one_output_at_most()
 /// A schedule's text, whatever its bytes, has an output: it can't have none.
 pub fn a_schedule_has_an_output()
     ensures { SomeOutput }
+{}
+
+/// The machine of the definitions, asked what the lines of a schedule ask, answers what the output has.
+pub fn outputs_are_the_machines()
+    ensures { OutputsAreTheMachines }
 {}

@@ -1,6 +1,6 @@
 use Rattle.std.proofs.Common.{subst, ap, Err, inr, refl}
 use Rattle.std.specs.Option.{option_map}
-use Rattle.cg_core.specs.Meaning.{request_of}
+use Rattle.cg_history.specs.Meaning.{request_of}
 use Rattle.cg_script.specs.Request.{SpellsLine}
 use Rattle.cg_script.proofs.OneLine.{answers_asked, on_ok_map}
 use Rattle.cg_script.proofs.player.Player.answer.Goals as goal

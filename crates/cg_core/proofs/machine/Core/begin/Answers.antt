@@ -1,0 +1,83 @@
+use Rattle.std.proofs.Common.{◌≡◌, ◌+◌, ◌-◌, ◌≤◌, ◌∷◌, length, is_some, None, true, false, refl, sym, ap, subst, subst₂, ◌∙◌, arith}
+use Rattle.cg_txn.specs.Stack.{Stack}
+use Rattle.cg_name.specs.declared.refusal.Refusal.TheVariants.{AlreadyOpen}
+use Rattle.cg_model.specs.History.{Begin, Begun, Refused}
+use Rattle.cg_model.specs.Opens.{begins, opens, transaction_in}
+use Rattle.cg_model.specs.Reply.{slots, is_full}
+use Rattle.cg_history.proofs.Records.{begins_within}
+use Rattle.cg_history.specs.SessionMap.{found}
+use Rattle.cg_core.specs.Parts.{IsCoreOf}
+use Rattle.cg_core.specs.State.{CoreState, reply}
+use Rattle.cg_core.proofs.AtHistory.{within}
+use Rattle.cg_core.proofs.Begun.{already_open, begin_full, begin_reply, begun_core, begun_record}
+use Rattle.cg_core.proofs.Open.{copied_too, nothing_there, session_absent, session_none, session_there}
+use Rattle.cg_core.proofs.ReturningParts.{answer_told, state_told}
+use Rattle.cg_core.proofs.Stepping.{recorded, stays}
+use Rattle.cg_core.proofs.TheLaws.{faithful_law, steps_law}
+use Rattle.cg_core.proofs.machine.Core.begin.Goals as goal
+
+pub returns-then-is_some-clause-answer : goal.returns-then-is_some-clause-answer
+returns-then-is_some-clause-answer c =
+    let there : is_some (found c.args.session.0 c.self.inside.open) ≡ true = sym (ap is_some c.get.ensures) ∙ copied_too c.get.result ∙ sym c.is_some.ensures ∙ c.if-is_some.true in
+    sym (already_open c.self.inside.opening c.self.inside.limit c.self.inside.history.0 c.args.session.0 (session_there _ _ _ _ c.self.invariant.transactions c.args.session.0 there))
+    ∙ ap (λ (v : CoreState). reply v c.args.session.0 Begin) c.self.view_is
+
+pub returns-then-is_some-clause-state : goal.returns-then-is_some-clause-state
+returns-then-is_some-clause-state c = stays c.args.self.now c.args.session.0 Begin (Refused AlreadyOpen) (sym (returns-then-is_some-clause-answer c)) refl
+
+pub returns-then-is_full-clause-answer : goal.returns-then-is_full-clause-answer
+returns-then-is_full-clause-answer c =
+    let absent : is_some (found c.args.session.0 c.self.inside.open) ≡ false = sym (ap is_some c.get.ensures) ∙ copied_too c.get.result ∙ sym c.is_some.ensures ∙ c.if-is_some.false in
+    let full : is_full c.self.inside.limit c.self.inside.history.0 ≡ true = ap (λ (v : CoreState). is_full v.bound v.history) c.self.view_is ∙ sym c.is_full.ensures ∙ c.if-is_full.true in
+    sym (begin_full c.self.inside.opening c.self.inside.limit c.self.inside.history.0 c.args.session.0 (session_absent _ _ _ _ c.self.invariant.transactions c.args.session.0 absent) full)
+    ∙ ap (λ (v : CoreState). reply v c.args.session.0 Begin) c.self.view_is
+
+pub overflow_add-number : goal.overflow_add-number
+overflow_add-number c =
+    let counted : c.begun.result ≡ begins c.self.inside.history.0 = c.begun.ensures ∙ ap (λ p. begins p.0) c.in-Ok.ensures.ok in
+    let records : begins c.self.inside.history.0 ≤ length c.self.inside.history.0 = begins_within c.self.inside.history.0 in
+    let used : slots c.self.inside.history.0 ≤ c.self.inside.limit = within _ _ _ c.self.invariant.sound c.self.invariant.reached faithful_law c.self.invariant.low in
+    let few : c.self.inside.limit ≤ 1048576 = c.self.invariant.high in
+    omega (arith, counted, records, used, few)
+
+pub invariant_of-self-2 : goal.invariant_of-self-2
+invariant_of-self-2 c =
+    let O = c.self.inside.opening in
+    let b = c.self.inside.limit in
+    let h = c.self.inside.history.0 in
+    let s = c.args.session.0 in
+    let absent : found s c.self.inside.open ≡ None = nothing_there _ (sym (ap is_some c.get.ensures) ∙ copied_too c.get.result ∙ sym c.is_some.ensures ∙ c.if-is_some.false) in
+    let room : is_full b h ≡ false = ap (λ (v : CoreState). is_full v.bound v.history) c.self.view_is ∙ sym c.is_full.ensures ∙ c.if-is_full.false in
+    let counted : c.begun.result ≡ begins h = c.begun.ensures ∙ ap (λ p. begins p.0) c.in-Ok.ensures.ok in
+    let history_is : c.push.new.self.0 ≡ record { session = s; transaction = begins h + 1; request = Begin; answer = Begun (begins h + 1) } ∷ h =
+    ap (λ p. p.0) c.push.ensures ∙ (λ i. record { session = s; transaction = counted i + 1; request = Begin; answer = Begun (counted i + 1) } ∷ (c.in-Ok.ensures.ok i).0) in
+    let reserved : c.reserve.new.self.1 ≡ c.self.inside.history.1 + 2 = ap (λ p. p.1) c.in-Ok.ensures.ok in
+    let pushed : c.push.new.self.1 ≡ c.reserve.new.self.1 - 1 = ap (λ p. p.1) c.push.ensures in
+    let slots_are : c.push.new.self.1 ≡ c.self.inside.history.1 + 1 = omega (arith, reserved, pushed) in
+    let begun : IsCoreOf O b (record { session = s; transaction = begins h + 1; request = Begin; answer = Begun (begins h + 1) } ∷ h) (c.self.inside.history.1 + 1) c.self.inside.tree c.self.inside.locks ((s, c.new.result) ∷ c.self.inside.open) =
+    subst (λ k. IsCoreOf O b k (c.self.inside.history.1 + 1) c.self.inside.tree c.self.inside.locks ((s, c.new.result) ∷ c.self.inside.open))
+    (begun_record O b h c.self.inside.history.1 c.self.inside.tree c.self.inside.locks c.self.inside.open c.self.invariant s absent room)
+    (begun_core O b h c.self.inside.history.1 c.self.inside.tree c.self.inside.locks c.self.inside.open c.self.invariant s absent room c.new.result
+    (ap (λ (v : Stack). v.number) c.new.ensures ∙ ap (λ n. n + 1) counted) (ap (λ (v : Stack). v.items) c.new.ensures)) in
+    subst (λ l. IsCoreOf O b c.push.new.self.0 c.push.new.self.1 c.self.inside.tree c.self.inside.locks l) (sym c.in-Ok-insert.ensures.ok)
+    (subst₂ (λ k n. IsCoreOf O b k n c.self.inside.tree c.self.inside.locks ((s, c.new.result) ∷ c.self.inside.open)) (sym history_is) (sym slots_are) begun)
+
+pub returns-clause-answer : goal.returns-clause-answer
+returns-clause-answer c =
+    let absent : found c.args.session.0 c.self.inside.open ≡ None = nothing_there _ (sym (ap is_some c.get.ensures) ∙ copied_too c.get.result ∙ sym c.is_some.ensures ∙ c.if-is_some.false) in
+    let room : is_full c.self.inside.limit c.self.inside.history.0 ≡ false = ap (λ (v : CoreState). is_full v.bound v.history) c.self.view_is ∙ sym c.is_full.ensures ∙ c.if-is_full.false in
+    ap (λ n. Begun (n + 1)) (c.begun.ensures ∙ ap (λ p. begins p.0) c.in-Ok.ensures.ok)
+    ∙ answer_told _ _ _ c.args.session.0 Begin c.args.self.now c.self.view_is _ (begin_reply _ _ _ c.args.session.0 (session_none _ _ _ _ c.self.invariant.transactions c.args.session.0 absent) room)
+
+pub returns-clause-state : goal.returns-clause-state
+returns-clause-state c =
+    let s = c.args.session.0 in
+    let h = c.self.inside.history.0 in
+    let absent : found s c.self.inside.open ≡ None = nothing_there _ (sym (ap is_some c.get.ensures) ∙ copied_too c.get.result ∙ sym c.is_some.ensures ∙ c.if-is_some.false) in
+    let room : is_full c.self.inside.limit h ≡ false = ap (λ (v : CoreState). is_full v.bound v.history) c.self.view_is ∙ sym c.is_full.ensures ∙ c.if-is_full.false in
+    let none : transaction_in s (opens h) ≡ None = session_none _ _ _ _ c.self.invariant.transactions s absent in
+    let counted : c.begun.result ≡ begins h = c.begun.ensures ∙ ap (λ p. begins p.0) c.in-Ok.ensures.ok in
+    state_told _ _ _ s Begin c.args.self.now c.self.view_is _
+    (recorded steps_law _ _ _ c.self.invariant.sound c.self.invariant.reached s Begin tt _ (begin_reply _ _ _ s none room) refl
+    ∙ begun_record _ _ _ _ _ _ _ c.self.invariant s absent room
+    ∙ sym (ap (λ p. p.0) c.push.ensures ∙ (λ i. record { session = s; transaction = counted i + 1; request = Begin; answer = Begun (counted i + 1) } ∷ (c.in-Ok.ensures.ok i).0)))
