@@ -6,7 +6,7 @@ use cg_name::{Controller, FileName, Path, Refusal};
 use cg_text::{Limit, read_ops};
 use cg_tree::Tree;
 use cg_world::World;
-use std::alloc::Global;
+use std::alloc::{AllocError, Global};
 
 // `/a` is full, `/a/b/c` is as deep below `/a/b` as may be, and `/d/e` below `/d`. `/d` and `/p` have processes.
 const WORLD: &str = "world 2
@@ -46,36 +46,57 @@ enum Asked {
     MaxDepth,
 }
 
+// A write of these operations.
+fn subtree(path: Path, text: &str) -> Result<Command, Refusal> {
+    let ops = read_ops(text)?;
+    Ok(Command::Subtree { path, ops })
+}
+
+// A write of these CPUs.
+fn cpus(path: Path, text: &str) -> Result<Command, Refusal> {
+    let cpus = CpuSet::read(text)?;
+    Ok(Command::Cpus { path, cpus })
+}
+
+// That these CPUs are online.
+fn online(text: &str) -> Result<Command, Refusal> {
+    let cpus = OnlineCpus::try_from(CpuSet::read(text)?)?;
+    Ok(Command::Online { cpus })
+}
+
 // The command at the path.
-fn command(asked: Asked, path: Path) -> Result<Command, Refusal> {
-    let cpus = CpuSet::read("0-1")?;
+fn command_at(asked: Asked, path: Path) -> Result<Command, Refusal> {
     let limit = Limit::Max;
-    Ok(match asked {
-        Asked::Create => Command::Create { path },
-        Asked::Remove => Command::Remove { path },
-        Asked::Migrate(pid) => Command::Migrate { pid, path },
-        Asked::Subtree(text) => Command::Subtree {
-            path,
-            ops: read_ops(text)?,
-        },
-        Asked::Freeze => Command::Freeze { path, value: true },
-        Asked::Cpus => Command::Cpus { path, cpus },
-        Asked::Show(file) => Command::Show { path, file },
-        Asked::Online => Command::Online {
-            cpus: OnlineCpus::try_from(cpus)?,
-        },
-        Asked::MaxDescendants => Command::MaxDescendants { path, limit },
-        Asked::MaxDepth => Command::MaxDepth { path, limit },
-    })
+    match asked {
+        Asked::Create => Ok(Command::Create { path }),
+        Asked::Remove => Ok(Command::Remove { path }),
+        Asked::Migrate(pid) => Ok(Command::Migrate { pid, path }),
+        Asked::Subtree(text) => subtree(path, text),
+        Asked::Freeze => Ok(Command::Freeze { path, value: true }),
+        Asked::Cpus => cpus(path, "0-1"),
+        Asked::Show(file) => Ok(Command::Show { path, file }),
+        Asked::Online => online("0-1"),
+        Asked::MaxDescendants => Ok(Command::MaxDescendants { path, limit }),
+        Asked::MaxDepth => Ok(Command::MaxDepth { path, limit }),
+    }
+}
+
+// The command at the path that a word spells.
+fn command(alloc: Global, asked: Asked, word: &str) -> Result<Command, Refusal> {
+    command_at(asked, Path::read(alloc, word)?)
+}
+
+// What a copy of the command is answered.
+fn check_copy(alloc: Global, tree: &Tree, command: &Command) -> Result<(), Refusal> {
+    command.copy(alloc)?.check(tree)
 }
 
 // What a copy of the command at the path that a word spells is answered.
 fn answer(alloc: Global, tree: &Tree, asked: Asked, word: &str) -> Result<(), Refusal> {
-    let path = Path::read(alloc, word)?;
-    command(asked, path)?.copy(alloc)?.check(tree)
+    check_copy(alloc, tree, &command(alloc, asked, word)?)
 }
 
-const ACCEPTED: [(Asked, &str); 14] = [
+static ACCEPTED: [(Asked, &str); 14] = [
     (Asked::Create, "/q"),
     (Asked::Create, "/d/x"),
     (Asked::Remove, "/a/b/c"),
@@ -92,7 +113,7 @@ const ACCEPTED: [(Asked, &str); 14] = [
     (Asked::Subtree("-cpu"), "/p"),
 ];
 
-const REFUSED: [(Asked, &str, Refusal); 36] = [
+static REFUSED: [(Asked, &str, Refusal); 36] = [
     (Asked::Create, "/", Refusal::Exists),
     (Asked::Create, "/q/x", Refusal::NoGroup),
     (Asked::Create, "/d", Refusal::Exists),
@@ -161,52 +182,100 @@ const REFUSED: [(Asked, &str, Refusal); 36] = [
     (Asked::MaxDepth, "/q", Refusal::NoGroup),
 ];
 
-#[test]
-fn commands_are_checked(rt: HostRuntime) {
-    let tree = tree(rt.alloc()).expect(&rt, "a world");
-    for (asked, word) in &ACCEPTED {
-        assert!(rt; answer(rt.alloc(), &tree, *asked, word) == Ok(()), "{word}");
+// The first row whose command is not accepted.
+fn first_not_accepted(alloc: Global, tree: &Tree, rows: &[(Asked, &str)]) -> Option<usize> {
+    for (row, (asked, word)) in rows.iter().enumerate() {
+        if answer(alloc, tree, *asked, word) != Ok(()) {
+            return Some(row);
+        }
     }
-    for (asked, word, refusal) in &REFUSED {
-        assert!(rt;
-            answer(rt.alloc(), &tree, *asked, word) == Err(*refusal),
-            "{word}"
-        );
-    }
+    None
 }
 
-// Carries the command at the path that a word spells out on the tree, appends what it gives, and undoes it.
+// The first row whose command is not refused so.
+fn first_not_refused(alloc: Global, tree: &Tree, rows: &[(Asked, &str, Refusal)]) -> Option<usize> {
+    for (row, (asked, word, refusal)) in rows.iter().enumerate() {
+        if answer(alloc, tree, *asked, word) != Err(*refusal) {
+            return Some(row);
+        }
+    }
+    None
+}
+
+// The first row of those that are accepted which is not.
+fn wrongly_refused(alloc: Global) -> Result<Option<usize>, Refusal> {
+    let tree = tree(alloc)?;
+    Ok(first_not_accepted(alloc, &tree, &ACCEPTED))
+}
+
+// The first row of those that are refused which is not refused so.
+fn wrongly_accepted(alloc: Global) -> Result<Option<usize>, Refusal> {
+    let tree = tree(alloc)?;
+    Ok(first_not_refused(alloc, &tree, &REFUSED))
+}
+
+#[test]
+fn commands_are_checked(rt: HostRuntime) {
+    assert_eq!(rt; wrongly_refused(rt.alloc()), Ok(None));
+    assert_eq!(rt; wrongly_accepted(rt.alloc()), Ok(None));
+}
+
+// Appends what a command gave.
+fn write_outcome(outcome: &Outcome, out: &mut Vec<u8>) -> Result<(), AllocError> {
+    match outcome {
+        Outcome::Done => out.push(b'.')?,
+        Outcome::Text(text) => out.extend_from_slice(text.as_slice())?,
+    }
+    Ok(())
+}
+
+// Carries the command out on the tree, undoes it, and appends what it gave.
 fn carry_out(
+    alloc: Global,
+    tree: &mut Tree,
+    command: &Command,
+    out: &mut Vec<u8>,
+) -> Result<(), Refusal> {
+    command.check(tree)?;
+    let (outcome, inverse) = command.apply(alloc, tree)?;
+    inverse.undo(tree);
+    write_outcome(&outcome, out)?;
+    Ok(())
+}
+
+// The same of the command at the path that a word spells.
+fn carry_out_at(
     alloc: Global,
     tree: &mut Tree,
     asked: Asked,
     word: &str,
     out: &mut Vec<u8>,
 ) -> Result<(), Refusal> {
-    let path = Path::read(alloc, word)?;
-    let command = command(asked, path)?;
-    command.check(tree)?;
-    let (outcome, inverse) = command.apply(alloc, tree)?;
-    match outcome {
-        Outcome::Done => out.push(b'.')?,
-        Outcome::Text(text) => out.extend_from_slice(text.as_slice())?,
+    carry_out(alloc, tree, &command(alloc, asked, word)?, out)
+}
+
+// Carries the commands of all rows out, one after another.
+fn carry_all_out(
+    alloc: Global,
+    tree: &mut Tree,
+    rows: &[(Asked, &str)],
+    out: &mut Vec<u8>,
+) -> Result<(), Refusal> {
+    for (asked, word) in rows {
+        carry_out_at(alloc, tree, *asked, word, out)?;
     }
-    inverse.undo(tree);
     Ok(())
+}
+
+// Carries those out on the tree that are accepted.
+fn carry_accepted_out(alloc: Global, out: &mut Vec<u8>) -> Result<(), Refusal> {
+    let mut tree = tree(alloc)?;
+    carry_all_out(alloc, &mut tree, &ACCEPTED, out)
 }
 
 #[test]
 fn commands_are_carried_out_and_undone(rt: HostRuntime) {
-    let mut tree = tree(rt.alloc()).expect(&rt, "a world");
     let mut out = Vec::new(rt.alloc());
-    for (asked, word) in &ACCEPTED {
-        assert!(rt;
-            carry_out(rt.alloc(), &mut tree, *asked, word, &mut out) == Ok(()),
-            "{word}"
-        );
-    }
-    assert!(rt;
-        out.as_slice() == b".........10\n....".as_slice(),
-        "what they give"
-    );
+    assert!(rt; carry_accepted_out(rt.alloc(), &mut out) == Ok(()));
+    assert!(rt; out.as_slice() == b".........10\n....".as_slice());
 }

@@ -1,9 +1,7 @@
 //! The interface files of groups, by their texts, and the processes of a group.
-use cg_core::Answer;
 use cg_derive::{file, procs};
 use cg_name::{FileName, Path, Refusal};
-use cg_script::write_answer;
-use cg_text::write_procs;
+use cg_text::{write_procs, write_quoted};
 use cg_tree::Tree;
 use cg_world::World;
 use std::alloc::{AllocError, Global};
@@ -38,7 +36,7 @@ const FILES: [FileName; 9] = [
     FileName::MaxDepth,
 ];
 
-// Appends the answer that a file of the group at the path is, and a newline.
+// Appends the text of a file of the group at the path, between quotation marks, or the word of why there is none.
 fn write_file(
     alloc: Global,
     tree: &Tree,
@@ -46,80 +44,105 @@ fn write_file(
     name: FileName,
     out: &mut Vec<u8>,
 ) -> Result<(), AllocError> {
-    let answer = match file(alloc, tree, path, name) {
-        Ok(text) => Answer::Text(text),
-        Err(refusal) => Answer::Refused(refusal),
-    };
-    write_answer(&answer, out)?;
+    match file(alloc, tree, path, name) {
+        Ok(text) => write_quoted(text.as_slice(), out)?,
+        Err(refusal) => out.extend_from_slice(refusal.word().as_bytes())?,
+    }
     out.push(b'\n')?;
     Ok(())
 }
 
-// Appends those of all files of the group at the path that a word spells.
-fn write_files(alloc: Global, tree: &Tree, word: &str, out: &mut Vec<u8>) -> Result<(), Refusal> {
-    let path = Path::read(alloc, word)?;
+// Appends those of all files of the group.
+fn write_files(
+    alloc: Global,
+    tree: &Tree,
+    path: &Path,
+    out: &mut Vec<u8>,
+) -> Result<(), AllocError> {
     for name in &FILES {
-        write_file(alloc, tree, &path, *name, out)?;
+        write_file(alloc, tree, path, *name, out)?;
     }
     Ok(())
 }
 
-// Appends those of all groups.
-fn write_groups(alloc: Global, out: &mut Vec<u8>) -> Result<(), Refusal> {
-    let tree = tree(alloc)?;
-    write_files(alloc, &tree, "/", out)?;
-    write_files(alloc, &tree, "/a", out)?;
-    write_files(alloc, &tree, "/a/b", out)
+const SHOWN: &str = r#""10\n"
+"cpuset cpu memory\n"
+"cpuset memory\n"
+nofile
+nofile
+nofile
+"0-7\n"
+"max\n"
+"max\n"
+""
+"cpuset memory\n"
+"memory\n"
+"populated 1\nfrozen 1\n"
+"1\n"
+"0-3\n"
+"0-3\n"
+"5\n"
+"max\n"
+"11\n"
+"memory\n"
+""
+"populated 1\nfrozen 1\n"
+"0\n"
+nofile
+nofile
+"max\n"
+"2\n"
+"#;
+
+// Appends those of the group at the path that a word spells.
+fn write_group(alloc: Global, tree: &Tree, word: &str, out: &mut Vec<u8>) -> Result<(), Refusal> {
+    let path = Path::read(alloc, word)?;
+    Ok(write_files(alloc, tree, &path, out)?)
 }
 
-const SHOWN: &str = r#"text "10\n"
-text "cpuset cpu memory\n"
-text "cpuset memory\n"
-refused 15 nofile
-refused 15 nofile
-refused 15 nofile
-text "0-7\n"
-text "max\n"
-text "max\n"
-text ""
-text "cpuset memory\n"
-text "memory\n"
-text "populated 1\nfrozen 1\n"
-text "1\n"
-text "0-3\n"
-text "0-3\n"
-text "5\n"
-text "max\n"
-text "11\n"
-text "memory\n"
-text ""
-text "populated 1\nfrozen 1\n"
-text "0\n"
-refused 15 nofile
-refused 15 nofile
-text "max\n"
-text "2\n"
-"#;
+// Appends those of three groups.
+fn write_groups(alloc: Global, tree: &Tree, out: &mut Vec<u8>) -> Result<(), Refusal> {
+    write_group(alloc, tree, "/", out)?;
+    write_group(alloc, tree, "/a", out)?;
+    write_group(alloc, tree, "/a/b", out)
+}
+
+// Appends those of all groups of the tree.
+fn write_world(alloc: Global, out: &mut Vec<u8>) -> Result<(), Refusal> {
+    let tree = tree(alloc)?;
+    write_groups(alloc, &tree, out)
+}
 
 #[test]
 fn groups_have_their_files(rt: HostRuntime) {
     let mut out = Vec::new(rt.alloc());
-    assert!(rt; write_groups(rt.alloc(), &mut out) == Ok(()));
+    assert!(rt; write_world(rt.alloc(), &mut out) == Ok(()));
     assert!(rt; out.as_slice() == SHOWN.as_bytes());
 }
 
-// Appends the PIDs of the group at the path that a word spells.
-fn write_own(alloc: Global, word: &str, out: &mut Vec<u8>) -> Result<(), Refusal> {
-    let path = Path::read(alloc, word)?;
-    let pids = procs(alloc, &tree(alloc)?, &path)?;
+// Appends the PIDs of the group at the path.
+fn write_pids(alloc: Global, tree: &Tree, path: &Path, out: &mut Vec<u8>) -> Result<(), Refusal> {
+    let pids = procs(alloc, tree, path)?;
     write_procs(pids.as_slice(), out)?;
     Ok(())
+}
+
+// Appends those of the group at the path that a word spells.
+fn write_own(alloc: Global, tree: &Tree, word: &str, out: &mut Vec<u8>) -> Result<(), Refusal> {
+    let path = Path::read(alloc, word)?;
+    write_pids(alloc, tree, &path, out)
+}
+
+// Appends those of this group of the tree.
+fn write_own_of(alloc: Global, word: &str, out: &mut Vec<u8>) -> Result<(), Refusal> {
+    let tree = tree(alloc)?;
+    write_own(alloc, &tree, word, out)
 }
 
 #[test]
 fn groups_have_their_processes(rt: HostRuntime) {
     let mut out = Vec::new(rt.alloc());
-    assert!(rt; write_own(rt.alloc(), "/", &mut out) == Ok(()));
-    assert!(rt; write_own(rt.alloc(), "/q", &mut out) == Err(Refusal::NoGroup));
+    assert!(rt; write_own_of(rt.alloc(), "/", &mut out) == Ok(()));
+    assert!(rt; write_own_of(rt.alloc(), "/q", &mut out) == Err(Refusal::NoGroup));
     assert!(rt; out.as_slice() == b"10\n".as_slice());
 }

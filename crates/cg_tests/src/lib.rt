@@ -3,8 +3,6 @@
 #![tactic(auto)]
 
 #[cfg(test)]
-mod answers;
-#[cfg(test)]
 mod commands;
 #[cfg(test)]
 mod derived;
@@ -15,15 +13,11 @@ mod files;
 #[cfg(test)]
 mod locks;
 #[cfg(test)]
-mod machine;
-#[cfg(test)]
 mod path_maps;
 #[cfg(test)]
 mod paths;
 #[cfg(test)]
 mod printed;
-#[cfg(test)]
-mod requests;
 #[cfg(test)]
 mod transactions;
 #[cfg(test)]

@@ -38,23 +38,29 @@ enum Asked {
     MaxDepth,
 }
 
+// That two CPUs are online.
+fn online() -> Result<Command, Refusal> {
+    let cpus = OnlineCpus::try_from(CpuSet::read("0-1")?)?;
+    Ok(Command::Online { cpus })
+}
+
+// The command at the path.
+fn command_at(asked: Asked, path: Path) -> Result<Command, Refusal> {
+    let file = FileName::Procs;
+    let limit = Limit::Max;
+    match asked {
+        Asked::Create => Ok(Command::Create { path }),
+        Asked::Remove => Ok(Command::Remove { path }),
+        Asked::Migrate(pid) => Ok(Command::Migrate { pid, path }),
+        Asked::Show => Ok(Command::Show { path, file }),
+        Asked::Online => online(),
+        Asked::MaxDepth => Ok(Command::MaxDepth { path, limit }),
+    }
+}
+
 // The command at the path that a word spells.
 fn command(alloc: Global, asked: Asked, word: &str) -> Result<Command, Refusal> {
-    let path = Path::read(alloc, word)?;
-    let file = FileName::Procs;
-    Ok(match asked {
-        Asked::Create => Command::Create { path },
-        Asked::Remove => Command::Remove { path },
-        Asked::Migrate(pid) => Command::Migrate { pid, path },
-        Asked::Show => Command::Show { path, file },
-        Asked::Online => Command::Online {
-            cpus: OnlineCpus::try_from(CpuSet::read("0-1")?)?,
-        },
-        Asked::MaxDepth => Command::MaxDepth {
-            path,
-            limit: Limit::Max,
-        },
-    })
+    command_at(asked, Path::read(alloc, word)?)
 }
 
 // Appends a letter and the path of the mark.
@@ -73,15 +79,8 @@ fn write_mark(mark: &Mark, out: &mut Vec<u8>) -> Result<(), AllocError> {
     Ok(())
 }
 
-// Appends the marks of the command at the path.
-fn write_marks(
-    alloc: Global,
-    tree: &Tree,
-    asked: Asked,
-    word: &str,
-    out: &mut Vec<u8>,
-) -> Result<(), Refusal> {
-    let footprint = Footprint::of(alloc, &command(alloc, asked, word)?, tree)?;
+// Appends the marks, and a newline.
+fn write_marks(footprint: &Footprint, out: &mut Vec<u8>) -> Result<(), AllocError> {
     for mark in footprint.marks() {
         write_mark(mark, out)?;
     }
@@ -89,7 +88,7 @@ fn write_marks(
     Ok(())
 }
 
-const ASKED: [(Asked, &str); 9] = [
+static ASKED: [(Asked, &str); 9] = [
     (Asked::Create, "/a/b/x"),
     (Asked::Remove, "/a"),
     (Asked::Remove, "/p/x"),
@@ -112,60 +111,196 @@ x/
 x/p
 ";
 
+// Appends those of the command.
+fn write_marks_of(
+    alloc: Global,
+    tree: &Tree,
+    command: &Command,
+    out: &mut Vec<u8>,
+) -> Result<(), AllocError> {
+    let marks = Footprint::of(alloc, command, tree)?;
+    write_marks(&marks, out)
+}
+
+// Appends those of the command at the path that a word spells.
+fn write_marks_at(
+    alloc: Global,
+    tree: &Tree,
+    asked: Asked,
+    word: &str,
+    out: &mut Vec<u8>,
+) -> Result<(), Refusal> {
+    let command = command(alloc, asked, word)?;
+    Ok(write_marks_of(alloc, tree, &command, out)?)
+}
+
+// Appends those of the commands of all rows.
+fn write_all_marks(
+    alloc: Global,
+    tree: &Tree,
+    rows: &[(Asked, &str)],
+    out: &mut Vec<u8>,
+) -> Result<(), Refusal> {
+    for (asked, word) in rows {
+        write_marks_at(alloc, tree, *asked, word, out)?;
+    }
+    Ok(())
+}
+
+// Appends those of all commands over the tree.
+fn write_asked(alloc: Global, out: &mut Vec<u8>) -> Result<(), Refusal> {
+    let tree = tree(alloc)?;
+    write_all_marks(alloc, &tree, &ASKED, out)
+}
+
 #[test]
 fn commands_have_marks(rt: HostRuntime) {
-    let tree = tree(rt.alloc()).expect(&rt, "a world");
     let mut out = Vec::new(rt.alloc());
-    for (asked, word) in &ASKED {
-        assert!(rt;
-            write_marks(rt.alloc(), &tree, *asked, word, &mut out) == Ok(()),
-            "{word}"
-        );
-    }
+    assert!(rt; write_asked(rt.alloc(), &mut out) == Ok(()));
     assert!(rt; out.as_slice() == MARKS.as_bytes());
 }
 
-// What the transaction takes for the command at the path.
+/// What is asked of the table of the marks of a command.
+#[derive(Clone, Copy)]
+enum Call {
+    /// That a transaction takes them.
+    Take,
+    /// That it gives them back, if it holds them all.
+    GiveBack,
+    /// Whether it holds them all.
+    Holds,
+    /// Who is in its way.
+    Clash,
+}
+
+// Takes the marks. No transaction is found.
 fn take(
+    alloc: Global,
+    table: &mut LockTable,
+    transaction: TxnNumber,
+    marks: &Footprint,
+) -> Result<Option<TxnNumber>, AllocError> {
+    table.take(alloc, transaction, marks)?;
+    Ok(None)
+}
+
+// The transaction, if it holds the marks.
+fn holder(table: &LockTable, transaction: TxnNumber, marks: &Footprint) -> Option<TxnNumber> {
+    if table.holds(transaction, marks) {
+        Some(transaction)
+    } else {
+        None
+    }
+}
+
+// The transaction, if it holds the marks, which it gives back.
+fn give_back(
+    table: &mut LockTable,
+    transaction: TxnNumber,
+    marks: &Footprint,
+) -> Option<TxnNumber> {
+    if !table.holds(transaction, marks) {
+        return None;
+    }
+    table.release(transaction, marks);
+    Some(transaction)
+}
+
+// The transaction that the call finds: it holds the marks, or is in the way of who would take them.
+fn found(
+    alloc: Global,
+    table: &mut LockTable,
+    call: Call,
+    transaction: TxnNumber,
+    marks: &Footprint,
+) -> Result<Option<TxnNumber>, AllocError> {
+    match call {
+        Call::Take => take(alloc, table, transaction, marks),
+        Call::GiveBack => Ok(give_back(table, transaction, marks)),
+        Call::Holds => Ok(holder(table, transaction, marks)),
+        Call::Clash => Ok(table.clash(transaction, marks)),
+    }
+}
+
+// What the call finds for the marks of the command.
+fn found_of(
     alloc: Global,
     tree: &Tree,
     table: &mut LockTable,
-    number: u32,
+    call: Call,
+    transaction: TxnNumber,
+    command: &Command,
+) -> Result<Option<TxnNumber>, AllocError> {
+    let marks = Footprint::of(alloc, command, tree)?;
+    found(alloc, table, call, transaction, &marks)
+}
+
+// What it finds for those of the command at the path that a word spells.
+fn answer(
+    alloc: Global,
+    tree: &Tree,
+    table: &mut LockTable,
+    call: Call,
+    transaction: TxnNumber,
     asked: Asked,
     word: &str,
-) -> Result<Footprint, Refusal> {
-    let footprint = Footprint::of(alloc, &command(alloc, asked, word)?, tree)?;
-    table.take(alloc, TxnNumber(number), &footprint)?;
-    Ok(footprint)
+) -> Result<Option<TxnNumber>, Refusal> {
+    let command = command(alloc, asked, word)?;
+    Ok(found_of(alloc, tree, table, call, transaction, &command)?)
 }
 
-// Gives back what the transaction took for a command; false where it doesn't hold all of it.
-fn give_back(table: &mut LockTable, number: u32, footprint: &Footprint) -> bool {
-    let held = table.holds(TxnNumber(number), footprint);
-    if held {
-        table.release(TxnNumber(number), footprint);
+/// A call, the number of the transaction that makes it, the command, and what the call finds.
+type Row = (Call, u32, (Asked, &'static str), Option<TxnNumber>);
+
+// Each row asks this of the table for the marks of this command, on behalf of the transaction with this number. Two
+// transactions and more hold what `show` reads; the least is in the way until it has given back all that it took.
+static CALLS: [Row; 10] = [
+    (Call::Take, 3, (Asked::Create, "/a/b"), None),
+    (Call::Take, 2, (Asked::Remove, "/a/b/x"), None),
+    (Call::Take, 2, (Asked::MaxDepth, "/a/b/x"), None),
+    (Call::Clash, 1, (Asked::Show, "/a"), Some(TxnNumber(2))),
+    (Call::Clash, 2, (Asked::Show, "/a"), Some(TxnNumber(3))),
+    (
+        Call::GiveBack,
+        2,
+        (Asked::MaxDepth, "/a/b/x"),
+        Some(TxnNumber(2)),
+    ),
+    (Call::Clash, 1, (Asked::Show, "/a"), Some(TxnNumber(2))),
+    (
+        Call::GiveBack,
+        2,
+        (Asked::Remove, "/a/b/x"),
+        Some(TxnNumber(2)),
+    ),
+    (Call::Clash, 1, (Asked::Show, "/a"), Some(TxnNumber(3))),
+    (Call::Holds, 3, (Asked::Create, "/a/b"), Some(TxnNumber(3))),
+];
+
+// The first row whose call doesn't find what it should.
+fn first_wrong(alloc: Global, tree: &Tree, table: &mut LockTable, rows: &[Row]) -> Option<usize> {
+    for (row, (call, number, (asked, word), expected)) in rows.iter().enumerate() {
+        let transaction = TxnNumber(*number);
+        if answer(alloc, tree, table, *call, transaction, *asked, word) != Ok(*expected) {
+            return Some(row);
+        }
     }
-    held
+    None
 }
 
-// Two transactions and more hold what `show` reads; the least is in the way until it has released all that it took.
-fn hold(alloc: Global, table: &mut LockTable) -> Result<bool, Refusal> {
+// The first of the calls, on a new table.
+fn first_wrong_call(alloc: Global, tree: &Tree) -> Option<usize> {
+    let mut table = LockTable::new(alloc);
+    first_wrong(alloc, tree, &mut table, &CALLS)
+}
+
+// The same over the tree.
+fn wrong_call(alloc: Global) -> Result<Option<usize>, Refusal> {
     let tree = tree(alloc)?;
-    let show = Footprint::of(alloc, &command(alloc, Asked::Show, "/a")?, &tree)?;
-    let third = take(alloc, &tree, table, 3, Asked::Create, "/a/b")?;
-    let second = take(alloc, &tree, table, 2, Asked::Remove, "/a/b/x")?;
-    let again = take(alloc, &tree, table, 2, Asked::MaxDepth, "/a/b/x")?;
-    let both = table.clash(TxnNumber(1), &show) == Some(TxnNumber(2))
-        && table.clash(TxnNumber(2), &show) == Some(TxnNumber(3));
-    let still = give_back(table, 2, &again)
-        && table.clash(TxnNumber(1), &show) == Some(TxnNumber(2));
-    let last = give_back(table, 2, &second)
-        && table.clash(TxnNumber(1), &show) == Some(TxnNumber(3));
-    Ok(both && still && last && table.holds(TxnNumber(3), &third))
+    Ok(first_wrong_call(alloc, &tree))
 }
 
 #[test]
 fn transactions_hold_marks(rt: HostRuntime) {
-    let mut table = LockTable::new(rt.alloc());
-    assert!(rt; hold(rt.alloc(), &mut table) == Ok(true));
+    assert_eq!(rt; wrong_call(rt.alloc()), Ok(None));
 }

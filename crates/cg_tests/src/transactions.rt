@@ -6,7 +6,7 @@ use cg_name::{FileName, Path, Refusal, SaveName, TxnNumber};
 use cg_tree::Tree;
 use cg_txn::{Entry, Txn};
 use cg_world::World;
-use std::alloc::Global;
+use std::alloc::{AllocError, Global};
 
 const WORLD: &str = "world 1\ncontrollers cpu\nonline 0\ngroup / - 0 -\nproc 10 /\nend\n";
 
@@ -16,14 +16,20 @@ fn tree(alloc: Global) -> Result<Tree, Refusal> {
     Ok(Tree::from_world(alloc, world)?)
 }
 
-// What stands of a command that shows the root, with its record at this place.
-fn entry(alloc: Global, tree: &Tree, place: u32) -> Result<Entry, Refusal> {
+// The footprint of a command that shows the root.
+fn footprint(alloc: Global, tree: &Tree) -> Result<Footprint, AllocError> {
     let path = Path::root(alloc);
     let file = FileName::Procs;
-    let footprint = Footprint::of(alloc, &Command::Show { path, file }, tree)?;
+    Footprint::of(alloc, &Command::Show { path, file }, tree)
+}
+
+// What stands of such a command, with its record at this place.
+fn entry(alloc: Global, tree: &Tree, place: u32) -> Result<Entry, AllocError> {
+    let footprint = footprint(alloc, tree)?;
+    let inverse = Inverse::new(alloc);
     Ok(Entry {
         place,
-        inverse: Inverse::new(alloc),
+        inverse,
         footprint,
     })
 }
@@ -48,14 +54,27 @@ fn push(alloc: Global, tree: &Tree, txn: &mut Txn, place: u32) -> Result<(), Ref
 }
 
 fn push_reserved(alloc: Global, tree: &Tree, txn: &mut Txn, place: u32) -> Result<(), Refusal> {
-    let entry = entry(alloc, tree, place)?;
     txn.reserve()?;
-    txn.push_reserved(entry);
+    txn.push_reserved(entry(alloc, tree, place)?);
     Ok(())
 }
 
+fn save(txn: &mut Txn, name: &str) -> Result<(), Refusal> {
+    txn.save(SaveName::read(name)?)
+}
+
+// The place of what is taken off.
+fn undo(txn: &mut Txn) -> Result<u32, Refusal> {
+    Ok(txn.undo()?.place)
+}
+
+// The place of what is taken off, if something is.
 fn place_of(taken: Option<Entry>) -> Option<u32> {
     Some(taken?.place)
+}
+
+fn back(txn: &mut Txn, name: &str) -> Result<Option<u32>, Refusal> {
+    Ok(place_of(txn.back(SaveName::read(name)?)?))
 }
 
 // What the call gives: the place of the command that it takes off, if it takes one.
@@ -63,17 +82,20 @@ fn answer(alloc: Global, tree: &Tree, txn: &mut Txn, call: Call) -> Result<Optio
     match call {
         Call::Push(place) => push(alloc, tree, txn, place)?,
         Call::PushReserved(place) => push_reserved(alloc, tree, txn, place)?,
-        Call::Save(name) => txn.save(SaveName::read(name)?)?,
-        Call::Undo => return Ok(Some(txn.undo()?.place)),
-        Call::Back(name) => return Ok(place_of(txn.back(SaveName::read(name)?)?)),
+        Call::Save(name) => save(txn, name)?,
+        Call::Undo => return Ok(Some(undo(txn)?)),
+        Call::Back(name) => return back(txn, name),
         Call::Newest => return Ok(place_of(txn.drain_newest_first())),
         Call::Oldest => return Ok(place_of(txn.drain_oldest_first())),
     }
     Ok(None)
 }
 
+/// A call, and what it gives.
+type Row = (Call, Result<Option<u32>, Refusal>);
+
 // Behind a call stands what is then on the stack, the oldest first.
-const CALLS: [(Call, Result<Option<u32>, Refusal>); 29] = [
+static CALLS: [Row; 29] = [
     (Call::Undo, Err(Refusal::NothingToUndo)),
     (Call::Back("one"), Err(Refusal::NoSavepoint)),
     (Call::Newest, Ok(None)),
@@ -105,13 +127,38 @@ const CALLS: [(Call, Result<Option<u32>, Refusal>); 29] = [
     (Call::Newest, Ok(Some(7))),
 ];
 
+// The first row whose call doesn't give what it should.
+fn first_wrong(alloc: Global, tree: &Tree, txn: &mut Txn, rows: &[Row]) -> Option<usize> {
+    for (row, (call, expected)) in rows.iter().enumerate() {
+        if answer(alloc, tree, txn, *call) != *expected {
+            return Some(row);
+        }
+    }
+    None
+}
+
+// Whether it is the stack of this transaction and nothing stands on it.
+fn is_empty(txn: &mut Txn) -> bool {
+    txn.number() == TxnNumber(8) && txn.len() == 0 && place_of(txn.drain_oldest_first()).is_none()
+}
+
+// The first of the calls, on a new stack; or how many calls there are, where something stands on it behind the last.
+fn first_wrong_call(alloc: Global, tree: &Tree) -> Option<usize> {
+    let mut txn = Txn::new(alloc, TxnNumber(8));
+    let wrong = first_wrong(alloc, tree, &mut txn, &CALLS);
+    if wrong.is_none() && !is_empty(&mut txn) {
+        return Some(CALLS.len());
+    }
+    wrong
+}
+
+// The same over the tree.
+fn wrong_call(alloc: Global) -> Result<Option<usize>, Refusal> {
+    let tree = tree(alloc)?;
+    Ok(first_wrong_call(alloc, &tree))
+}
+
 #[test]
 fn what_is_taken_off_a_stack(rt: HostRuntime) {
-    let tree = tree(rt.alloc()).expect(&rt, "a world");
-    let mut txn = Txn::new(rt.alloc(), TxnNumber(8));
-    for (call, expected) in &CALLS {
-        assert!(rt; answer(rt.alloc(), &tree, &mut txn, *call) == *expected);
-    }
-    assert!(rt; txn.number() == TxnNumber(8) && txn.len() == 0);
-    assert!(rt; answer(rt.alloc(), &tree, &mut txn, Call::Oldest) == Ok(None));
+    assert_eq!(rt; wrong_call(rt.alloc()), Ok(None));
 }

@@ -20,10 +20,14 @@ fn opening(alloc: Global) -> Result<World, Refusal> {
     World::read(alloc, OPENING.as_bytes())
 }
 
-// Appends the text of the world that its tree gives back.
+// The world that a world's tree gives back.
+fn given_back(alloc: Global, world: World) -> Result<World, AllocError> {
+    Tree::from_world(alloc, world)?.to_world(alloc)
+}
+
+// Appends the text of that of the opening world.
 fn write_back(alloc: Global, out: &mut Vec<u8>) -> Result<(), Refusal> {
-    let tree = Tree::from_world(alloc, opening(alloc)?)?;
-    tree.to_world(alloc)?.write(out)?;
+    given_back(alloc, opening(alloc)?)?.write(out)?;
     Ok(())
 }
 
@@ -79,16 +83,27 @@ fn write_location(
     Ok(())
 }
 
-// Appends the paths of the root's children, the name of the first and how many groups are below the root.
-fn write_below(alloc: Global, tree: &Tree, out: &mut Vec<u8>) -> Result<(), AllocError> {
-    let root = Path::root(alloc);
-    for (child, _) in tree.children(&root) {
+// Appends the paths of the children of the group at the path.
+fn write_children(tree: &Tree, path: &Path, out: &mut Vec<u8>) -> Result<(), AllocError> {
+    for (child, _) in tree.children(path) {
         child.write(out)?;
     }
-    if let Some((name, _)) = tree.child_at(&root, 0) {
+    Ok(())
+}
+
+// Appends the name of the first of them.
+fn write_first_child(tree: &Tree, path: &Path, out: &mut Vec<u8>) -> Result<(), AllocError> {
+    if let Some((name, _)) = tree.child_at(path, 0) {
         out.extend_from_slice(name.as_bytes())?;
     }
-    if tree.descendants(&root, 0) == 2 {
+    Ok(())
+}
+
+// Appends both, and a `2` where two groups are below that one, and a newline.
+fn write_below(tree: &Tree, path: &Path, out: &mut Vec<u8>) -> Result<(), AllocError> {
+    write_children(tree, path, out)?;
+    write_first_child(tree, path, out)?;
+    if tree.descendants(path, 0) == 2 {
         out.push(b'2')?;
     }
     out.push(b'\n')?;
@@ -103,22 +118,32 @@ fn write_pids(tree: &Tree, out: &mut Vec<u8>) -> Result<(), AllocError> {
     Ok(())
 }
 
-// Appends what the tree shows: where two processes are and one that isn't there, its groups and its PIDs.
-fn write_tree(alloc: Global, tree: &Tree, out: &mut Vec<u8>) -> Result<(), AllocError> {
+// Appends where two processes are, and one that isn't there.
+fn write_locations(alloc: Global, tree: &Tree, out: &mut Vec<u8>) -> Result<(), AllocError> {
     write_location(alloc, tree, 10, out)?;
     write_location(alloc, tree, 11, out)?;
-    write_location(alloc, tree, 99, out)?;
-    write_below(alloc, tree, out)?;
+    write_location(alloc, tree, 99, out)
+}
+
+// Appends what the tree shows: that, its groups and its PIDs.
+fn write_tree(alloc: Global, tree: &Tree, out: &mut Vec<u8>) -> Result<(), AllocError> {
+    write_locations(alloc, tree, out)?;
+    write_below(tree, &Path::root(alloc), out)?;
     write_pids(tree, out)
 }
 
-// Appends that of the world's tree, and of the edited one.
+// Appends that of the tree, and of the tree once it was edited.
+fn write_edited(alloc: Global, tree: &mut Tree, out: &mut Vec<u8>) -> Result<(), Refusal> {
+    write_tree(alloc, tree, out)?;
+    edit_tree(alloc, tree)?;
+    write_tree(alloc, tree, out)?;
+    Ok(())
+}
+
+// Appends those of the opening world's tree.
 fn write_trees(alloc: Global, out: &mut Vec<u8>) -> Result<(), Refusal> {
     let mut tree = Tree::from_world(alloc, opening(alloc)?)?;
-    write_tree(alloc, &tree, out)?;
-    edit_tree(alloc, &mut tree)?;
-    write_tree(alloc, &tree, out)?;
-    Ok(())
+    write_edited(alloc, &mut tree, out)
 }
 
 const SHOWN: &str = "/

@@ -1,4 +1,4 @@
-//! The lines of answers that no request of a schedule has yet.
+//! The lines of copies of answers.
 use cg_core::Answer;
 use cg_script::write_answer;
 use std::alloc::{AllocError, Global};

@@ -22,13 +22,16 @@ fn rewrite(alloc: Global, line: &str, out: &mut Vec<u8>) -> Result<(), Refusal> 
     }
 }
 
-const LINES: [(&str, &str); 20] = [
+const LINES: [(&str, &str); 23] = [
     ("\t A\t begin ", "> A begin"),
     ("s-1_Z  create \"/\"\r", "> s-1_Z create /"),
     ("A create /é", "> A create \"/é\""),
     ("B create \"/a \\\"b/#\"", "> B create \"/a \\\"b/#\""),
     ("0123456789abcdef commit", "> 0123456789abcdef commit"),
     ("B abort", "> B abort"),
+    (" B\tundo ", "> B undo"),
+    ("A save\ts-1_Z\r", "> A save s-1_Z"),
+    ("A  back 0123456789abcdef", "> A back 0123456789abcdef"),
     ("A remove\t\"/a\"\r", "> A remove /a"),
     ("A migrate 0010 /a", "> A migrate 10 /a"),
     ("A migrate 4194303 /", "> A migrate 4194303 /"),

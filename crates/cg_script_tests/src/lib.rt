@@ -1,0 +1,12 @@
+//! Tests of schedules as text and of the machine, over their public calls: what no contract says, and that calls which take
+//! memory succeed where there is enough. What the program reads and writes is shown on the built program, and not here.
+#![tactic(auto)]
+
+#[cfg(test)]
+mod answers;
+#[cfg(test)]
+mod machine;
+#[cfg(test)]
+mod printed;
+#[cfg(test)]
+mod requests;
