@@ -1,10 +1,13 @@
-mod Adding
-mod Counted
+mod Above
 mod Counting
+mod Counts
 mod Enough
-mod Least
+mod Intentions
+mod OfKinds
 mod Marks
-mod Passing
-mod Removing
+mod Pids
+mod Results
 pub mod Stacks
+mod Summed
+mod Tables
 mod Ways

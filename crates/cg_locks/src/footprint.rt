@@ -1,11 +1,10 @@
 //! Footprints: the marks under which one command runs.
 ghost use Rattle.std.specs.Prelude.{◌≡◌, ◌∷◌, ◌++◌, [], IfOk, OnOk, map, option_copied, take};
-ghost use Rattle.std.specs.List.{count_by, list_any};
 ghost use Rattle.cg_command.specs.Meaning.{command_of};
 ghost use Rattle.cg_locks.specs.Marks.{times};
 ghost use Rattle.cg_locks.specs.Meaning.{mark_of};
 ghost use Rattle.cg_model.specs.Footprint as model;
-ghost use Rattle.cg_model.specs.Footprint.{changed, clash, count_of, counts, footprint, is_limited, old_place};
+ghost use Rattle.cg_model.specs.Footprint.{changed, count_of, counts, footprint, is_limited, old_place};
 ghost use Rattle.cg_model.specs.Tree.{place_of};
 ghost use Rattle.cg_tree.specs.Prefix.{prefix_group};
 
@@ -75,13 +74,6 @@ impl Footprint {
             Some(Mark::Changed(path)) => Some(path),
             _ => None,
         }
-    }
-
-    // Whether the mark clashes with one of these.
-    pub(crate) fn clashes_with(&self, mark: &Mark) -> bool
-        ensures { result ≡ list_any (clash (mark_of mark.now)) self.now }
-    {
-        self.marks().iter().any(|own| mark.clashes(own))
     }
 
     // How often the mark stands here.

@@ -2,8 +2,11 @@
 #![tactic(auto)]
 
 mod footprint;
-mod holding;
+mod holders;
 mod mark;
+mod path_holders;
+mod pid_holders;
+mod subtrees;
 mod table;
 
 pub use footprint::Footprint;

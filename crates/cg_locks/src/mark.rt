@@ -1,13 +1,11 @@
 //! Marks: what a command has until its transaction ends or it is taken off (this project's own choice: two-phase locking of
 //! subtrees, of single groups and processes, and of numbers of descendants).
-ghost use Rattle.std.specs.Prelude.{◌≡◌, IfOk};
+ghost use Rattle.std.specs.Prelude.{◌≡◌};
 ghost use Rattle.cg_locks.specs.Marks.{same_mark};
 ghost use Rattle.cg_locks.specs.Meaning.{mark_of};
-ghost use Rattle.cg_model.specs.Footprint as model;
-ghost use Rattle.cg_model.specs.Footprint.{clash};
 
 use cg_name::Path;
-use std::alloc::{AllocError, Global};
+use std::alloc::Global;
 use std::default::MadeWith;
 
 /// What a command locks, of the tree.
@@ -33,38 +31,6 @@ impl MadeWith<Global> for Mark {
 }
 
 impl Mark {
-    // An equal mark; an error where there is no memory for it.
-    pub(crate) fn copy(&self, alloc: Global) -> Result<Mark, AllocError>
-        ensures { IfOk result (λ m. m ≡ self.now) }
-    {
-        Ok(match self {
-            Mark::Changed(path) => Mark::Changed(path.copy(alloc)?),
-            Mark::Read(path) => Mark::Read(path.copy(alloc)?),
-            Mark::Stays(path) => Mark::Stays(path.copy(alloc)?),
-            Mark::Process(pid) => Mark::Process(*pid),
-            Mark::Descendants(path) => Mark::Descendants(path.copy(alloc)?),
-        })
-    }
-
-    // Whether two transactions can't hold the two marks at once.
-    #[tactic(auto, using(crate::proofs::Marks::compared))]
-    pub(crate) fn clashes(&self, other: &Mark) -> bool
-        ensures { result ≡ clash (mark_of self.now) (mark_of other.now) }
-    {
-        match (self, other) {
-            (Mark::Changed(path), Mark::Changed(other)) => path.comparable(other),
-            (Mark::Changed(path), Mark::Read(other)) => path.comparable(other),
-            (Mark::Read(path), Mark::Changed(other)) => path.comparable(other),
-            (Mark::Changed(path), Mark::Stays(other)) => path.is_prefix(other),
-            (Mark::Stays(path), Mark::Changed(other)) => other.is_prefix(path),
-            (Mark::Read(path), Mark::Stays(other)) => path.is_prefix(other),
-            (Mark::Stays(path), Mark::Read(other)) => other.is_prefix(path),
-            (Mark::Process(pid), Mark::Process(other)) => pid == other,
-            (Mark::Descendants(path), Mark::Descendants(other)) => path == other,
-            _ => false,
-        }
-    }
-
     // Whether the two are one mark.
     #[tactic(auto, using(crate::proofs::Marks::compared))]
     pub(crate) fn is_same(&self, other: &Mark) -> bool
@@ -76,16 +42,6 @@ impl Mark {
             (Mark::Stays(path), Mark::Stays(other)) => path == other,
             (Mark::Process(pid), Mark::Process(other)) => pid == other,
             (Mark::Descendants(path), Mark::Descendants(other)) => path == other,
-            _ => false,
-        }
-    }
-    // Whether this is the mark of the subtree of the group at the path, to be changed.
-    #[tactic(auto, using(crate::proofs::Marks::compared))]
-    pub(crate) fn is_changed(&self, path: &Path) -> bool
-        ensures { result ≡ same_mark (model.X path.now) (mark_of self.now) }
-    {
-        match self {
-            Mark::Changed(own) => path == own,
             _ => false,
         }
     }

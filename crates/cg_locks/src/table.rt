@@ -1,34 +1,44 @@
 //! The table of the marks that open transactions hold.
-ghost use Rattle.std.specs.Prelude.{◌≡◌, ◌≢◌, ◌+◌, ◌==◌, ◌<◌, ◌≤◌, ◌↔◌, ℕ, cond, IfSome, IsTrue, OnErr, OnOk, None};
+ghost use Rattle.std.specs.Prelude.{◌≡◌, ◌≢◌, ◌+◌, ◌==◌, ◌<◌, ◌≤◌, ◌↔◌, ℕ, cond, map, option_map, IfSome, IsTrue, OnErr, OnOk, None};
+ghost use Rattle.cg_locks.specs.Holders.{number_of};
 ghost use Rattle.cg_locks.specs.Holdings.{holdings, HoldsAll, HoldsMark, IsInTheWay};
 ghost use Rattle.cg_locks.specs.Marks.{times};
+ghost use Rattle.cg_locks.specs.Single.{IsHeldOnceMore, IsLeastInTheWay, IsNeat};
 ghost use Rattle.cg_locks.specs.Meaning.{mark_of};
 ghost use Rattle.cg_model.specs.Footprint as model;
 
 use crate::footprint::Footprint;
-use crate::holding::{Holding, count, least_other, push_all, remove_all};
+use crate::holders::{Holders, lesser};
 use crate::mark::Mark;
-use cg_name::{Path, TxnNumber};
+use crate::subtrees::Subtrees;
+use crate::{path_holders, pid_holders};
+use cg_name::{Path, PathMap, TxnNumber};
 use std::alloc::{AllocError, Global};
+use std::collections::BTreeMap;
 use std::marker::Model;
 
 /// Which transaction holds which mark, and how often.
 #[derive(Drop)]
 pub struct LockTable {
-    // Each holding by itself, in no order.
-    held: Vec<Holding>,
+    changed: Subtrees,
+    read: Subtrees,
+    stays: Subtrees,
+    descendants: PathMap<Holders>,
+    processes: BTreeMap<u32, Holders>,
 }
 
 impl Model for LockTable {
+    ghost use Rattle.std.specs.Ordering.{nat_cmp};
+    ghost use Rattle.cg_maps.specs.FiniteMap.{from_entries};
     ghost use Rattle.cg_locks.specs.Holdings.{Holdings, holdings_code};
 
     ghost Value = { Holdings };
 
     ghost coded = { holdings_code };
 
-    ghost use Rattle.cg_locks.specs.Holding.{table_of};
+    ghost use Rattle.cg_locks.specs.Table.{table_of};
 
-    ghost view = { λ t. table_of t.held.items };
+    ghost view = { λ t. table_of (record { changed = t.changed; read = t.read; stays = t.stays; descendants = t.descendants; processes = from_entries nat_cmp t.processes.entries }) };
 }
 
 impl LockTable {
@@ -37,7 +47,11 @@ impl LockTable {
         ensures { (u : ℕ) (m : model.Mark) → holdings result u m ≡ 0 }
     {
         LockTable {
-            held: Vec::new(alloc),
+            changed: Subtrees::new(alloc),
+            read: Subtrees::new(alloc),
+            stays: Subtrees::new(alloc),
+            descendants: PathMap::new(alloc),
+            processes: BTreeMap::new(alloc),
         }
     }
 
@@ -47,7 +61,47 @@ impl LockTable {
         ensures least { IfSome result (λ u. (v : ℕ) → IsInTheWay self.now transaction.0 footprint.now v → u.0 ≤ v) }
         ensures none { result ≡ None → (v : ℕ) → ¬ (IsInTheWay self.now transaction.0 footprint.now v) }
     {
-        least_other(&self.held, transaction, footprint)
+        let marks = footprint.marks();
+        let mut least = None;
+        for mark in marks {
+            least = lesser(least, self.clash_with(transaction, mark));
+        }
+        least
+    }
+
+    // The least other transaction that holds a mark which clashes with this one.
+    fn clash_with(&self, transaction: TxnNumber, mark: &Mark) -> Option<TxnNumber>
+        ensures { IsLeastInTheWay self.now transaction.0 (mark_of mark.now) (option_map number_of result) }
+    {
+        match mark {
+            Mark::Changed(path) => self.clash_with_changed(transaction, path),
+            Mark::Read(path) => lesser(
+                self.changed.least_along(path, transaction),
+                self.stays.least_below(path, transaction),
+            ),
+            Mark::Stays(path) => lesser(
+                self.changed.least_above(path, transaction),
+                self.read.least_above(path, transaction),
+            ),
+            Mark::Process(pid) => pid_holders::least(&self.processes, *pid, transaction),
+            Mark::Descendants(path) => {
+                path_holders::least_at(&self.descendants, path, path.depth(), transaction)
+            }
+        }
+    }
+
+    // The least other transaction that holds a mark which clashes with that of the subtree of the group at the path, to be
+    // changed.
+    fn clash_with_changed(&self, transaction: TxnNumber, path: &Path) -> Option<TxnNumber>
+        ensures { IsLeastInTheWay self.now transaction.0 (model.X path.now) (option_map number_of result) }
+    {
+        lesser(
+            lesser(
+                self.changed.least_along(path, transaction),
+                self.read.least_along(path, transaction),
+            ),
+            self.stays.least_below(path, transaction),
+        )
     }
 
     /// Whether the transaction holds each mark at least as often as it stands in the footprint. Takes no memory.
@@ -67,16 +121,27 @@ impl LockTable {
     fn holds_mark(&self, transaction: TxnNumber, footprint: &Footprint, mark: &Mark) -> bool
         ensures { IsTrue result ↔ HoldsMark self.now transaction.0 footprint.now (mark_of mark.now) }
     {
-        footprint.times(mark) <= count(&self.held, transaction, mark)
+        footprint.times(mark) <= self.count(transaction, mark)
+    }
+
+    // How often the transaction holds the mark.
+    fn count(&self, transaction: TxnNumber, mark: &Mark) -> usize
+        ensures { result ≡ holdings self.now transaction.0 (mark_of mark.now) }
+    {
+        match mark {
+            Mark::Changed(path) => self.changed.count(path, transaction),
+            Mark::Read(path) => self.read.count(path, transaction),
+            Mark::Stays(path) => self.stays.count(path, transaction),
+            Mark::Process(pid) => pid_holders::count(&self.processes, *pid, transaction),
+            Mark::Descendants(path) => path_holders::count(&self.descendants, path, transaction),
+        }
     }
 
     /// Whether the transaction holds the subtree of the group at the path, to change it. Takes no memory.
     pub fn holds_changed(&self, transaction: TxnNumber, path: &Path) -> bool
         ensures { IsTrue result ↔ (0 < holdings self.now transaction.0 (model.X path.now)) }
     {
-        self.held
-            .iter()
-            .any(|holding| holding.is_of_changed(transaction, path))
+        self.changed.count(path, transaction) > 0
     }
 
     /// Adds one holding by the transaction of each mark of the footprint. An error, where there is no memory for them, leaves
@@ -90,12 +155,17 @@ impl LockTable {
         ensures ok { OnOk result ((u : ℕ) (m : model.Mark) → holdings self.new u m ≡ holdings self.old u m + cond (u == transaction.0) (times m footprint.now) 0) }
         ensures err { OnErr result (self.new ≡ self.old) }
     {
-        let before = self.held.len();
-        let taken = push_all(&mut self.held, alloc, transaction, footprint.marks());
-        if taken.is_err() {
-            self.held.truncate(before);
+        self.tell();
+        let marks = footprint.marks();
+        for index in 0..marks.len() {
+            let taken = self.take_mark(alloc, transaction, &marks[index]);
+            if taken.is_err() {
+                self.release_all(transaction, &marks[..index]);
+                self.tell();
+                return taken;
+            }
         }
-        taken
+        Ok(())
     }
 
     /// Takes away one holding by the transaction of each mark of the footprint, which it holds. Takes no memory.
@@ -103,6 +173,66 @@ impl LockTable {
         requires { HoldsAll self.old transaction.0 footprint.now }
         ensures { (u : ℕ) (m : model.Mark) → holdings self.new u m + cond (u == transaction.0) (times m footprint.now) 0 ≡ holdings self.old u m }
     {
-        remove_all(&mut self.held, transaction, footprint.marks());
+        self.release_all(transaction, footprint.marks());
+    }
+
+    // A table tells what holds of it when a part of it is looked at: who holds a mark never isn't named.
+    fn tell(&self)
+        ensures { IsNeat self.now }
+    {
+        let _ = &self.changed;
+    }
+
+    // Takes away one holding of each of the marks, which the transaction holds.
+    fn release_all(&mut self, transaction: TxnNumber, marks: &[Mark])
+        requires { HoldsAll self.old transaction.0 (map mark_of marks.now) }
+        ensures { (u : ℕ) (m : model.Mark) → holdings self.new u m + cond (u == transaction.0) (times m (map mark_of marks.now)) 0 ≡ holdings self.old u m }
+    {
+        for mark in marks {
+            self.release_mark(transaction, mark);
+        }
+    }
+
+    // Adds one holding of the mark. An error, where there is no memory for it, leaves the table as it was.
+    fn take_mark(
+        &mut self,
+        alloc: Global,
+        transaction: TxnNumber,
+        mark: &Mark,
+    ) -> Result<(), AllocError>
+        ensures ok { OnOk result (IsHeldOnceMore self.old transaction.0 (mark_of mark.now) self.new) }
+        ensures err { OnErr result (self.new ≡ self.old) }
+    {
+        match mark {
+            Mark::Changed(path) => self.changed.add(alloc, path, transaction),
+            Mark::Read(path) => self.read.add(alloc, path, transaction),
+            Mark::Stays(path) => self.stays.add(alloc, path, transaction),
+            Mark::Process(pid) => {
+                pid_holders::add(&mut self.processes, alloc, *pid, transaction)
+            }
+            Mark::Descendants(path) => {
+                let depth = path.depth();
+                path_holders::add(&mut self.descendants, alloc, path, depth, transaction)
+            }
+        }
+    }
+
+    // Takes away one holding of the mark, which the transaction holds.
+    fn release_mark(&mut self, transaction: TxnNumber, mark: &Mark)
+        requires { 0 < holdings self.old transaction.0 (mark_of mark.now) }
+        ensures { IsHeldOnceMore self.new transaction.0 (mark_of mark.now) self.old }
+    {
+        match mark {
+            Mark::Changed(path) => self.changed.remove(path, transaction),
+            Mark::Read(path) => self.read.remove(path, transaction),
+            Mark::Stays(path) => self.stays.remove(path, transaction),
+            Mark::Process(pid) => {
+                pid_holders::remove(&mut self.processes, *pid, transaction);
+            }
+            Mark::Descendants(path) => {
+                let depth = path.depth();
+                path_holders::remove(&mut self.descendants, path, depth, transaction);
+            }
+        }
     }
 }

@@ -94,6 +94,14 @@ impl<V: Drop> PathMap<V> {
         self.entries.get_mut(path.text())
     }
 
+    /// The value at the path of the first `depth` names, or of all where there are fewer, to be written, if there is one.
+    pub fn get_prefix_mut(&mut self, path: &Path, depth: u32) -> Option<&mut V>
+        ensures* writes_back { sem 𝓛 (lends_value V.row self.entry (take depth path.now) result) }
+        ensures value { option_copied_mut result ≡ get self.old (take depth path.now) }
+    {
+        self.entries.get_mut(path.prefix_text(depth))
+    }
+
     /// Puts the value at the path, and gives the one that was there. An error where there is no memory for a new entry,
     /// which leaves the map as it was: a value that is there is replaced in its place.
     pub fn insert(&mut self, alloc: Global, path: &Path, value: V) -> Result<Option<V>, AllocError>
@@ -116,6 +124,15 @@ impl<V: Drop> PathMap<V> {
         ensures removed { self.new ≡ set_at self.old path.now None }
     {
         self.entries.remove(path.text())
+    }
+
+    /// Takes out the value at the path of the first `depth` names, or of all where there are fewer, and gives it, if there
+    /// is one.
+    pub fn remove_prefix(&mut self, path: &Path, depth: u32) -> Option<V>
+        ensures value { result ≡ get self.old (take depth path.now) }
+        ensures removed { self.new ≡ set_at self.old (take depth path.now) None }
+    {
+        self.entries.remove(path.prefix_text(depth))
     }
 
     /// The entries, in the order of the paths.

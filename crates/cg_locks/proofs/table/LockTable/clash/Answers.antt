@@ -1,20 +1,21 @@
--- The least of the list is that of the table.
-use Rattle.std.proofs.Common.{None, ap, ◌∙◌}
-use Rattle.cg_locks.specs.Holding.{is_of_another, least_from}
-use Rattle.cg_locks.proofs.Ways.{some_in_the_way, least_in_the_way, none_in_the_way}
+-- A mark more each turn, all in the end.
+use Rattle.std.proofs.Common.{◌+◌, option_map, sym, subst}
+use Rattle.cg_locks.specs.Holders.{number_of}
+use Rattle.cg_locks.specs.Holdings.{IsInTheWay}
+use Rattle.cg_locks.proofs.Ways.{all_so_far, least_is_found, next_so_far, none_is_found, IsLeastSoFar}
 use Rattle.cg_locks.proofs.table.LockTable.clash.Goals as goal
 
-pub returns-clause-some : goal.returns-clause-some
-returns-clause-some c =
-    some_in_the_way c.args.self.now c.self.inside.held.items c.self.view_is c.args.transaction.0 c.args.footprint.now c.least_other.result
-    (c.least_other.ensures ∙ ap (least_from (is_of_another c.args.transaction.0 c.args.footprint.now) None) c.deref.ensures.value)
+pub loop-mark-preserved : goal.loop-mark-preserved
+loop-mark-preserved c =
+    subst (IsLeastSoFar c.args.self.now c.args.transaction.0 c.marks-marks.result.now (c.loop-mark.mark-index + 1)) (sym c.lesser-least.ensures)
+    (next_so_far c.args.self.now c.args.transaction.0 c.marks-marks.result.now c.loop-mark.mark-index c.mark-item.result _ _ c.loop-mark-test.true c.mark-item.is c.loop-mark.invariant c.clash_with.ensures)
 
 pub returns-clause-least : goal.returns-clause-least
 returns-clause-least c =
-    least_in_the_way c.args.self.now c.self.inside.held.items c.self.view_is c.args.transaction.0 c.args.footprint.now c.least_other.result
-    (c.least_other.ensures ∙ ap (least_from (is_of_another c.args.transaction.0 c.args.footprint.now) None) c.deref.ensures.value)
+    least_is_found (IsInTheWay c.args.self.now c.args.transaction.0 c.args.footprint.now) c.loop-mark.least
+    (all_so_far c.args.self.now c.args.transaction.0 c.marks-marks.result.now c.args.footprint.now c.loop-mark.mark-index (option_map number_of c.loop-mark.least) c.marks-marks.ensures c.loop-mark-test.false c.loop-mark.invariant)
 
 pub returns-clause-none : goal.returns-clause-none
 returns-clause-none c =
-    none_in_the_way c.args.self.now c.self.inside.held.items c.self.view_is c.args.transaction.0 c.args.footprint.now c.least_other.result
-    (c.least_other.ensures ∙ ap (least_from (is_of_another c.args.transaction.0 c.args.footprint.now) None) c.deref.ensures.value)
+    none_is_found (IsInTheWay c.args.self.now c.args.transaction.0 c.args.footprint.now) c.loop-mark.least
+    (all_so_far c.args.self.now c.args.transaction.0 c.marks-marks.result.now c.args.footprint.now c.loop-mark.mark-index (option_map number_of c.loop-mark.least) c.marks-marks.ensures c.loop-mark-test.false c.loop-mark.invariant)

@@ -1,10 +1,6 @@
-use Rattle.std.proofs.Common.{ap, ◌∙◌}
-use Rattle.cg_locks.specs.Holding.{held}
 use Rattle.cg_locks.specs.Meaning.{mark_of}
 use Rattle.cg_locks.proofs.Enough.{compared_at}
 use Rattle.cg_locks.proofs.table.LockTable.holds_mark.Goals as goal
 
 pub returns : goal.returns
-returns c =
-    compared_at c.args.self.now c.self.inside.held.items c.args.transaction.0 c.args.footprint.now (mark_of c.args.mark.now) c.times.result c.count.result c.self.view_is c.times.ensures
-    (c.count.ensures ∙ ap (held c.args.transaction.0 (mark_of c.args.mark.now)) c.deref.ensures.value)
+returns c = compared_at c.args.self.now c.args.transaction.0 c.args.footprint.now (mark_of c.args.mark.now) c.times.result c.count.result c.times.ensures c.count.ensures

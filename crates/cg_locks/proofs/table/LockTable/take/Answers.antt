@@ -1,8 +1,14 @@
-use Rattle.std.proofs.lemmas.Result.{on_ok_weaker}
-use Rattle.cg_locks.proofs.Adding.{all_taken}
+-- What was taken before the error is released again.
+use Rattle.std.proofs.Common.{map, sym, take, ap, ◌∙◌}
+use Rattle.std.proofs.lemmas.Result.{on_err_weaker}
+use Rattle.cg_locks.specs.Holdings.{holdings}
+use Rattle.cg_locks.specs.Meaning.{mark_of}
+use Rattle.cg_locks.proofs.Enough.{undone}
+use Rattle.cg_locks.proofs.Tables.{same_neat}
 use Rattle.cg_locks.proofs.table.LockTable.take.Goals as goal
 
-pub returns-else-is_err-clause-ok : goal.returns-else-is_err-clause-ok
-returns-else-is_err-clause-ok c =
-    on_ok_weaker c.push_all-taken.result (all_taken c.args.self.now c.self.inside.held.items c.push_all-taken.new.holdings.items c.args.transaction.0 c.args.footprint.now c.marks.result.now c.self.view_is c.marks.ensures)
-    c.push_all-taken.ensures.ok
+pub returns-then-is_err-clause-err : goal.returns-then-is_err-clause-err
+returns-then-is_err-clause-err c =
+    on_err_weaker c.take_mark-taken.result (λ same. same_neat c.release_all.new.self c.args.self.now c.tell-then-is_err.ensures c.tell.ensures
+    (undone c.args.self.now c.loop-index.self c.release_all.new.self c.args.transaction.0 (map mark_of (take c.loop-index.index c.marks-marks.result.now)) c.loop-index.invariant
+    (λ u m. sym (c.release_all.ensures u m ∙ ap (λ H. holdings H u m) same)))) c.take_mark-taken.ensures.err

@@ -1,0 +1,14 @@
+-- Results that are no errors.
+use Rattle.std.proofs.Common.{◌≡◌, true, false, sym, OnErr, OnOk}
+use Rattle.std.proofs.lemmas.Bool.{false≢true}
+use Rattle.std.specs.declared.result.Result.{Result}
+use Rattle.std.specs.declared.result.Result.TheVariants.{Ok, Err}
+use Rattle.std.specs.Result.{is_err}
+
+pub went_well : {A E P : Type 0} (r : Result A E) → is_err r ≡ false → OnOk r P → P
+went_well (Ok x) e h = h
+went_well (Err x) e h = absurd (false≢true (sym e))
+
+pub went_wrong : {A E P : Type 0} (r : Result A E) → is_err r ≡ true → OnErr r P → P
+went_wrong (Ok x) e h = absurd (false≢true e)
+went_wrong (Err x) e h = h

@@ -1,0 +1,102 @@
+-- Which transactions hold one thing, and how often; and the same of things by paths.
+use Rattle.std.specs.Prelude.{◌≡◌, ◌≢◌, ℕ, zero, suc, ◌+◌, ◌<◌, ◌≤◌, ◌==◌, ◌&&◌, nat_lt, Bool, cond, List, length, take, Option, Some, None}
+use Rattle.std.specs.List.{sum_by}
+use Rattle.std.specs.Option.{unwrap_or}
+use Rattle.std.specs.Ordering.{nat_cmp}
+use Rattle.cg_maps.specs.FiniteMap.{FiniteMap, entries, from_entries, get}
+use Rattle.cg_name.specs.declared.refusal.TxnNumber.{TxnNumber}
+use Rattle.cg_name.specs.Path.{Path, path_cmp, same_path, is_prefix}
+
+-- transactions, each with how often it holds the thing
+abbrev pub Counts : Type 0
+Counts = FiniteMap nat_cmp ℕ
+
+-- these by paths
+abbrev pub PathCounts : Type 0
+PathCounts = FiniteMap path_cmp Counts
+
+-- how often u holds it
+abbrev pub held_by : Counts → ℕ → ℕ
+held_by C u = unwrap_or (get C u) 0
+
+-- nobody is named who holds it never
+abbrev pub IsPositive : Counts → Type 0
+IsPositive C = (u n : ℕ) → get C u ≡ Some n → 0 < n
+
+-- so, where anybody does
+abbrev pub held_if : Option Counts → ℕ → ℕ
+held_if None u = 0
+held_if (Some C) u = held_by C u
+
+-- how often u holds what is at the path
+abbrev pub held_at : PathCounts → Path → ℕ → ℕ
+held_at T p u = held_if (get T p) u
+
+-- how often u holds what is of the number k
+abbrev pub held_for : List (ℕ × Counts) → ℕ → ℕ → ℕ
+held_for es k u = held_if (get (from_entries nat_cmp es) k) u
+
+-- and what is at the path or at one that begins with it
+unfoldable pub held_below : PathCounts → Path → ℕ → ℕ
+held_below T p u = sum_by (λ e. cond (is_prefix p e.0) (held_by e.1 u) 0) (entries T)
+
+-- and what is at the first n of the paths with which the path begins, the root's first
+abbrev pub held_until : PathCounts → Path → ℕ → ℕ → ℕ
+held_until T p zero u = 0
+held_until T p (suc n) u = held_until T p n u + held_at T (take n p) u
+
+-- at all of these, itself too
+abbrev pub held_above : PathCounts → Path → ℕ → ℕ
+held_above T p u = held_until T p (suc (length p)) u
+
+abbrev pub one : Bool → ℕ
+one b = cond b 1 0
+
+-- T' has one holding by t at p more
+pub record IsOneMore (T : PathCounts) (p : Path) (t : ℕ) (T' : PathCounts) : Type 0 where
+  pub at : (q : Path) (u : ℕ) → held_at T' q u ≡ held_at T q u + one (same_path q p && (u == t))
+  pub below : (q : Path) (u : ℕ) → held_below T' q u ≡ held_below T q u + one (is_prefix q p && (u == t))
+
+-- q has fewer than n names, and p begins with them
+abbrev pub is_among : ℕ → Path → Path → Bool
+is_among n p q = is_prefix q p && nat_lt (length q) n
+
+-- T' has one holding by t more at each of the first n paths with which p begins
+abbrev pub IsOneMoreAbove : PathCounts → Path → ℕ → ℕ → PathCounts → Type 0
+IsOneMoreAbove T p n t T' = (q : Path) (u : ℕ) → held_at T' q u ≡ held_at T q u + one (is_among n p q && (u == t))
+
+-- in T' the same is held
+abbrev pub IsAlike : PathCounts → PathCounts → Type 0
+IsAlike T T' = (q : Path) (u : ℕ) → held_at T' q u ≡ held_at T q u
+
+-- so it is, and as often at or below each path
+pub record IsSame (T T' : PathCounts) : Type 0 where
+  pub at : IsAlike T T'
+  pub below : (q : Path) (u : ℕ) → held_below T' q u ≡ held_below T q u
+
+-- each path has, how often what is at it or below it is held
+abbrev pub IsSummedUp : PathCounts → PathCounts → Type 0
+IsSummedUp T B = (q : Path) (u : ℕ) → held_at B q u ≡ held_below T q u
+
+-- another than t, which holds something
+abbrev pub IsOtherHolder : ℕ → (ℕ → ℕ) → ℕ → Type 0
+IsOtherHolder t held u = (u ≢ t) × (0 < held u)
+
+-- the least number of which P is true, if there is one
+pub record IsLeast (P : ℕ → Type 0) (r : Option ℕ) : Type 0 where
+  pub some : (u : ℕ) → r ≡ Some u → P u
+  pub least : (u : ℕ) → r ≡ Some u → (v : ℕ) → P v → u ≤ v
+  pub none : r ≡ None → (v : ℕ) → ¬ (P v)
+
+-- the least other than t that holds something, if there is one
+abbrev pub IsLeastOther : ℕ → (ℕ → ℕ) → Option ℕ → Type 0
+IsLeastOther t held r = IsLeast (IsOtherHolder t held) r
+
+-- the lesser of two numbers, of which each may be missing
+abbrev pub lesser_of : Option ℕ → Option ℕ → Option ℕ
+lesser_of None o = o
+lesser_of (Some n) None = Some n
+lesser_of (Some n) (Some k) = cond (nat_lt k n) (Some k) (Some n)
+
+abbrev pub number_of : TxnNumber → ℕ
+number_of n = n.0

@@ -1,0 +1,108 @@
+//! The transactions that hold one thing, each with how often.
+ghost use Rattle.std.specs.Prelude.{◌≡◌, ◌+◌, ◌<◌, ◌==◌, ℕ, IsTrue, OnErr, OnOk, option_map};
+ghost use Rattle.cg_locks.specs.Holders.{held_by, lesser_of, number_of, one, IsLeastOther};
+
+use cg_name::TxnNumber;
+use std::alloc::{AllocError, Global};
+use std::collections::BTreeMap;
+use std::marker::Model;
+
+// The transactions that hold one thing.
+#[derive(Drop)]
+pub(crate) struct Holders {
+    // By their numbers: no entry has 0.
+    counts: BTreeMap<u32, usize>,
+}
+
+impl Model for Holders {
+    ghost use Rattle.std.specs.Prelude.{ℕ};
+    ghost use Rattle.std.specs.Coded.{coded_ℕ};
+    ghost use Rattle.std.specs.Ordering.{nat_cmp};
+    ghost use Rattle.cg_maps.specs.Code.{map_code};
+    ghost use Rattle.cg_maps.specs.FiniteMap.{FiniteMap, from_entries};
+    ghost use Rattle.cg_locks.specs.Holders.{IsPositive};
+
+    ghost Value = { FiniteMap nat_cmp ℕ };
+
+    ghost coded = { map_code coded_ℕ coded_ℕ };
+
+    ghost view = { λ h. from_entries nat_cmp h.counts.entries };
+
+    ghost invariant = { λ h. IsPositive (from_entries nat_cmp h.counts.entries) };
+}
+
+impl Holders {
+    // None.
+    pub(crate) fn new(alloc: Global) -> Holders
+        ensures { (u : ℕ) → held_by result u ≡ 0 }
+    {
+        Holders {
+            counts: BTreeMap::new(alloc),
+        }
+    }
+
+    // Whether there are none.
+    pub(crate) fn is_empty(&self) -> bool
+        ensures { IsTrue result → (u : ℕ) → held_by self.now u ≡ 0 }
+    {
+        self.counts.is_empty()
+    }
+
+    // How often the transaction holds it.
+    pub(crate) fn count(&self, transaction: TxnNumber) -> usize
+        ensures { result ≡ held_by self.now transaction.0 }
+    {
+        match self.counts.get(&transaction.0) {
+            Some(count) => *count,
+            None => 0,
+        }
+    }
+
+    // The least other transaction that holds it.
+    pub(crate) fn least_other(&self, transaction: TxnNumber) -> Option<TxnNumber>
+        ensures { IsLeastOther transaction.0 (held_by self.now) (option_map number_of result) }
+    {
+        for (holder, _count) in &self.counts {
+            if *holder != transaction.0 {
+                return Some(TxnNumber(*holder));
+            }
+        }
+        None
+    }
+
+    // One holding more by the transaction. An error, where there is no memory for it, changes nothing.
+    pub(crate) fn add(&mut self, transaction: TxnNumber) -> Result<(), AllocError>
+        ensures ok { OnOk result ((u : ℕ) → held_by self.new u ≡ held_by self.old u + one (u == transaction.0)) }
+        ensures err { OnErr result (self.new ≡ self.old) }
+    {
+        let Some(more) = self.count(transaction).checked_add(1) else {
+            return Err(AllocError);
+        };
+        self.counts.insert(transaction.0, more)?;
+        Ok(())
+    }
+
+    // One holding less by the transaction, which has one. Takes no memory.
+    pub(crate) fn remove(&mut self, transaction: TxnNumber)
+        requires { 0 < held_by self.old transaction.0 }
+        ensures { (u : ℕ) → held_by self.old u ≡ held_by self.new u + one (u == transaction.0) }
+    {
+        let left = self.count(transaction) - 1;
+        if left == 0 {
+            self.counts.remove(&transaction.0);
+        } else if let Some(count) = self.counts.get_mut(&transaction.0) {
+            *count = left;
+        }
+    }
+}
+
+// The lesser of two numbers, of which each may be missing.
+pub(crate) fn lesser(first: Option<TxnNumber>, second: Option<TxnNumber>) -> Option<TxnNumber>
+    ensures { option_map number_of result ≡ lesser_of (option_map number_of first) (option_map number_of second) }
+{
+    match (first, second) {
+        (Some(one), Some(other)) => Some(if other.0 < one.0 { other } else { one }),
+        (Some(one), None) => Some(one),
+        (None, other) => other,
+    }
+}
