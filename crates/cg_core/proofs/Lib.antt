@@ -11,6 +11,7 @@ mod ReturningByOne
 mod ReturningParts
 mod ReturningToSavepoints
 mod Savepoints
+mod Settling
 mod Showing
 mod Slots
 -- What the tree and the lock table hold at each stage.

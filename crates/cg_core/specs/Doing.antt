@@ -1,9 +1,6 @@
 -- A command that is carried out in its transaction.
 use Rattle.std.specs.Prelude.{◌≡◌, ℕ, ◌+◌, ◌==◌, Bool, true, false, cond, List, ◌∷◌}
-use Rattle.cg_command.specs.declared.command.Outcome as rust
-use Rattle.cg_command.specs.Applied.{entries_after, outcome_of}
-use Rattle.cg_history.specs.declared.record.Answer as rust_answer
-use Rattle.cg_history.specs.Meaning.{answer_of}
+use Rattle.cg_command.specs.Applied.{entries_after}
 use Rattle.cg_locks.specs.Holdings.{Holdings, holdings}
 use Rattle.cg_locks.specs.Marks.{times}
 use Rattle.cg_model.specs.Change.{Change, done}
@@ -35,7 +32,3 @@ pub record IsCarriedOut (c : Command) (k : ℕ) (f : List Mark) (R : TreeWithRoo
 abbrev pub is_text : Outcome → Bool
 is_text Done = false
 is_text (Text x) = true
-
--- two answers to the outcome
-abbrev pub HaveAnswers : rust.Outcome → rust_answer.Answer → rust_answer.Answer → Type 0
-HaveAnswers o a b = (answer_of a ≡ Gave (outcome_of o)) × (answer_of b ≡ Gave (outcome_of o))

@@ -1,8 +1,10 @@
+pub mod Alike
 pub mod Answers
 pub mod Code
 pub mod Core
 pub mod Doing
 pub mod Parts
 pub mod Refusing
+pub mod Settled
 pub mod Stage
 pub mod State

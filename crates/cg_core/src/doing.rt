@@ -2,13 +2,16 @@
 ghost use Rattle.std.specs.Prelude.{◌≡◌, ℕ, IfOk, OnErr, true};
 ghost use Rattle.cg_command.specs.Applied.{outcome_of};
 ghost use Rattle.cg_command.specs.Meaning.{command_of};
-ghost use Rattle.cg_core.specs.Doing.{is_text, HaveAnswers, IsApplied, IsCarriedOut};
+ghost use Rattle.cg_core.specs.Alike.{AreAlike};
+ghost use Rattle.cg_core.specs.Doing.{is_text, IsApplied, IsCarriedOut};
 ghost use Rattle.cg_history.specs.Meaning.{answer_of};
 ghost use Rattle.cg_locks.specs.Holdings.{holdings};
 ghost use Rattle.cg_model.specs.Command.{IsAccepted};
 ghost use Rattle.cg_model.specs.Effect.{effect};
 ghost use Rattle.cg_model.specs.Footprint.{Mark};
+ghost use Rattle.cg_model.specs.History as model;
 
+use crate::answers::Answers;
 use cg_command::{Command, Outcome};
 use cg_history::Answer;
 use cg_inverse::Inverse;
@@ -18,8 +21,7 @@ use cg_txn::{Entry, Txn};
 use std::alloc::{AllocError, Global};
 
 // Carries the accepted command out: the transaction takes its footprint, the tree changes, and the command stands on the
-// stack. The answer comes twice: for the session, and for the record. An error, where there is no memory, leaves tree, stack
-// and holdings as they were.
+// stack. An error, where there is no memory, leaves tree, stack and holdings as they were.
 pub(crate) fn carry_out(
     alloc: Global,
     tree: &mut Tree,
@@ -28,10 +30,10 @@ pub(crate) fn carry_out(
     place: u32,
     command: &Command,
     footprint: Footprint,
-) -> Result<(Answer, Answer), AllocError>
+) -> Result<Answers, AllocError>
     requires { IsAccepted (effect (command_of command.now) tree.old.tree) }
-    ensures done { IfOk result (λ r. IsCarriedOut (command_of command.now) place footprint tree.old locks.old txn.old (answer_of r.0) tree.new locks.new txn.new) }
-    ensures copy { IfOk result (λ r. answer_of r.1 ≡ answer_of r.0) }
+    ensures done { IfOk result (λ r. IsCarriedOut (command_of command.now) place footprint tree.old locks.old txn.old (answer_of r.given) tree.new locks.new txn.new) }
+    ensures alike { IfOk result AreAlike }
     ensures tree { OnErr result (tree.new ≡ tree.old) }
     ensures locks { OnErr result ((u : ℕ) (m : Mark) → holdings locks.new u m ≡ holdings locks.old u m) }
     ensures number { OnErr result (txn.new.number ≡ txn.old.number) }
@@ -40,13 +42,13 @@ pub(crate) fn carry_out(
     txn.reserve()?;
     locks.take(alloc, txn.number(), &footprint)?;
     match apply(alloc, tree, command) {
-        Ok((answer, copy, inverse)) => {
+        Ok((answers, inverse)) => {
             txn.push_reserved(Entry {
                 place,
                 inverse,
                 footprint,
             });
-            Ok((answer, copy))
+            Ok(answers)
         }
         Err(error) => {
             locks.release(txn.number(), &footprint);
@@ -55,21 +57,21 @@ pub(crate) fn carry_out(
     }
 }
 
-// Changes the tree as the accepted command does, and gives the answer twice, with the inverse. An error, where there is no
+// Changes the tree as the accepted command does, and gives the answers, with the inverse. An error, where there is no
 // memory, leaves the tree as it was.
 fn apply(
     alloc: Global,
     tree: &mut Tree,
     command: &Command,
-) -> Result<(Answer, Answer, Inverse), AllocError>
+) -> Result<(Answers, Inverse), AllocError>
     requires { IsAccepted (effect (command_of command.now) tree.old.tree) }
-    ensures ok { IfOk result (λ r. IsApplied (command_of command.now) tree.old (answer_of r.0) r.2 tree.new) }
-    ensures copy { IfOk result (λ r. answer_of r.1 ≡ answer_of r.0) }
+    ensures ok { IfOk result (λ r. IsApplied (command_of command.now) tree.old (answer_of r.0.given) r.1 tree.new) }
+    ensures alike { IfOk result (λ r. AreAlike r.0) }
     ensures err { OnErr result (tree.new ≡ tree.old) }
 {
     let (outcome, inverse) = command.apply(alloc, tree)?;
     match answers(alloc, outcome) {
-        Ok((answer, copy)) => Ok((answer, copy, inverse)),
+        Ok(answers) => Ok((answers, inverse)),
         Err(error) => {
             inverse.undo(tree);
             Err(error)
@@ -77,16 +79,26 @@ fn apply(
     }
 }
 
-// The answer with an outcome, twice. An error, where there is no memory, comes with a text alone.
-fn answers(alloc: Global, outcome: Outcome) -> Result<(Answer, Answer), AllocError>
-    ensures ok { IfOk result (λ r. HaveAnswers outcome r.0 r.1) }
+// The answers with an outcome. An error, where there is no memory, comes with a text alone.
+fn answers(alloc: Global, outcome: Outcome) -> Result<Answers, AllocError>
+    ensures ok { IfOk result (λ r. answer_of r.given ≡ model.Gave (outcome_of outcome)) }
+    ensures alike { IfOk result AreAlike }
     ensures err { OnErr result (is_text (outcome_of outcome) ≡ true) }
 {
     match outcome {
-        Outcome::Done => Ok((Answer::Done, Answer::Done)),
+        Outcome::Done => Ok(Answers {
+            given: Answer::Done,
+            logged: Answer::Done,
+            recorded: Answer::Done,
+        }),
         Outcome::Text(text) => {
-            let copy = Vec::from_slice(alloc, text.as_slice())?;
-            Ok((Answer::Text(text), Answer::Text(copy)))
+            let logged = Vec::from_slice(alloc, text.as_slice())?;
+            let recorded = Vec::from_slice(alloc, text.as_slice())?;
+            Ok(Answers {
+                given: Answer::Text(text),
+                logged: Answer::Text(logged),
+                recorded: Answer::Text(recorded),
+            })
         }
     }
 }

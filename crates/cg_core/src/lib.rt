@@ -1,6 +1,7 @@
 //! The machine: any number of open transactions over one tree, with subtree locks, savepoints and going back by inverses.
 #![tactic(auto)]
 
+mod answers;
 mod beginning;
 mod doing;
 mod ending;

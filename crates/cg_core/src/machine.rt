@@ -14,6 +14,7 @@ ghost use Rattle.cg_model.specs.Reply.{is_full};
 ghost use Rattle.cg_model.specs.Run.{tree_of};
 ghost use Rattle.cg_model.specs.Sound.{Sound};
 
+use crate::answers::twice;
 use cg_history::{Answer, History, Record, Request, SessionId, SessionMap};
 use cg_locks::LockTable;
 use cg_name::TxnNumber;
@@ -130,17 +131,41 @@ impl Core {
         ensures others { OthersStay cgroups (machine self.new) }
         ensures busy { IsBusyExactly self.new.opening (machine self.new) }
     {
-        let answer = match request {
-            Request::Begin => self.begin(alloc, session),
+        self.step_pair(alloc, session, request).0
+    }
+
+    /// As `step`, with the answer twice: both are made before the request is recorded, so that the second, as for a log, takes
+    /// no memory afterwards.
+    pub fn step_pair(
+        &mut self,
+        alloc: Global,
+        session: SessionId,
+        request: Request,
+    ) -> (Answer, Answer)
+        ensures answer { OnFalse (is_memory result.0) (answer_of result.0 ≡ reply self.old session.0 (request_of request)) }
+        ensures state { OnFalse (is_memory result.0) (self.new ≡ after self.old session.0 (request_of request)) }
+        ensures memory { OnTrue (is_memory result.0) (self.new ≡ self.old) }
+        ensures infallible { takes_memory request ≡ false → is_memory result.0 ≡ false }
+        ensures copy { answer_of result.1 ≡ answer_of result.0 }
+        ensures reached { Reached self.new.opening self.new.bound self.new.history }
+        ensures serial { IsSerial cgroups self.new.opening (machine self.new) }
+        ensures faithful { IsFaithful cgroups self.new.opening (machine self.new) }
+        ensures room { RoomKept self.new.opening (machine self.new) }
+        ensures going_back { GoBack (machine self.new) }
+        ensures others { OthersStay cgroups (machine self.new) }
+        ensures busy { IsBusyExactly self.new.opening (machine self.new) }
+    {
+        let answers = match request {
+            Request::Begin => twice(self.begin(alloc, session)),
             Request::Do(command) => self.run(alloc, session, command),
-            Request::Save(name) => self.save(session, name),
-            Request::Back(name) => self.back(session, name),
-            Request::Undo => self.undo(session),
-            Request::Commit => self.commit(session),
-            Request::Abort => self.abort(session),
+            Request::Save(name) => twice(self.save(session, name)),
+            Request::Back(name) => twice(self.back(session, name)),
+            Request::Undo => twice(self.undo(session)),
+            Request::Commit => twice(self.commit(session)),
+            Request::Abort => twice(self.abort(session)),
         };
         self.tell();
-        answer
+        answers
     }
 
     // A core tells what its history is when a part of it is looked at.

@@ -1,76 +1,126 @@
 //! A command is run.
-ghost use Rattle.std.specs.Prelude.{◌≡◌, IfErr, OnOk};
+ghost use Rattle.std.specs.Prelude.{◌≡◌, ◌+◌, ◌≤◌, ℕ, IfErr, IfOk, OnErr, OnOk, false, length};
 ghost use Rattle.std.specs.Bool.{OnFalse, OnTrue};
 ghost use Rattle.cg_command.specs.Meaning.{command_of};
+ghost use Rattle.cg_core.specs.Alike.{AreAlike};
 ghost use Rattle.cg_core.specs.Answers.{is_memory};
 ghost use Rattle.cg_core.specs.Refusing.{IsFree, IsRefusedBy};
+ghost use Rattle.cg_core.specs.Settled.{IsSettled, IsUnheard};
 ghost use Rattle.cg_core.specs.State.{after, reply};
 ghost use Rattle.cg_history.specs.Meaning.{answer_of};
+ghost use Rattle.cg_locks.specs.Holdings.{holdings};
 ghost use Rattle.cg_model.specs.Command.{IsAccepted};
 ghost use Rattle.cg_model.specs.Effect.{effect};
+ghost use Rattle.cg_model.specs.Footprint.{Mark};
 ghost use Rattle.cg_model.specs.History as model;
 
+use crate::answers::Answers;
 use crate::doing::carry_out;
 use crate::machine::Core;
 use cg_command::Command;
-use cg_history::{Answer, Record, Request, SessionId};
+use cg_history::{Answer, History, Record, Request, SessionId};
 use cg_locks::{Footprint, LockTable};
 use cg_name::{Refusal, TxnNumber};
 use cg_tree::Tree;
+use cg_txn::Txn;
 use std::alloc::Global;
 
 impl Core {
-    // Runs a command in the session's transaction.
-    pub(crate) fn run(&mut self, alloc: Global, session: SessionId, command: Command) -> Answer
-        ensures answer { OnFalse (is_memory result) (answer_of result ≡ reply self.old session.0 (model.Do (command_of command))) }
-        ensures state { OnFalse (is_memory result) (self.new ≡ after self.old session.0 (model.Do (command_of command))) }
-        ensures memory { OnTrue (is_memory result) (self.new ≡ self.old) }
+    // Runs a command in the session's transaction. The answer comes twice.
+    pub(crate) fn run(
+        &mut self,
+        alloc: Global,
+        session: SessionId,
+        command: Command,
+    ) -> (Answer, Answer)
+        ensures answer { OnFalse (is_memory result.0) (answer_of result.0 ≡ reply self.old session.0 (model.Do (command_of command))) }
+        ensures state { OnFalse (is_memory result.0) (self.new ≡ after self.old session.0 (model.Do (command_of command))) }
+        ensures memory { OnTrue (is_memory result.0) (self.new ≡ self.old) }
+        ensures copy { answer_of result.1 ≡ answer_of result.0 }
     {
         let full = self.is_full();
         let Some(txn) = self.open.get_mut(session) else {
-            return Answer::Refused(Refusal::NoTransaction);
+            // By a call, here as below: left to the end of the body, each of its ten cases would be a way out.
+            drop(command);
+            return (
+                Answer::Refused(Refusal::NoTransaction),
+                Answer::Refused(Refusal::NoTransaction),
+            );
         };
-        if full {
-            return Answer::Refused(Refusal::Full);
-        }
         let number = txn.number();
-        let Ok(footprint) = Footprint::of(alloc, &command, &self.tree) else {
-            return Answer::Refused(Refusal::Memory);
-        };
-        let Ok(()) = self.history.reserve(2) else {
-            return Answer::Refused(Refusal::Memory);
-        };
-        if let Err(refusal) = may_run(&self.tree, &self.locks, number, &footprint, &command) {
-            self.history.release(1);
-            self.history.push(Record {
-                session,
-                txn: number,
-                request: Request::Do(command),
-                answer: Answer::Refused(refusal),
-            });
-            return Answer::Refused(refusal);
-        }
-        let place = self.history.len() as u32;
-        let Ok((answer, copy)) = carry_out(
+        match settle(
             alloc,
             &mut self.tree,
             &mut self.locks,
             txn,
-            place,
+            &mut self.history,
+            full,
             &command,
-            footprint,
-        ) else {
-            self.history.release(2);
-            return Answer::Refused(Refusal::Memory);
-        };
-        self.history.push(Record {
-            session,
-            txn: number,
-            request: Request::Do(command),
-            answer: copy,
-        });
-        answer
+        ) {
+            Ok(
+                Answers {
+                    given,
+                    logged,
+                    recorded,
+                },
+            ) => {
+                self.history.push(Record {
+                    session,
+                    txn: number,
+                    request: Request::Do(command),
+                    answer: recorded,
+                });
+                (given, logged)
+            }
+            Err(refusal) => {
+                drop(command);
+                (Answer::Refused(refusal), Answer::Refused(refusal))
+            }
+        }
     }
+}
+
+// Settles the command of an open transaction: it is refused, or carried out, and a slot is reserved for the record that is
+// due. An error, where the history is full or there is no memory, has no record, and leaves all as it was.
+fn settle(
+    alloc: Global,
+    tree: &mut Tree,
+    locks: &mut LockTable,
+    txn: &mut Txn,
+    history: &mut History,
+    full: bool,
+    command: &Command,
+) -> Result<Answers, Refusal>
+    requires { length history.old.0 + history.old.1 ≤ 1048576 }
+    ensures settled { IfOk result (λ r. IsSettled (command_of command.now) tree.old locks.old txn.old history.old (answer_of r.given) tree.new locks.new txn.new history.new) }
+    ensures alike { IfOk result AreAlike }
+    ensures room { OnOk result (full ≡ false) }
+    ensures unheard { IfErr result (IsUnheard full) }
+    ensures tree { OnErr result (tree.new ≡ tree.old) }
+    ensures locks { OnErr result ((u : ℕ) (m : Mark) → holdings locks.new u m ≡ holdings locks.old u m) }
+    ensures number { OnErr result (txn.new.number ≡ txn.old.number) }
+    ensures items { OnErr result (txn.new.items ≡ txn.old.items) }
+    ensures history { OnErr result (history.new ≡ history.old) }
+{
+    if full {
+        return Err(Refusal::Full);
+    }
+    let Ok(footprint) = Footprint::of(alloc, command, tree) else {
+        return Err(Refusal::Memory);
+    };
+    let Ok(()) = history.reserve(2) else {
+        return Err(Refusal::Memory);
+    };
+    if let Err(refusal) = may_run(tree, locks, txn.number(), &footprint, command) {
+        history.release(1);
+        return Ok(Answers::refused(refusal));
+    }
+    let place = history.len() as u32;
+    let Ok(answers) = carry_out(alloc, tree, locks, txn, place, command, footprint) else {
+        history.release(2);
+        return Err(Refusal::Memory);
+    };
+    Ok(answers)
 }
 
 // Whether the command can be carried out: no other transaction is in its way, and the tree is as it asks. Takes no memory.
