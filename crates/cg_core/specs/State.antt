@@ -1,9 +1,9 @@
 -- What a core is: the tree that it was opened on, the bound of its history, and its history. All else follows from these.
-use Rattle.std.specs.Prelude.{ℕ}
+use Rattle.std.specs.Prelude.{◌≡◌, ℕ}
 use Rattle.cg_model.specs.Tree.{Tree}
 use Rattle.cg_model.specs.Cgroups.{cgroups}
-use Rattle.cg_model.specs.History.{Request, Answer, History}
-use Rattle.cg_model.specs.Machine.{Machine}
+use Rattle.cg_model.specs.History.{Request, Answer, History, IsProperRequest}
+use Rattle.cg_model.specs.Machine.{Machine, step}
 use Rattle.cg_model.specs.Reply as history
 use Rattle.cg_core_laws.specs.MachineOf.{machine_of, history_after}
 
@@ -24,3 +24,7 @@ reply c s r = history.reply cgroups c.opening c.bound c.history s r
 -- the core after it: with its record, where there is one
 abbrev pub after : CoreState → ℕ → Request cgroups → CoreState
 after c s r = record c { history = history_after c.opening c.bound c.history s r }
+
+-- the machine of the definitions answers each proper request as the history replies, and goes on to the machine of the core after it
+abbrev pub StepsAsReplied : CoreState → Type 0
+StepsAsReplied c = (s : ℕ) (r : Request cgroups) → IsProperRequest r → step cgroups (machine c) s r ≡ (machine (after c s r), reply c s r)

@@ -6,9 +6,10 @@ ghost use Rattle.cg_core_laws.specs.MachineOf.{Reached};
 ghost use Rattle.cg_core_laws.specs.Room.{RoomKept};
 ghost use Rattle.cg_core_laws.specs.Serial.{IsFaithful, IsSerial, OthersStay};
 ghost use Rattle.cg_core.specs.Answers.{is_memory, takes_memory};
-ghost use Rattle.cg_core.specs.State.{after, machine, reply};
+ghost use Rattle.cg_core.specs.State.{after, machine, reply, StepsAsReplied};
 ghost use Rattle.cg_history.specs.SessionMap.{oldest};
 ghost use Rattle.cg_model.specs.Cgroups.{cgroups};
+ghost use Rattle.cg_model.specs.Machine.{step};
 ghost use Rattle.cg_model.specs.Opens.{opens, transaction_in};
 ghost use Rattle.cg_model.specs.Reply.{is_full};
 ghost use Rattle.cg_model.specs.Run.{tree_of};
@@ -121,6 +122,7 @@ impl Core {
     pub fn step(&mut self, alloc: Global, session: SessionId, request: Request) -> Answer
         ensures answer { OnFalse (is_memory result) (answer_of result ≡ reply self.old session.0 (request_of request)) }
         ensures state { OnFalse (is_memory result) (self.new ≡ after self.old session.0 (request_of request)) }
+        ensures machine { OnFalse (is_memory result) (step cgroups (machine self.old) session.0 (request_of request) ≡ (machine self.new, answer_of result)) }
         ensures memory { OnTrue (is_memory result) (self.new ≡ self.old) }
         ensures infallible { takes_memory request ≡ false → is_memory result ≡ false }
         ensures reached { Reached self.new.opening self.new.bound self.new.history }
@@ -144,6 +146,7 @@ impl Core {
     ) -> (Answer, Answer)
         ensures answer { OnFalse (is_memory result.0) (answer_of result.0 ≡ reply self.old session.0 (request_of request)) }
         ensures state { OnFalse (is_memory result.0) (self.new ≡ after self.old session.0 (request_of request)) }
+        ensures machine { OnFalse (is_memory result.0) (step cgroups (machine self.old) session.0 (request_of request) ≡ (machine self.new, answer_of result.0)) }
         ensures memory { OnTrue (is_memory result.0) (self.new ≡ self.old) }
         ensures infallible { takes_memory request ≡ false → is_memory result.0 ≡ false }
         ensures copy { answer_of result.1 ≡ answer_of result.0 }
@@ -155,7 +158,21 @@ impl Core {
         ensures others { OthersStay cgroups (machine self.new) }
         ensures busy { IsBusyExactly self.new.opening (machine self.new) }
     {
-        let answers = match request {
+        self.tell_steps();
+        let answers = self.answer(alloc, session, request);
+        self.tell();
+        answers
+    }
+
+    // Answers a request as its kind asks for.
+    fn answer(&mut self, alloc: Global, session: SessionId, request: Request) -> (Answer, Answer)
+        ensures answer { OnFalse (is_memory result.0) (answer_of result.0 ≡ reply self.old session.0 (request_of request)) }
+        ensures state { OnFalse (is_memory result.0) (self.new ≡ after self.old session.0 (request_of request)) }
+        ensures memory { OnTrue (is_memory result.0) (self.new ≡ self.old) }
+        ensures infallible { takes_memory request ≡ false → is_memory result.0 ≡ false }
+        ensures copy { answer_of result.1 ≡ answer_of result.0 }
+    {
+        match request {
             Request::Begin => twice(self.begin(alloc, session)),
             Request::Do(command) => self.run(alloc, session, command),
             Request::Save(name) => twice(self.save(session, name)),
@@ -163,9 +180,7 @@ impl Core {
             Request::Undo => twice(self.undo(session)),
             Request::Commit => twice(self.commit(session)),
             Request::Abort => twice(self.abort(session)),
-        };
-        self.tell();
-        answers
+        }
     }
 
     // A core tells what its history is when a part of it is looked at.
@@ -177,6 +192,13 @@ impl Core {
         ensures going_back { GoBack (machine self.now) }
         ensures others { OthersStay cgroups (machine self.now) }
         ensures busy { IsBusyExactly self.now.opening (machine self.now) }
+    {
+        let _ = &self.limit;
+    }
+
+    // And here which step the machine of the definitions takes next.
+    fn tell_steps(&self)
+        ensures { StepsAsReplied self.now }
     {
         let _ = &self.limit;
     }
