@@ -40,7 +40,7 @@ impl Core {
     {
         let full = self.is_full();
         let Some(txn) = self.open.get_mut(session) else {
-            // By a call, here as below: left to the end of the body, each of its ten cases would be a way out.
+            // By a call, here as below: else its destructor is a part of this body, with a way out for each case.
             drop(command);
             return (
                 Answer::Refused(Refusal::NoTransaction),
@@ -57,20 +57,14 @@ impl Core {
             full,
             &command,
         ) {
-            Ok(
-                Answers {
-                    given,
-                    logged,
-                    recorded,
-                },
-            ) => {
+            Ok(answers) => {
                 self.history.push(Record {
                     session,
                     txn: number,
                     request: Request::Do(command),
-                    answer: recorded,
+                    answer: answers.recorded,
                 });
-                (given, logged)
+                (answers.given, answers.logged)
             }
             Err(refusal) => {
                 drop(command);

@@ -104,4 +104,4 @@ pub returns-in-Ok-clause-memory : goal.returns-in-Ok-clause-memory
 returns-in-Ok-clause-memory c =
     let room : is_full c.self.inside.limit c.self.inside.history.0 ≡ false = ap (λ (v : CoreState). is_full v.bound v.history) c.self.view_is ∙ sym c.is_full-full.ensures ∙ c.in-Ok.ensures.room in
     let noted = settled_noted c.self.invariant c.args.session.0 c.in-Some.txn.now (sym c.in-Some.ensures.value) (command_of c.args.command) (proper c.args.command) room _ _ _ _ c.settle.new.history c.in-Ok.ensures.settled in
-    never _ _ (no_memory (command_of c.args.command) c.in-Ok.field-0.given noted)
+    never _ _ (no_memory (command_of c.args.command) c.in-Ok.answers.given noted)
