@@ -136,8 +136,8 @@ impl Core {
         self.step_pair(alloc, session, request).0
     }
 
-    /// As `step`, with the answer twice: both are made before the request is recorded, so that the second, as for a log, takes
-    /// no memory afterwards.
+    /// As `step`, with the answer twice: the second is for whoever writes it down. Both are made before the step is recorded, so
+    /// that no memory is wanted for it afterwards.
     pub fn step_pair(
         &mut self,
         alloc: Global,
