@@ -91,7 +91,7 @@ impl<V: Drop> PathMap<V> {
         ensures* writes_back { sem 𝓛 (lends_value V.row self.entry path.now result) }
         ensures value { option_copied_mut result ≡ get self.old path.now }
     {
-        self.entries.get_mut(path.text())
+        self.get_prefix_mut(path, path.depth())
     }
 
     /// The value at the path of the first `depth` names, or of all where there are fewer, to be written, if there is one.
@@ -123,7 +123,7 @@ impl<V: Drop> PathMap<V> {
         ensures value { result ≡ get self.old path.now }
         ensures removed { self.new ≡ set_at self.old path.now None }
     {
-        self.entries.remove(path.text())
+        self.remove_prefix(path, path.depth())
     }
 
     /// Takes out the value at the path of the first `depth` names, or of all where there are fewer, and gives it, if there
