@@ -5,7 +5,7 @@ ghost use Rattle.std.specs.Io.KnownBytes.{Appends};
 ghost use Rattle.cg_lines.specs.Device.{AppendsFront, AppendsTo, Failed};
 ghost use Rattle.cg_lines.specs.Lines.{pending, bytes_to_come, CanBreak, LosesOfLine};
 ghost use Rattle.cg_script.specs.Replay.{opened, Answers, IsOutput, IsOutputFrom, AnswersFirst, AnswersPassed, OneOutput, SomeOutput};
-ghost use Rattle.cg_script.specs.MachineOutput.{OutputsAreTheMachines};
+ghost use Rattle.cg_script.specs.MachineOutput.{IsMachineOutput, OutputsAreTheMachines};
 ghost use Rattle.cg_script.specs.declared.fault.ScriptFault.TheVariants as faults;
 
 use crate::fault::ScriptFault;
@@ -31,12 +31,15 @@ pub fn replay<S: Source, K: Sink>(
     requires low { 2 ≤ limit }
     requires high { limit ≤ 1048576 }
     ensures output { OnOk result (IfSome (pending reader.old) (λ text. (out : List ℕ) × IsOutput world limit text out × Appends (K.taken sink.old) (K.taken sink.new) out)) }
+    ensures machine { OnOk result (IfSome (pending reader.old) (λ text. (out : List ℕ) × IsMachineOutput world limit text out × Appends (K.taken sink.old) (K.taken sink.new) out)) }
     ensures front { OnErr result (IfSome (pending reader.old) (λ text. (out : List ℕ) → IsOutput world limit text out → AppendsFront (K.taken sink.old) (K.taken sink.new) out)) }
     ensures reads { IsErrOf result faults.ReadFault → CanBreak reader.new.failed_before reader.new.failures reader.new.reads }
     ensures passed { IsErrOf result faults.ReadFault → IfSome (pending reader.old) (λ text. AnswersPassed (opened world limit) text (pending reader.new) (K.taken sink.old) (K.taken sink.new)) }
     ensures writes { IsErrOf result faults.WriteFault → Failed (K.failed sink.old) (K.failed sink.new) }
     ensures syntax { ¬ (IsErrOf result faults.Syntax) }
 {
+    // A world tells that its tree is sound when it is looked at.
+    let _ = world.tree();
     let Ok(mut player) = Player::open(alloc, world, limit) else {
         return Err(ScriptFault::Memory);
     };
