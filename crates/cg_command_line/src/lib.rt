@@ -29,13 +29,16 @@ pub enum Asked<'a> {
 }
 
 /// Why the words of a command line ask for nothing.
-#[derive(Clone, Copy, Debug, PartialEq, Eq)]
+#[derive(Clone, Copy, Debug, PartialEq, Eq, thiserror::Error)]
 pub enum Unasked {
     /// They asked for help, which stands on standard output.
+    #[error("the words ask for help")]
     Helped,
     /// They aren't in the grammar, as standard error says.
+    #[error("the words are not in the grammar")]
     Refused,
     /// Memory ran out before they were read.
+    #[error("memory ran out")]
     Memory,
 }
 

@@ -4,13 +4,16 @@ ghost use Rattle.std.specs.Result.{IsErrOf};
 ghost use Rattle.cg_program.specs.declared.inputs.OpenFault.TheVariants as faults;
 
 use cg_lines::Source;
+use thiserror::Error;
 
 /// Why a file was not opened.
-#[derive(Clone, Copy, Debug, PartialEq, Eq)]
+#[derive(Clone, Copy, Debug, PartialEq, Eq, Error)]
 pub enum OpenFault {
     /// Memory ran out.
+    #[error("memory ran out")]
     Memory,
     /// There is no file of this name, or it may not be read.
+    #[error("the file can't be read")]
     Unreadable,
 }
 
