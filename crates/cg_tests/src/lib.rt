@@ -11,11 +11,15 @@ mod devices;
 #[cfg(test)]
 mod files;
 #[cfg(test)]
+mod lock_lists;
+#[cfg(test)]
 mod locks;
 #[cfg(test)]
 mod path_maps;
 #[cfg(test)]
 mod paths;
+#[cfg(test)]
+mod plain_locks;
 #[cfg(test)]
 mod printed;
 #[cfg(test)]

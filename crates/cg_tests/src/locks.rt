@@ -21,15 +21,15 @@ proc 11 /p
 end
 ";
 
-// The tree of that world.
-fn tree(alloc: Global) -> Result<Tree, Refusal> {
+/// The tree of that world.
+pub fn tree(alloc: Global) -> Result<Tree, Refusal> {
     let world = World::read(alloc, WORLD.as_bytes())?;
     Ok(Tree::from_world(alloc, world)?)
 }
 
 /// A command without its path.
 #[derive(Clone, Copy)]
-enum Asked {
+pub enum Asked {
     Create,
     Remove,
     Migrate(u32),
@@ -58,8 +58,8 @@ fn command_at(asked: Asked, path: Path) -> Result<Command, Refusal> {
     }
 }
 
-// The command at the path that a word spells.
-fn command(alloc: Global, asked: Asked, word: &str) -> Result<Command, Refusal> {
+/// The command at the path that a word spells.
+pub fn command(alloc: Global, asked: Asked, word: &str) -> Result<Command, Refusal> {
     command_at(asked, Path::read(alloc, word)?)
 }
 
