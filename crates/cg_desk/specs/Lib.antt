@@ -1,0 +1,5 @@
+pub mod Audit
+pub mod Call
+pub mod CallCode
+pub mod CallOf
+pub mod Rests

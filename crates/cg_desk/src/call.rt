@@ -1,0 +1,27 @@
+//! Calls of sessions.
+ghost use Rattle.std.specs.Prelude.{◌≡◌, ◌↔◌, IsTrue};
+ghost use Rattle.cg_desk.specs.Call.{call_in};
+ghost use Rattle.cg_desk.specs.CallOf.{call_of};
+ghost use Rattle.cg_history.specs.Meaning.{record_of};
+
+use crate::same::{is_same_answer, is_same_request};
+use cg_core::{Answer, Record, Request};
+
+/// One request of a session, and its answer.
+#[derive(Drop)]
+pub struct Call {
+    /// What was asked for.
+    pub request: Request,
+    /// What was answered.
+    pub answer: Answer,
+}
+
+impl Call {
+    // Whether this call is recorded there.
+    pub(crate) fn is_in(&self, entry: &Record) -> bool
+        ensures { IsTrue result ↔ (call_of self.now ≡ call_in (record_of entry.now)) }
+    {
+        is_same_request(&self.request, &entry.request)
+            && is_same_answer(&self.answer, &entry.answer)
+    }
+}

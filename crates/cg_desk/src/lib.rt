@@ -1,0 +1,12 @@
+//! Sessions in threads over one machine, transactions that have to be spent, and an audit of what sessions and history say.
+#![tactic(auto)]
+
+mod auditing;
+mod call;
+mod rest;
+mod same;
+mod session;
+
+pub use auditing::audit;
+pub use call::Call;
+pub use session::Session;
