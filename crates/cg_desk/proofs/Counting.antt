@@ -1,5 +1,5 @@
 -- How many sessions have a number, and how many calls are left.
-use Rattle.std.proofs.Common.{◌≡◌, ℕ, ◌+◌, ◌-◌, ◌≤◌, ◌<◌, ◌==◌, nat_le, ◌&&◌, Bool, true, false, cond, List, [], ◌∷◌, ◌++◌, length, map, reverse, Option, Some, None, is_some, IsSome, get_or, take, add-one, refl, sym, ap, subst, ◌∙◌, true≢false, arith}
+use Rattle.std.proofs.Common.{◌≡◌, ℕ, ◌+◌, ◌≤◌, ◌<◌, ◌==◌, nat_le, ◌&&◌, Bool, true, false, cond, List, [], ◌∷◌, length, map, reverse, Option, Some, None, is_some, IsSome, get_or, take, add-one, refl, sym, ap, subst, ◌∙◌, arith}
 use Rattle.std.proofs.lemmas.Bool.{eqb-true, eq-eqb, leb-true, le-leb, false≢true}
 use Rattle.std.proofs.lemmas.List.{map-append, reverse-append}
 use Rattle.std.proofs.Math.Seq.{take-suc}
@@ -11,7 +11,7 @@ use Rattle.std.specs.List.{AllByRecursion, count_by, sum_by}
 use Rattle.cg_history.specs.SessionMap.{found, IsOnceEach}
 use Rattle.cg_desk.specs.Audit.{AreNumbered}
 use Rattle.cg_desk.specs.Call.{Call, SessionState}
-use Rattle.cg_desk.specs.Rests.{Rests, rests_of, total}
+use Rattle.cg_desk.specs.Rests.{Rests, rests_of}
 
 -- what is added up over sessions is added up over their logs
 sum_by-pairs : (f : ℕ × List Call → ℕ) (ss : List SessionState) → sum_by f (map (λ s. (s.number, s.log)) ss) ≡ sum_by (λ s. f (s.number, s.log)) ss

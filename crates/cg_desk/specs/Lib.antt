@@ -3,3 +3,4 @@ pub mod Call
 pub mod CallCode
 pub mod CallOf
 pub mod Rests
+pub mod Step

@@ -6,7 +6,9 @@ mod call;
 mod rest;
 mod same;
 mod session;
+mod stepping;
 
 pub use auditing::audit;
 pub use call::Call;
 pub use session::Session;
+pub use stepping::{step_for, step_for_pair};

@@ -1,5 +1,5 @@
 -- The logs are compared record by record.
-use Rattle.std.proofs.Common.{refl, sym, arith, ◌∙◌}
+use Rattle.std.proofs.Common.{refl, arith}
 use Rattle.std.proofs.lemmas.Bool.{false≢true}
 use Rattle.cg_desk.proofs.Comparing.{left_next, left_none, left_other, whole}
 use Rattle.cg_desk.proofs.auditing.all_are_in.Goals as goal

@@ -1,11 +1,9 @@
 -- What was tested is what the definition says.
-use Rattle.std.proofs.Common.{◌≡◌, ◌∙◌, List, [], ◌∷◌, length, sym, ap, subst, subst₂, refl, arith}
+use Rattle.std.proofs.Common.{◌≡◌, ◌∙◌, length, sym, ap, subst₂}
 use Rattle.std.proofs.lemmas.Bool.{false≢true}
-use Rattle.std.specs.List.{sum_by}
-use Rattle.cg_history.specs.Meaning.{history_of}
 use Rattle.cg_history.proofs.Records.{same_length}
 use Rattle.cg_desk.specs.Call.{calls_of}
-use Rattle.cg_desk.specs.Rests.{rests_of, total, AreCallsOf}
+use Rattle.cg_desk.specs.Rests.{total, AreCallsOf}
 use Rattle.cg_desk.proofs.Comparing.{all_rests, all_sessions}
 use Rattle.cg_desk.proofs.Counting.{empty, sum_by-rests}
 use Rattle.cg_desk.proofs.auditing.audit.Goals as goal

@@ -1,5 +1,5 @@
 -- Numbers that aren't those from 1 to `handed`, each once, are found.
-use Rattle.std.proofs.Common.{◌≡◌, ◌≤◌, ◌∙◌, IsSome, sym, ap, subst, take, get_or, is_some, subst₂, arith}
+use Rattle.std.proofs.Common.{◌≡◌, ◌≤◌, ◌∙◌, IsSome, sym, ap, subst, get_or, is_some, subst₂, arith}
 use Rattle.std.proofs.lemmas.List.{take_all}
 use Rattle.std.proofs.lemmas.Bool.{false≢true}
 use Rattle.cg_history.specs.SessionMap.{found, IsOnceEach}

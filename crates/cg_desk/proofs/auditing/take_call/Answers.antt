@@ -1,5 +1,5 @@
 -- The call is taken off the log of its session, and the map has what is left there.
-use Rattle.std.proofs.Common.{◌≡◌, ◌∷◌, ◌∙◌, List, Bool, true, false, Some, OnSome, sym, ap, subst}
+use Rattle.std.proofs.Common.{◌≡◌, ◌∷◌, ◌∙◌, List, true, false, Some, OnSome, sym, ap, subst}
 use Rattle.std.specs.Bool.{OnTrue}
 use Rattle.cg_desk.specs.Call as model
 use Rattle.cg_history.specs.Meaning.{record_of}

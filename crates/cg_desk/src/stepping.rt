@@ -1,0 +1,61 @@
+//! A step in a transaction that has to be open.
+ghost use Rattle.std.specs.Prelude.{◌≡◌, ◌≢◌, ◌↔◌, IsTrue};
+ghost use Rattle.cg_desk.specs.Step.{IsOpenIn, IsStep};
+ghost use Rattle.cg_history.specs.Meaning.{answer_of};
+ghost use Rattle.cg_history.specs.declared.record.Answer.TheVariants as answers;
+ghost use Rattle.cg_name.specs.declared.refusal.Refusal.TheVariants as refusals;
+
+use cg_core::{Answer, Core, Request, SessionId};
+use cg_name::{Refusal, TxnNumber};
+use std::alloc::Global;
+
+/// Answers a request of a session in its open transaction with this number. `Refused(Lost)` comes exactly where that
+/// transaction isn't open in that session, and leaves all as it was; else it is `Core::step`.
+pub fn step_for(
+    alloc: Global,
+    core: &mut Core,
+    session: SessionId,
+    number: TxnNumber,
+    request: Request,
+) -> Answer
+    ensures lost { ¬ IsOpenIn core.old session.0 number.0 → result ≡ answers.Refused refusals.Lost }
+    ensures unchanged { ¬ IsOpenIn core.old session.0 number.0 → core.new ≡ core.old }
+    ensures open { IsOpenIn core.old session.0 number.0 → result ≢ answers.Refused refusals.Lost }
+    ensures step { IsOpenIn core.old session.0 number.0 → IsStep core.old session.0 request result core.new }
+{
+    step_for_pair(alloc, core, session, number, request).0
+}
+
+/// As `step_for`, with the answer twice: both are made before the request is recorded, so that the second, as for a log, takes
+/// no memory afterwards.
+pub fn step_for_pair(
+    alloc: Global,
+    core: &mut Core,
+    session: SessionId,
+    number: TxnNumber,
+    request: Request,
+) -> (Answer, Answer)
+    ensures lost { ¬ IsOpenIn core.old session.0 number.0 → result.0 ≡ answers.Refused refusals.Lost }
+    ensures unchanged { ¬ IsOpenIn core.old session.0 number.0 → core.new ≡ core.old }
+    ensures open { IsOpenIn core.old session.0 number.0 → result.0 ≢ answers.Refused refusals.Lost }
+    ensures step { IsOpenIn core.old session.0 number.0 → IsStep core.old session.0 request result.0 core.new }
+    ensures copy { answer_of result.1 ≡ answer_of result.0 }
+{
+    if !is_open_in(core, session, number) {
+        return (
+            Answer::Refused(Refusal::Lost),
+            Answer::Refused(Refusal::Lost),
+        );
+    }
+    core.step_pair(alloc, session, request)
+}
+
+// Whether the transaction is open in the session.
+fn is_open_in(core: &Core, session: SessionId, number: TxnNumber) -> bool
+    ensures { IsTrue result ↔ IsOpenIn core.now session.0 number.0 }
+{
+    match core.txn_of(session) {
+        Some(open) => open == number,
+        None => false,
+    }
+}
