@@ -3,6 +3,8 @@
 
 mod auditing;
 mod call;
+mod desk;
+mod log;
 mod rest;
 mod same;
 mod session;
@@ -10,5 +12,6 @@ mod stepping;
 
 pub use auditing::audit;
 pub use call::Call;
+pub use desk::{CloseFault, Desk};
 pub use session::Session;
 pub use stepping::{step_for, step_for_pair};

@@ -3,6 +3,7 @@ ghost use Rattle.std.specs.Prelude.{◌≡◌, map};
 ghost use Rattle.cg_desk.specs.CallOf.{call_of};
 
 use crate::call::Call;
+use crate::log::Log;
 use cg_core::SessionId;
 use std::marker::Model;
 
@@ -10,14 +11,11 @@ use std::marker::Model;
 #[derive(Drop)]
 pub struct Session {
     pub(crate) number: SessionId,
-    pub(crate) log: Vec<Call>,
-    // How many places of the log are kept for what ends a transaction or goes back in it.
-    pub(crate) kept: usize,
+    pub(crate) log: Log,
 }
 
 impl Model for Session {
-    ghost use Rattle.std.specs.Prelude.{◌+◌, ◌≤◌, map, vec_len};
-    ghost use Rattle.std.specs.Vec.{vec_capacity};
+    ghost use Rattle.std.specs.Prelude.{map};
     ghost use Rattle.cg_desk.specs.Call.{SessionState};
     ghost use Rattle.cg_desk.specs.CallCode.{session_code};
     ghost use Rattle.cg_desk.specs.CallOf.{call_of};
@@ -26,9 +24,7 @@ impl Model for Session {
 
     ghost coded = { session_code };
 
-    ghost view = { λ s. record { number = s.number.0; log = map call_of s.log.items } };
-
-    ghost invariant = { λ s. vec_len s.log + s.kept ≤ vec_capacity s.log };
+    ghost view = { λ s. record { number = s.number.0; log = map call_of s.log.calls.items } };
 }
 
 impl Session {
@@ -43,6 +39,6 @@ impl Session {
     pub fn log(&self) -> &[Call]
         ensures { map call_of result.now ≡ self.now.log }
     {
-        self.log.as_slice()
+        self.log.calls.as_slice()
     }
 }
