@@ -25,3 +25,7 @@ calls_of s (r ∷ h) = cond (s == r.session) (calls_of s h ++ call_in r ∷ []) 
 -- the log after a call, which it has where the answer is one to be recorded
 abbrev pub logged : List Call → Request cgroups → Answer → List Call
 logged l r a = cond (is_recorded r a) (l ++ record { request = r; answer = a } ∷ []) l
+
+-- the session after a call
+abbrev pub after_call : SessionState → Request cgroups → Answer → SessionState
+after_call s r a = record s { log = logged s.log r a }

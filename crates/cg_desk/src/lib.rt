@@ -9,9 +9,11 @@ mod rest;
 mod same;
 mod session;
 mod stepping;
+mod transaction;
 
 pub use auditing::audit;
 pub use call::Call;
 pub use desk::{CloseFault, Desk};
 pub use session::Session;
 pub use stepping::{step_for, step_for_pair};
+pub use transaction::Transaction;
