@@ -15,34 +15,20 @@ newest rs r = ap reverse (map-append record_of rs (r ∷ [])) ∙ reverse-append
 pub same_length : (rs : List Record) → length (history_of rs) ≡ length rs
 same_length rs = length-reverse (map record_of rs) ∙ length-map rs record_of
 
--- one more begins one transaction at most
-one_begin : (a : model.Answer) (n m : ℕ) → n ≤ m → begins_after a n ≤ m + 1
-one_begin (model.Begun t) n m le = omega (arith, le)
-one_begin (model.Gave o) n m le = omega (arith, le)
-one_begin model.Saved n m le = omega (arith, le)
-one_begin (model.WentBack k) n m le = omega (arith, le)
-one_begin (model.Committed k) n m le = omega (arith, le)
-one_begin (model.Aborted t) n m le = omega (arith, le)
-one_begin (model.Refused r) n m le = omega (arith, le)
+-- an answer begins one transaction at most, and commits one at most
+at_most_one : (a : model.Answer) (n : ℕ) → (begins_after a n ≤ n + 1) × (commits_after a n ≤ n + 1)
+at_most_one (model.Begun t) n = (omega arith, omega arith)
+at_most_one (model.Gave o) n = (omega arith, omega arith)
+at_most_one model.Saved n = (omega arith, omega arith)
+at_most_one (model.WentBack k) n = (omega arith, omega arith)
+at_most_one (model.Committed k) n = (omega arith, omega arith)
+at_most_one (model.Aborted t) n = (omega arith, omega arith)
+at_most_one (model.Refused r) n = (omega arith, omega arith)
 
 pub begins_within : (h : model.History cgroups) → begins h ≤ length h
 begins_within [] = omega (arith)
-begins_within (r ∷ h) =
-    let le : begins (r ∷ h) ≤ length h + 1 = one_begin r.answer (begins h) (length h) (begins_within h) in
-    omega (arith, le)
-
--- and commits one at most
-one_commit : (a : model.Answer) (n m : ℕ) → n ≤ m → commits_after a n ≤ m + 1
-one_commit (model.Begun t) n m le = omega (arith, le)
-one_commit (model.Gave o) n m le = omega (arith, le)
-one_commit model.Saved n m le = omega (arith, le)
-one_commit (model.WentBack k) n m le = omega (arith, le)
-one_commit (model.Committed k) n m le = omega (arith, le)
-one_commit (model.Aborted t) n m le = omega (arith, le)
-one_commit (model.Refused r) n m le = omega (arith, le)
+begins_within (r ∷ h) = omega (arith, begins_within h, (at_most_one r.answer (begins h)).0)
 
 pub commits_within : (h : model.History cgroups) → commits h ≤ length h
 commits_within [] = omega (arith)
-commits_within (r ∷ h) =
-    let le : commits (r ∷ h) ≤ length h + 1 = one_commit r.answer (commits h) (length h) (commits_within h) in
-    omega (arith, le)
+commits_within (r ∷ h) = omega (arith, commits_within h, (at_most_one r.answer (commits h)).1)
