@@ -1,12 +1,13 @@
-use Rattle.std.proofs.Common.{sym, subst, ◌∙◌}
+use Rattle.std.proofs.Common.{◌≡◌, ℕ, List, [], ◌++◌, Option, IfSome, sym, subst, ◌∙◌}
 use Rattle.std.specs.Io.KnownBytes.{Appends}
 use Rattle.std.proofs.lemmas.Result.{err_from_is_err_and, on_ok_weaker, on_err_weaker}
-use Rattle.cg_lines.specs.Device.{AppendsFront}
+use Rattle.cg_lines.specs.Device.{AppendsFront, AppendsTo}
 use Rattle.cg_lines.specs.Lines.{pending}
 use Rattle.cg_lines.proofs.DeviceLemmas.{AppendsFront-whole}
+use Rattle.cg_script.specs.Replay.{Replay, IsOutputFrom, ending_text}
 use Rattle.cg_script.proofs.OneLine.{on_any_err, when_err, when_ok}
 use Rattle.cg_script.proofs.WorldLemmas.{err_handed_on}
-use Rattle.cg_script.proofs.Playing.{answers_passed, front_waiting, front_end, whole_end, plays_known_more, plays_known_on, shown_at_end}
+use Rattle.cg_script.proofs.Playing.{FrontOf, PlaysKnown, answers_passed, front_waiting, front_end, whole_end, plays_known_more, plays_known_on, shown_at_end}
 use Rattle.cg_script.proofs.schedule.play.Goals as goal
 
 pub returns-in_err-answer_next-clause-front : goal.returns-in_err-answer_next-clause-front
@@ -30,55 +31,49 @@ lines-preserved g c = record {
       (g.K.Sink.taken c.lines.sink) (g.K.Sink.taken c.answer_next.new.sink) c.lines.out.items c.answer_next.new.out.items c.lines.invariant.plays (c.in_ok-answer_next.ensures.answered c.if-branch.true);
 }
 
+-- behind the last line the state stays, and what still waits is written, with the end of the output or without it
+module _ (s t u : Replay) (text rest a b c d : Option (List ℕ)) (before waiting written : List ℕ) (plays : PlaysKnown s text a b before t rest) (ended : IfSome rest (λ x. x ≡ []) × (u ≡ t) × AppendsTo b c before waiting) where
+  played : PlaysKnown s text a c waiting t rest
+  played = plays_known_on s t text rest a b c before waiting plays ended.2
+
+  front_unended : written ≡ waiting → AppendsFront c d written → FrontOf s text a d
+  front_unended e w = front_waiting s t text rest a c d waiting played (subst (λ l. AppendsFront c d l) e w)
+
+  front_ended : written ≡ waiting ++ ending_text u.core → AppendsFront c d written → FrontOf s text a d
+  front_ended e w = front_end s t text rest a c d waiting played ended.0 (subst (λ l. AppendsFront c d l) (shown_at_end t u waiting written ended.1 e) w)
+
+  whole_ended : written ≡ waiting ++ ending_text u.core → Appends c d written → IfSome text (λ x. (out : List ℕ) × IsOutputFrom s x out × Appends a d out)
+  whole_ended e w = whole_end s t text rest a c d waiting played ended.0 (subst (λ l. Appends c d l) (shown_at_end t u waiting written ended.1 e) w)
+
 pub returns-in_err-send-clause-front : goal.returns-in_err-send-clause-front
 returns-in_err-send-clause-front g c =
-    let between = g.K.Sink.taken c.answer_next.new.sink in
-    let ended = c.in_ok-answer_next.ensures.ended c.if-branch.false in
-    let plays =
-    plays_known_on c.args.player.now c.lines.player (pending c.args.reader.now) (pending c.lines.reader) (g.K.Sink.taken c.args.sink.now) (g.K.Sink.taken c.lines.sink) between c.lines.out.items
-    c.answer_next.new.out.items c.lines.invariant.plays ended.2 in
     let unchanged = when_err c.end.result (sym c.is_err.ensures.value ∙ c.if-is_err.true) c.end.ensures.err in
     on_any_err c.from_residual-in_err-send.result
-    (front_waiting c.args.player.now c.lines.player (pending c.args.reader.now) (pending c.lines.reader) (g.K.Sink.taken c.args.sink.now) between (g.K.Sink.taken c.send.new.sink) c.answer_next.new.out.items plays
-    (subst (λ l. AppendsFront between (g.K.Sink.taken c.send.new.sink) l) unchanged c.in_err-send.ensures.front))
+    (front_unended c.args.player.now c.lines.player c.answer_next.new.player (pending c.args.reader.now) (pending c.lines.reader) (g.K.Sink.taken c.args.sink.now) (g.K.Sink.taken c.lines.sink) (g.K.Sink.taken c.answer_next.new.sink)
+    (g.K.Sink.taken c.send.new.sink) c.lines.out.items c.answer_next.new.out.items c.end.new.out.items c.lines.invariant.plays (c.in_ok-answer_next.ensures.ended c.if-branch.false)
+    unchanged c.in_err-send.ensures.front)
 
 pub returns-then-is_err-clause-front : goal.returns-then-is_err-clause-front
 returns-then-is_err-clause-front g c =
-    let between = g.K.Sink.taken c.answer_next.new.sink in
-    let ended = c.in_ok-answer_next.ensures.ended c.if-branch.false in
-    let plays =
-    plays_known_on c.args.player.now c.lines.player (pending c.args.reader.now) (pending c.lines.reader) (g.K.Sink.taken c.args.sink.now) (g.K.Sink.taken c.lines.sink) between c.lines.out.items
-    c.answer_next.new.out.items c.lines.invariant.plays ended.2 in
     let unchanged = when_err c.end.result (sym c.is_err.ensures.value ∙ c.if-is_err.true) c.end.ensures.err in
-    front_waiting c.args.player.now c.lines.player (pending c.args.reader.now) (pending c.lines.reader) (g.K.Sink.taken c.args.sink.now) between (g.K.Sink.taken c.send.new.sink) c.answer_next.new.out.items plays
-    (AppendsFront-whole between (g.K.Sink.taken c.send.new.sink) c.answer_next.new.out.items (subst (λ l. Appends between (g.K.Sink.taken c.send.new.sink) l) unchanged c.in_ok-send.ensures.sent))
+    front_unended c.args.player.now c.lines.player c.answer_next.new.player (pending c.args.reader.now) (pending c.lines.reader) (g.K.Sink.taken c.args.sink.now) (g.K.Sink.taken c.lines.sink) (g.K.Sink.taken c.answer_next.new.sink)
+    (g.K.Sink.taken c.send.new.sink) c.lines.out.items c.answer_next.new.out.items c.end.new.out.items c.lines.invariant.plays (c.in_ok-answer_next.ensures.ended c.if-branch.false)
+    unchanged (AppendsFront-whole (g.K.Sink.taken c.answer_next.new.sink) (g.K.Sink.taken c.send.new.sink) c.end.new.out.items c.in_ok-send.ensures.sent)
 
 pub returns-clause-front : goal.returns-clause-front
 returns-clause-front g c =
-    let between = g.K.Sink.taken c.answer_next.new.sink in
-    let ended = c.in_ok-answer_next.ensures.ended c.if-branch.false in
-    let plays =
-    plays_known_on c.args.player.now c.lines.player (pending c.args.reader.now) (pending c.lines.reader) (g.K.Sink.taken c.args.sink.now) (g.K.Sink.taken c.lines.sink) between c.lines.out.items
-    c.answer_next.new.out.items c.lines.invariant.plays ended.2 in
     let shown = when_ok c.end.result (sym c.is_err.ensures.value ∙ c.if-is_err.false) c.end.ensures.ok in
-    let bytes = shown_at_end c.lines.player c.answer_next.new.player c.answer_next.new.out.items c.end.new.out.items ended.1 shown in
     on_err_weaker c.send-2.result
-    (λ front.
-    front_end c.args.player.now c.lines.player (pending c.args.reader.now) (pending c.lines.reader) (g.K.Sink.taken c.args.sink.now) between (g.K.Sink.taken c.send-2.new.sink) c.answer_next.new.out.items plays
-    ended.0 (subst (λ l. AppendsFront between (g.K.Sink.taken c.send-2.new.sink) l) bytes front))
+    (front_ended c.args.player.now c.lines.player c.answer_next.new.player (pending c.args.reader.now) (pending c.lines.reader) (g.K.Sink.taken c.args.sink.now) (g.K.Sink.taken c.lines.sink) (g.K.Sink.taken c.answer_next.new.sink)
+    (g.K.Sink.taken c.send-2.new.sink) c.lines.out.items c.answer_next.new.out.items c.end.new.out.items c.lines.invariant.plays (c.in_ok-answer_next.ensures.ended c.if-branch.false)
+    shown)
     c.send-2.ensures.front
 
 pub returns-clause-output : goal.returns-clause-output
 returns-clause-output g c =
-    let between = g.K.Sink.taken c.answer_next.new.sink in
-    let ended = c.in_ok-answer_next.ensures.ended c.if-branch.false in
-    let plays =
-    plays_known_on c.args.player.now c.lines.player (pending c.args.reader.now) (pending c.lines.reader) (g.K.Sink.taken c.args.sink.now) (g.K.Sink.taken c.lines.sink) between c.lines.out.items
-    c.answer_next.new.out.items c.lines.invariant.plays ended.2 in
     let shown = when_ok c.end.result (sym c.is_err.ensures.value ∙ c.if-is_err.false) c.end.ensures.ok in
-    let bytes = shown_at_end c.lines.player c.answer_next.new.player c.answer_next.new.out.items c.end.new.out.items ended.1 shown in
     on_ok_weaker c.send-2.result
-    (λ sent.
-    whole_end c.args.player.now c.lines.player (pending c.args.reader.now) (pending c.lines.reader) (g.K.Sink.taken c.args.sink.now) between (g.K.Sink.taken c.send-2.new.sink) c.answer_next.new.out.items plays
-    ended.0 (subst (λ l. Appends between (g.K.Sink.taken c.send-2.new.sink) l) bytes sent))
+    (whole_ended c.args.player.now c.lines.player c.answer_next.new.player (pending c.args.reader.now) (pending c.lines.reader) (g.K.Sink.taken c.args.sink.now) (g.K.Sink.taken c.lines.sink) (g.K.Sink.taken c.answer_next.new.sink)
+    (g.K.Sink.taken c.send-2.new.sink) c.lines.out.items c.answer_next.new.out.items c.end.new.out.items c.lines.invariant.plays (c.in_ok-answer_next.ensures.ended c.if-branch.false)
+    shown)
     c.send-2.ensures.sent
