@@ -22,9 +22,11 @@ use Rattle.cg_text.specs.declared.settings.Settings.{Settings}
 use Rattle.cg_text.specs.contracts.settings.SettingsPartialEq as settings_equal
 use Rattle.cg_text.specs.contracts.controllers.ControllersPartialEq as controllers_equal
 use Rattle.cg_text.specs.contracts.limit.LimitPartialEq as limits_equal
+use Rattle.cg_model.specs.Change.{Change, change}
 use Rattle.cg_model.specs.Derived.{is_in}
-use Rattle.cg_model.specs.Key.{Field, Setting, setting}
+use Rattle.cg_model.specs.Key.{Field, Setting, setting, Part}
 use Rattle.cg_model.specs.Tree.{Tree, group}
+use Rattle.cg_inverse.specs.Meaning.{FitsIn}
 
 pub bools_decide : (a b : Bool) → Decides (beq a b) (a ≡ b)
 bools_decide true true = (λ _. refl, λ _. refl)
@@ -78,10 +80,14 @@ unfolding same_path
 places_decide q None = (λ e. absurd (false≢true e), λ e. absurd (none-some q e))
 places_decide q (Some p) = (λ e. ap Some (sym (maps.is_same path_cmp_total path_cmp_exact q p e)), λ e. subst (λ r. same_path q r ≡ true) (sym (same_Some p q e)) (maps.here path_cmp_total path_cmp_exact q))
 
--- one setting of a group that may be there
-module _ (T : Tree) (p : Path) (f : Field) (v : Setting f) where
-  pub part_there : (r : Bool) (s : Settings) → group T p ≡ Some s → Decides r (setting f s ≡ v) → Decides r (option_map (setting f) (group T p) ≡ Some v)
-  part_there r s e d = Decides-like r (λ h. ap (option_map (setting f)) e ∙ ap Some h) (λ h. same_Some _ _ (sym (ap (option_map (setting f)) e) ∙ h)) d
+-- a change of a setting fits a group that is there where that has the value left, and no other
+module _ (T : Tree) {p : Path} {f : Field} {b v : Setting f} {c : Change} (is : c ≡ change (Part p f) (Some b) (Some v)) where
+  pub part_there : (r : Bool) (s : Settings) → Some s ≡ group T p → Decides r (setting f s ≡ v) → Decides r (FitsIn T c)
+  part_there r s e d =
+      subst (λ w. Decides r (FitsIn T w)) (sym is)
+      (Decides-like r (λ h. ap (option_map (setting f)) (sym e) ∙ ap Some h) (λ h. same_Some _ _ (ap (option_map (setting f)) e ∙ h)) d)
 
-  pub part_absent : group T p ≡ None → Decides false (option_map (setting f) (group T p) ≡ Some v)
-  part_absent e = (λ h. absurd (false≢true h), λ h. absurd (none-some v (sym (ap (option_map (setting f)) e) ∙ h)))
+  pub part_absent : None ≡ group T p → Decides false (FitsIn T c)
+  part_absent e =
+      subst (λ w. Decides false (FitsIn T w)) (sym is)
+      (λ h. absurd (false≢true h), λ h. absurd (none-some v (ap (option_map (setting f)) e ∙ h)))
