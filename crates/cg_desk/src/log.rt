@@ -1,4 +1,4 @@
-//! The log of a session, with places kept for calls to come.
+//! The log of a session, with room reserved for calls to come.
 ghost use Rattle.std.specs.Prelude.{◌≡◌, ◌+◌, ◌<◌, ◌≤◌, [], OnOk, map, vec_len};
 ghost use Rattle.std.specs.Vec.{vec_capacity};
 ghost use Rattle.cg_desk.specs.Call.{logged};
@@ -11,12 +11,12 @@ use cg_core::{Answer, Request};
 use cg_name::Refusal;
 use std::alloc::{AllocError, Global};
 
-/// Calls, the oldest first, and how many places are kept for those that end a transaction or go back in it.
+// Calls, the oldest first, and for how many more room is reserved: those that end a transaction or go back in it.
 #[derive(Drop)]
 pub(crate) struct Log {
     pub(crate) calls: Vec<Call>,
-    pub(crate) kept: usize,
-    ghost room: { vec_len calls + kept ≤ vec_capacity calls },
+    pub(crate) reserved: usize,
+    ghost room: { vec_len calls + reserved ≤ vec_capacity calls },
 }
 
 impl Log {
@@ -25,41 +25,41 @@ impl Log {
     {
         Log {
             calls: Vec::new(alloc),
-            kept: 0,
+            reserved: 0,
         }
     }
 
     // Makes room for one call more, and behind it for its going back.
-    pub(crate) fn make_places(&mut self) -> Result<(), AllocError>
+    pub(crate) fn reserve(&mut self) -> Result<(), AllocError>
         ensures calls { self.new.calls.items ≡ self.old.calls.items }
-        ensures kept { self.new.kept ≡ self.old.kept }
-        ensures room { OnOk result (vec_len self.new.calls + self.new.kept + 2 ≤ vec_capacity self.new.calls) }
+        ensures reserved { self.new.reserved ≡ self.old.reserved }
+        ensures room { OnOk result (vec_len self.new.calls + self.new.reserved + 2 ≤ vec_capacity self.new.calls) }
     {
-        let more = self.kept + 2;
+        let more = self.reserved + 2;
         self.calls.reserve(more)
     }
 
-    // Adds a call where it is to be recorded, and keeps a place for its going back where it was accepted.
+    // Adds a call where it is to be recorded, and reserves room for its going back where it was accepted.
     pub(crate) fn note(&mut self, request: Request, answer: Answer)
-        requires { vec_len self.old.calls + self.old.kept + 2 ≤ vec_capacity self.old.calls }
+        requires { vec_len self.old.calls + self.old.reserved + 2 ≤ vec_capacity self.old.calls }
         ensures { map call_of self.new.calls.items ≡ logged (map call_of self.old.calls.items) (request_of request) (answer_of answer) }
     {
         if !is_recorded(&request, &answer) {
             return;
         }
         if !matches!(answer, Answer::Refused(_)) {
-            self.kept += 1;
+            self.reserved += 1;
         }
         self.calls.push_reserved(Call { request, answer });
     }
 
-    // Adds a call in a place that was kept, where it is to be recorded.
-    pub(crate) fn note_kept(&mut self, request: Request, answer: Answer)
-        requires { 0 < self.old.kept }
+    // Adds a call in room that was reserved, where it is to be recorded.
+    pub(crate) fn note_reserved(&mut self, request: Request, answer: Answer)
+        requires { 0 < self.old.reserved }
         ensures { map call_of self.new.calls.items ≡ logged (map call_of self.old.calls.items) (request_of request) (answer_of answer) }
     {
         if is_recorded(&request, &answer) {
-            self.kept -= 1;
+            self.reserved -= 1;
             self.calls.push_reserved(Call { request, answer });
         }
     }

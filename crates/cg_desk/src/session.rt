@@ -68,7 +68,7 @@ impl Session {
         ensures begun { IfOk result (λ t. t.session.now ≡ after_call self.old model.Begin (model.Begun t.number.0)) }
         ensures refusals { IfErr result (λ e. (e ≡ refusals.AlreadyOpen) ⊎ (e ≡ refusals.Full) ⊎ (e ≡ refusals.Memory)) }
     {
-        if self.log.make_places().is_err() {
+        if self.log.reserve().is_err() {
             return Err(Refusal::Memory);
         }
         let number = begin_at(rt, alloc, desk, self.number)?;
@@ -80,7 +80,7 @@ impl Session {
         })
     }
 
-    // Asks for what may take memory in a transaction: places in the log and the copy for it come first.
+    // Asks for what may take memory in a transaction: room in the log and the copy for it come first.
     pub(crate) fn call(
         &mut self,
         rt: &impl Wait,
@@ -94,7 +94,7 @@ impl Session {
         let Ok(copy) = request.copy(alloc) else {
             return Answer::Refused(Refusal::Memory);
         };
-        let Ok(()) = self.log.make_places() else {
+        let Ok(()) = self.log.reserve() else {
             return Answer::Refused(Refusal::Memory);
         };
         let (answer, second) = step_at(rt, alloc, desk, self.number, number, request);
@@ -102,8 +102,8 @@ impl Session {
         answer
     }
 
-    // Asks for what ends a transaction or goes back in it, with the same again for the log, which kept a place for it.
-    pub(crate) fn call_kept(
+    // Asks for what ends a transaction or goes back in it, with the same again for the log, which has room reserved for it.
+    pub(crate) fn call_reserved(
         &mut self,
         rt: &impl Wait,
         alloc: Global,
@@ -118,19 +118,19 @@ impl Session {
         ensures infallible { is_memory result ≡ false }
     {
         // Never so where the transaction is open at its desk.
-        if self.log.kept == 0 {
+        if self.log.reserved == 0 {
             return Answer::Refused(Refusal::Lost);
         }
         let (answer, second) = step_at(rt, alloc, desk, self.number, number, request);
-        self.log.note_kept(copy, second);
+        self.log.note_reserved(copy, second);
         answer
     }
 
-    // Keeps no place any more.
-    pub(crate) fn give_up(&mut self)
+    // Reserves nothing any more.
+    pub(crate) fn release(&mut self)
         ensures { self.new ≡ self.old }
     {
-        self.log.kept = 0;
+        self.log.reserved = 0;
     }
 }
 

@@ -46,7 +46,7 @@ impl<'s> Transaction<'s> {
         ensures same { self.new.session.ghost_name ≡ self.old.session.ghost_name }
         ensures infallible { is_memory result ≡ false }
     {
-        self.session.call_kept(
+        self.session.call_reserved(
             rt,
             alloc,
             self.desk,
@@ -62,7 +62,7 @@ impl<'s> Transaction<'s> {
         ensures same { self.new.session.ghost_name ≡ self.old.session.ghost_name }
         ensures infallible { is_memory result ≡ false }
     {
-        self.session.call_kept(
+        self.session.call_reserved(
             rt,
             alloc,
             self.desk,
@@ -82,8 +82,15 @@ impl<'s> Transaction<'s> {
             desk,
             number,
         } = self;
-        let answer = session.call_kept(rt, alloc, desk, number, Request::Commit, Request::Commit);
-        session.give_up();
+        let answer = session.call_reserved(
+            rt,
+            alloc,
+            desk,
+            number,
+            Request::Commit,
+            Request::Commit,
+        );
+        session.release();
         answer
     }
 
@@ -97,8 +104,8 @@ impl<'s> Transaction<'s> {
             desk,
             number,
         } = self;
-        let answer = session.call_kept(rt, alloc, desk, number, Request::Abort, Request::Abort);
-        session.give_up();
+        let answer = session.call_reserved(rt, alloc, desk, number, Request::Abort, Request::Abort);
+        session.release();
         answer
     }
 }
