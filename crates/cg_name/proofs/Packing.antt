@@ -206,7 +206,7 @@ prefix_rest (n ∷ p) (m ∷ q) h =
     (rest.0, λ i. sym e i ∷ rest.1 i)
 
 -- a text that begins with the text of a path
-prefix_bytes : (xs ys : List ℕ) → BeginsName xs → BeginsName ys → is_prefix (names_in xs) (names_in ys) ≡ true → (r : Path) × (ys ≡ xs ++ packed_text r)
+pub prefix_bytes : (xs ys : List ℕ) → BeginsName xs → BeginsName ys → is_prefix (names_in xs) (names_in ys) ≡ true → (r : Path) × (ys ≡ xs ++ packed_text r)
 prefix_bytes xs ys h k e =
     let rest = prefix_rest (names_in xs) (names_in ys) e in
     (rest.0, sym (packed_text-names_in ys k) ∙ ap packed_text rest.1 ∙ packed_text-append (names_in xs) rest.0 ∙ ap (λ z. z ++ packed_text rest.0) (packed_text-names_in xs h))

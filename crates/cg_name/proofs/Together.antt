@@ -56,7 +56,7 @@ module _ {X : Type 0} (p : Path) where
   From e = is_le (path_cmp p e.0)
 
   -- behind a path that stands behind p and doesn't begin with it, none begins with p
-  none_behind : (a : Path) → is_le (path_cmp p a) ≡ true → is_prefix p a ≡ false → (es : List (Path × X)) → AllByRecursion (λ y. path_cmp a y ≡ Less) (keys_of es) → filter Below es ≡ []
+  pub none_behind : (a : Path) → is_le (path_cmp p a) ≡ true → is_prefix p a ≡ false → (es : List (Path × X)) → AllByRecursion (λ y. path_cmp a y ≡ Less) (keys_of es) → filter Below es ≡ []
   none_behind a l n [] h = refl
   none_behind a l n (e ∷ es) h = elim (is_prefix p e.0) as (λ b. is_prefix p e.0 ≡ b → cond b (e ∷ filter Below es) (filter Below es) ≡ []) [
     | true ↦ λ t. absurd (true≢false (sym (between p a e.0 l h.0 t) ∙ n))

@@ -1,12 +1,14 @@
 //! Maps by paths.
-ghost use Rattle.std.specs.Prelude.{◌≡◌, ◌==◌, is_some, take, filter, IsOk, IsSome, IfOk, IfSome, OnErr, OnOk, Some, None, option_copied};
+ghost use Rattle.std.specs.Prelude.{◌≡◌, ◌==◌, is_some, take, filter, IsOk, IsSome, IfOk, IfSome, OnErr, OnOk, Some, None, true, option_copied};
 ghost use Rattle.std.specs.Borrow.{sem};
 ghost use Rattle.std.specs.Option.{option_copied_mut};
 ghost use Rattle.std.specs.Ordering.{is_le};
 ghost use Rattle.std.specs.Iterator.{item_count, YieldsFirstBy};
 ghost use Rattle.cg_maps.specs.FiniteMap.{empty, entries, get, len, set_at};
+ghost use Rattle.cg_name.specs.Behind.{is_behind};
 ghost use Rattle.cg_name.specs.Path.{is_prefix, path_cmp};
 
+use crate::behind::Behind;
 use crate::path::Path;
 use crate::path_ref::PathRef;
 use crate::subtree::Subtree;
@@ -164,6 +166,15 @@ impl<V: Drop> PathMap<V> {
     {
         let (key, _) = self.entries.get_key_value(path.prefix_text(depth))?;
         Some(Subtree::new(key.as_slice(), self.entries.range(key..)))
+    }
+
+    /// The entries at the paths that begin with the path of `top` and stand behind a second path, which begins with it
+    /// too, in the order of the paths. Takes no memory.
+    pub fn subtree_behind<'a>(&'a self, top: &'a Behind, behind: &Behind) -> Subtree<'a, V>
+        requires { is_prefix top.now behind.now ≡ true }
+        ensures { result ≡ filter (λ e. is_prefix top.now e.0) (filter (λ e. is_behind behind.now e.0) (entries self.now)) }
+    {
+        Subtree::new(top.text(), self.entries.range(behind.key()..))
     }
 }
 

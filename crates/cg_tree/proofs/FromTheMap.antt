@@ -1,5 +1,5 @@
 -- What a tree lists of its map's entries from one path down.
-use Rattle.std.proofs.Common.{◌≡◌, ℕ, zero, suc, ◌+◌, ◌&&◌, nat_lt, Bool, true, false, cond, List, [], ◌∷◌, ◌++◌, length, take, filter, slice_get, Option, Some, None, is_some, IfSome, refl, sym, ap, subst, ◌∙◌, ◌≢◌, ◌≤◌, true≢false, take_all, arith}
+use Rattle.std.proofs.Common.{◌≡◌, ℕ, zero, suc, ◌+◌, ◌&&◌, nat_lt, Bool, true, false, cond, List, [], ◌∷◌, ◌++◌, length, filter, slice_get, Option, Some, None, is_some, IfSome, refl, sym, ap, subst, ◌∙◌, ◌≢◌, ◌≤◌, true≢false, arith}
 use Rattle.std.proofs.lemmas.Option.{none-some}
 use Rattle.cg_maps.specs.FiniteMap.{FiniteMap, domain, entries, get, len, retain}
 use Rattle.cg_name.specs.Name.{Name, same_name}
@@ -8,9 +8,12 @@ use Rattle.cg_name.proofs.Packing.{first_true, same_is}
 use Rattle.cg_text.specs.declared.settings.Settings.{Settings}
 use Rattle.cg_model.specs.Derived.{children, descendants}
 use Rattle.cg_model.specs.Tree.{Tree}
-use Rattle.cg_tree.specs.Below.{at_depth, some_at_depth}
-use Rattle.cg_tree.specs.Present.{present}
+use Rattle.cg_tree.specs.declared.entry.Entry.{Entry}
+use Rattle.cg_tree.specs.Entries.{of_depth, settings_of, some_held}
+use Rattle.cg_tree.specs.Present.{present, held_entries}
 use Rattle.cg_tree.specs.Room.{TreeWithRoom, IsRooted}
+use Rattle.cg_tree.specs.Seen.{seen}
+use Rattle.cg_tree.proofs.Seeing.{counted-seen, length-seen}
 use Rattle.cg_tree.proofs.GroupsBelow.{NoneBelow, children_at_depth, below_are_counted, no_children, no_descendants, none_below}
 
 fewer : {A : Type 0} (test : A → Bool) (xs : List A) → length (filter test xs) ≤ length xs
@@ -22,40 +25,34 @@ fewer test (x ∷ xs) = step (test x) (fewer test xs)
     step false h = omega (arith, h)
 
 module _ (t : TreeWithRoom) (m : FiniteMap path_cmp (Option Settings)) (groups : present m ≡ t.tree.groups) (rooms : domain m ≡ t.entries) (rooted : IsRooted t) where
-  -- the entries from q down, if it has one
-  abbrev FromTop : Path → Option (List (Path × Option Settings)) → Type 0
-  FromTop q r = (is_some r ≡ is_some (get m q)) × IfSome r (λ es. es ≡ filter (λ e. is_prefix q e.0) (entries m))
-
   nothing_below : (q : Path) → is_some (get m q) ≡ false → NoneBelow q m
   nothing_below q n =
       none_below q m (λ x a h. ap (λ E. is_some (get E q)) rooms ∙ rooted.above q x a (sym (ap (λ E. is_some (get E x)) rooms) ∙ h)) n
 
-  children_from : (q : Path) (d : ℕ) → d ≡ length q + 1 → (r : Option (List (Path × Option Settings))) → FromTop q r → some_at_depth d r ≡ children t.tree q
+  pub children_listed : (q : Path) (r : Option (List (Path × Entry))) → is_some r ≡ is_some (get m q) → IfSome r (λ es. seen settings_of es ≡ of_depth (length q + 1) (filter (λ e. is_prefix q e.0) (entries m)))
+      → some_held r ≡ children t.tree q
   unfolding children
-  children_from q d e None h = no_children q m (nothing_below q (sym h.0)) ∙ ap (λ g. entries (retain g (is_parent q))) groups
-  children_from q d e (Some es) h = (λ i. at_depth (e i) (h.1 i)) ∙ children_at_depth q m ∙ ap (λ g. entries (retain g (is_parent q))) groups
+  children_listed q None h v = no_children q m (nothing_below q (sym h)) ∙ ap (λ g. entries (retain g (is_parent q))) groups
+  children_listed q (Some es) h v = ap held_entries v ∙ children_at_depth q m ∙ ap (λ g. entries (retain g (is_parent q))) groups
 
-  whole : (p : Path) (d : ℕ) → d ≡ length p → take d p ≡ p
-  whole p d e = take_all d p (omega (arith, e))
-
-  pub children_of : (p : Path) (d : ℕ) → d ≡ length p → (r : Option (List (Path × Option Settings))) → is_some r ≡ is_some (get m (take d p)) → IfSome r (λ es. es ≡ filter (λ e. is_prefix (take d p) e.0) (entries m))
-      → some_at_depth (d + 1) r ≡ children t.tree p
-  children_of p d e r h v =
-      children_from (take d p) (d + 1) (ap (λ n. n + 1) (e ∙ ap length (sym (whole p d e)))) r (h, v) ∙ ap (children t.tree) (whole p d e)
-
-  pub descendants_in : (q : Path) (es : List (Path × Option Settings)) → es ≡ filter (λ e. is_prefix q e.0) (entries m) → length (filter (λ e. nat_lt (length q) (length e.0) && is_some e.1) es) ≡ descendants t.tree q
+  pub descendants_in : (q : Path) (es : List (Path × Entry)) → seen settings_of es ≡ filter (λ e. is_prefix q e.0) (entries m) → length (filter (λ e. nat_lt (length q) (length e.0) && is_some e.1.settings) es) ≡ descendants t.tree q
   unfolding descendants
   descendants_in q es h =
-      ap (λ xs. length (filter (λ e. nat_lt (length q) (length e.0) && is_some e.1) xs)) h ∙ below_are_counted q m ∙ ap (λ g. len (retain (domain g) (is_above q))) groups
+      counted-seen settings_of (λ p. nat_lt (length q) (length p)) es
+      ∙ ap (λ xs. length (filter (λ e. nat_lt (length q) (length e.0) && is_some e.1) xs)) h
+      ∙ below_are_counted q m
+      ∙ ap (λ g. len (retain (domain g) (is_above q))) groups
 
   pub no_descendants_of : (q : Path) → is_some (get m q) ≡ false → 0 ≡ descendants t.tree q
   unfolding descendants
   no_descendants_of q h = no_descendants q m (nothing_below q h) ∙ ap (λ g. len (retain (domain g) (is_above q))) groups
 
   -- there are no more of them than the map has entries
-  pub few_below : (q : Path) (es : List (Path × Option Settings)) → es ≡ filter (λ e. is_prefix q e.0) (entries m) → length es ≤ len m
+  pub few_below : (q : Path) (es : List (Path × Entry)) → seen settings_of es ≡ filter (λ e. is_prefix q e.0) (entries m) → length es ≤ len m
   unfolding len entries
-  few_below q es h = subst (λ xs. length xs ≤ length m.list) (sym h) (fewer (λ e. is_prefix q e.0) m.list)
+  few_below q es h =
+      subst (λ n. n ≤ length m.list) (length-seen settings_of es)
+      (subst (λ xs. length xs ≤ length m.list) (sym h) (fewer (λ e. is_prefix q e.0) m.list))
 
 -- ---- a child's name
 

@@ -1,6 +1,5 @@
 -- The groups below a path, and its children, among the entries that begin with it.
 use Rattle.std.proofs.Common.{◌≡◌, ℕ, ◌+◌, ◌==◌, ◌&&◌, nat_lt, Bool, true, false, cond, List, [], ◌∷◌, length, filter, suc, Option, Some, None, is_some, option_map, refl, sym, ap, ◌∙◌, true≢false, arith}
-use Rattle.std.proofs.lemmas.Bool.{eq-eqb}
 use Rattle.std.proofs.lemmas.Bool.Decides.{nat_tests}
 use Rattle.std.specs.List.{AllByRecursion}
 use Rattle.cg_maps.specs.FiniteMap.{FiniteMap, bare, domain, entries, get, len, retain}
@@ -8,15 +7,9 @@ use Rattle.cg_maps.proofs.Maps.{all_map, each_entry, get-domain}
 use Rattle.cg_name.specs.Name.{same_name}
 use Rattle.cg_name.specs.Order.{path_cmp_total}
 use Rattle.cg_name.specs.Path.{Path, path_cmp, is_prefix, is_above, is_parent}
-use Rattle.cg_tree.specs.Below.{at_depth, with_one}
+use Rattle.cg_tree.specs.Entries.{of_depth}
 use Rattle.cg_tree.specs.Present.{held_entries, present, with_held}
-
--- an entry of a group whose path has d names comes first
-pub first_at_depth : {X : Type 0} (d : ℕ) (p : Path) (o : Option X) (x : X) (all es : List (Path × Option X)) (xs : List (Path × X)) → at_depth d all ≡ xs → all ≡ (p, o) ∷ es → o ≡ Some x
-    → length p ≡ d → xs ≡ (p, x) ∷ at_depth d es
-first_at_depth d p o x all es xs v e s h =
-    sym v ∙ ap (at_depth d) e ∙ (λ i. with_one d p (s i) (at_depth d es))
-    ∙ ap (λ b. cond b ((p, x) ∷ at_depth d es) (at_depth d es)) (eq-eqb (length p) d h)
+use Rattle.cg_tree.proofs.Seeing.{length_so}
 
 -- ---- below a path are those that begin with it and have more names, and its children have one more
 
@@ -63,10 +56,6 @@ alike : {A : Type 0} (b : Bool) (x : A) → cond b x x ≡ x
 alike true x = refl
 alike false x = refl
 
-length_so : {A : Type 0} (b : Bool) (x : A) (xs : List A) → length (cond b (x ∷ xs) xs) ≡ cond b (suc (length xs)) (length xs)
-length_so true x xs = refl
-length_so false x xs = refl
-
 module _ {X : Type 0} where
   -- ---- of the entries, those that hold something
 
@@ -93,16 +82,6 @@ module _ {X : Type 0} where
       ∙ ap (λ xs. cond (s e.0 && c e.0) (with_held e.0 e.1 xs) xs) (kept_in_parts t s c h es)
       ∙ first_kept s c e.0 e.1 (s e.0) (c e.0) (filter (λ x. s x.0) es) refl refl
 
-  one_at_depth : (d : ℕ) (k : Path) (o : Option X) (b : Bool) (es : List (Path × Option X)) → (length k == d) ≡ b → with_one d k o (held_entries es) ≡ held_entries (cond b ((k, o) ∷ es) es)
-  one_at_depth d k None true es h = refl
-  one_at_depth d k None false es h = refl
-  one_at_depth d k (Some x) true es h = ap (λ z. cond z ((k, x) ∷ held_entries es) (held_entries es)) h
-  one_at_depth d k (Some x) false es h = ap (λ z. cond z ((k, x) ∷ held_entries es) (held_entries es)) h
-
-  at_depth_held : (d : ℕ) (es : List (Path × Option X)) → at_depth d es ≡ held_entries (filter (λ e. length e.0 == d) es)
-  at_depth_held d [] = refl
-  at_depth_held d (e ∷ es) = ap (with_one d e.0 e.1) (at_depth_held d es) ∙ one_at_depth d e.0 e.1 (length e.0 == d) (filter (λ x. length x.0 == d) es) refl
-
   counted_so : (b : Bool) (o : Option X) (k : Path) (n : ℕ) (es : List (Path × Option X)) → n ≡ length (held_entries es) → cond (b && is_some o) (suc n) n ≡ length (held_entries (cond b ((k, o) ∷ es) es))
   counted_so true None k n es h = h
   counted_so true (Some x) k n es h = ap suc h
@@ -122,11 +101,9 @@ module _ {X : Type 0} where
 
   -- ---- the children of p, and the groups below it
 
-  pub children_at_depth : (p : Path) (m : FiniteMap path_cmp (Option X)) → at_depth (length p + 1) (filter (λ e. is_prefix p e.0) (entries m)) ≡ entries (retain (present m) (is_parent p))
+  pub children_at_depth : (p : Path) (m : FiniteMap path_cmp (Option X)) → held_entries (of_depth (length p + 1) (filter (λ e. is_prefix p e.0) (entries m))) ≡ entries (retain (present m) (is_parent p))
   unfolding entries retain present
-  children_at_depth p m =
-      at_depth_held (length p + 1) (filter (λ e. is_prefix p e.0) m.list)
-      ∙ sym (kept_in_parts (is_parent p) (is_prefix p) (λ q. length q == length p + 1) (child_is_one_longer p) m.list)
+  children_at_depth p m = sym (kept_in_parts (is_parent p) (is_prefix p) (λ q. length q == length p + 1) (child_is_one_longer p) m.list)
 
   pub below_are_counted : (p : Path) (m : FiniteMap path_cmp (Option X)) → length (filter (λ e. nat_lt (length p) (length e.0) && is_some e.1) (filter (λ e. is_prefix p e.0) (entries m))) ≡ len (retain (domain (present m)) (is_above p))
   unfolding entries retain present domain len

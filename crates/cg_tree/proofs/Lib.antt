@@ -2,8 +2,10 @@ mod Edits
 mod FromTheMap
 mod GroupsBelow
 mod Listing
+mod Passing
 mod Places
 mod Prefixes
 mod Presence
 mod Rooms
+mod Seeing
 mod Rooting

@@ -1,4 +1,5 @@
-pub mod Below
+pub mod Entries
+pub mod Seen
 pub mod Code
 pub mod Edit
 pub mod Inside

@@ -3,6 +3,7 @@ ghost use Rattle.std.specs.Prelude.{◌≡◌, ◌<◌, ◌^◌, ◌++◌, ◌�
 ghost use Rattle.cg_model.specs.Derived.{children, descendants};
 
 use crate::children::Children;
+use crate::entry::Entry;
 use crate::tree::Tree;
 use cg_name::{Path, Subtree};
 use cg_text::Settings;
@@ -12,8 +13,7 @@ impl Tree {
     pub fn children(&self, path: &Path) -> Children<'_>
         ensures { result ≡ children self.now.tree path.now }
     {
-        let depth = path.depth();
-        Children::new(self.groups().subtree(path, depth), depth + 1)
+        Children::new(self.groups().right_below(path))
     }
 
     /// The name of the child of the group at the path with that many children before it in the order of their names, and
@@ -46,13 +46,13 @@ impl Tree {
 }
 
 // How many of the entries are groups whose paths have more names than so many.
-fn count_longer(entries: Subtree<'_, Option<Settings>>, depth: u32) -> u64
+fn count_longer(entries: Subtree<'_, Entry>, depth: u32) -> u64
     requires { length entries < 2 ^ 64 }
-    ensures { result ≡ length (filter (λ e. nat_lt depth (length e.0) && is_some e.1) entries.entry) }
+    ensures { result ≡ length (filter (λ e. nat_lt depth (length e.0) && is_some e.1.settings) entries.entry) }
 {
     let mut count = 0;
-    for (path, settings) in entries {
-        if path.depth() > depth && settings.is_some() {
+    for (path, entry) in entries {
+        if path.depth() > depth && entry.settings.is_some() {
             count += 1;
         }
     }

@@ -1,37 +1,36 @@
-//! The children of a group, and how many groups are below one.
+//! The children of a group.
 ghost use Rattle.std.specs.Prelude.{◌≡◌, ◌∷◌, [], MatchOption};
 ghost use Rattle.std.specs.Iterator.{item_count, YieldsFirstBy};
-ghost use Rattle.cg_tree.specs.Below.{at_depth, some_at_depth};
+ghost use Rattle.cg_tree.specs.Entries.{held, some_held};
 
-use cg_name::{PathRef, Subtree};
+use crate::right_below::RightBelow;
+use cg_name::PathRef;
 use cg_text::Settings;
 use std::marker::Model;
 
 /// The children of a group that are still to come, in the order of their names. Takes no memory.
 #[derive(Drop)]
 pub struct Children<'a> {
-    // The entries from the group down, if it has one.
-    rest: Option<Subtree<'a, Option<Settings>>>,
-    // How many names a child's path has.
-    depth: u32,
+    // The entries right below the group, if it has one.
+    rest: Option<RightBelow<'a>>,
 }
 
 impl<'a> Model for Children<'a> {
     ghost use Rattle.std.specs.Prelude.{List, ℕ};
     ghost use Rattle.cg_text.specs.declared.settings.Settings.{Settings};
-    ghost use Rattle.cg_tree.specs.Below.{some_at_depth};
+    ghost use Rattle.cg_tree.specs.Entries.{some_held};
 
     ghost Value = { List (List (List ℕ) × Settings) };
 
-    ghost view = { λ c. some_at_depth c.depth c.rest };
+    ghost view = { λ c. some_held c.rest };
 }
 
 impl<'a> Children<'a> {
-    // Those of the entries that are groups with so many names.
-    pub(crate) fn new(rest: Option<Subtree<'a, Option<Settings>>>, depth: u32) -> Children<'a>
-        ensures { result ≡ some_at_depth depth rest.entry }
+    // Those of the entries that are groups.
+    pub(crate) fn new(rest: Option<RightBelow<'a>>) -> Children<'a>
+        ensures { result ≡ some_held rest.entry }
     {
-        Children { rest, depth }
+        Children { rest }
     }
 }
 
@@ -43,26 +42,20 @@ impl<'a> Iterator for Children<'a> {
     ghost remaining = { item_count (λ cs. cs) };
 
     fn next(&mut self) -> Option<(PathRef<'a>, Settings)> {
-        let depth = self.depth;
         match &mut self.rest {
-            Some(rest) => next_at_depth(rest, depth),
+            Some(rest) => next_held(rest),
             None => None,
         }
     }
 }
 
-// The next of the entries that is a group whose path has so many names.
-fn next_at_depth<'a>(
-    rest: &mut Subtree<'a, Option<Settings>>,
-    depth: u32,
-) -> Option<(PathRef<'a>, Settings)>
-    ensures { MatchOption result ((at_depth depth rest.old ≡ []) × (at_depth depth rest.new ≡ [])) (λ c. at_depth depth rest.old ≡ c ∷ at_depth depth rest.new) }
+// The next of the entries that is a group.
+fn next_held<'a>(rest: &mut RightBelow<'a>) -> Option<(PathRef<'a>, Settings)>
+    ensures { MatchOption result ((held rest.old ≡ []) × (held rest.new ≡ [])) (λ c. held rest.old ≡ c ∷ held rest.new) }
 {
-    while let Some((path, settings)) = rest.next() {
-        if let Some(settings) = settings {
-            if path.depth() == depth {
-                return Some((path, *settings));
-            }
+    while let Some((path, entry)) = rest.next() {
+        if let Some(settings) = entry.settings {
+            return Some((path, settings));
         }
     }
     None

@@ -4,7 +4,10 @@
 mod below;
 mod children;
 mod edit;
+mod entry;
+mod groups;
 mod pids;
+mod right_below;
 mod tree;
 mod worlds;
 mod writing;

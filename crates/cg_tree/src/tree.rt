@@ -13,10 +13,11 @@ ghost use Rattle.cg_tree.specs.Room.{has_entry, may_have_entry, with_entry, with
 ghost use Rattle.cg_world.specs.Statement.{AreCpusUpTo};
 
 use crate::edit::Edit;
+use crate::groups::Groups;
 use crate::pids::Pids;
 use crate::worlds::{add_groups, add_places, with_entries};
 use cg_cpus::CpuSet;
-use cg_name::{Path, PathMap};
+use cg_name::Path;
 use cg_text::{Controllers, Settings};
 use cg_world::{PlainTree, World};
 use std::alloc::{AllocError, Global};
@@ -30,7 +31,7 @@ pub struct Tree {
     controllers: Controllers,
     online: CpuSet,
     // The settings of each group, and `None` at each dead path.
-    groups: PathMap<Option<Settings>>,
+    groups: Groups,
     places: BTreeMap<u32, Path>,
 }
 
@@ -103,7 +104,7 @@ impl Tree {
     pub fn settings(&self, path: &Path) -> Option<Settings>
         ensures { result ≡ group self.now.tree path.now }
     {
-        *self.groups.get(path)?
+        self.groups.get(path)?
     }
 
     /// The settings of the group at the first names of the path, so many as `depth` says, if there is one: none where
@@ -114,7 +115,7 @@ impl Tree {
         if depth > path.depth() {
             return None;
         }
-        *self.groups.get_prefix(path, depth)?
+        self.groups.get_prefix(path, depth)?
     }
 
     /// Whether the process is in the group at the path itself; no where no process has this PID.
@@ -178,7 +179,7 @@ impl Tree {
     }
 
     // The settings of each group, and `None` at each dead path.
-    pub(crate) fn groups(&self) -> &PathMap<Option<Settings>>
+    pub(crate) fn groups(&self) -> &Groups
         ensures present { present result.now ≡ self.now.tree.groups }
         ensures entries { domain result.now ≡ self.now.entries }
         ensures rooted { IsRooted self.now }
@@ -288,9 +289,7 @@ impl Tree {
         // The path and the CPUs tell what holds of them.
         let _ = path.names();
         tell_cpus(&settings);
-        if let Some(held) = self.groups.get_mut(path) {
-            *held = settings;
-        }
+        self.groups.replace(path, settings);
     }
 
     // Puts the process into the group, if there is a process with this PID.

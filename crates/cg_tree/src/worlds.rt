@@ -6,7 +6,8 @@ ghost use Rattle.cg_name.specs.Path.{path_cmp};
 ghost use Rattle.cg_tree.specs.Present.{present};
 ghost use Rattle.cg_tree.specs.Room.{ArePids};
 
-use cg_name::{Path, PathMap};
+use crate::groups::Groups;
+use cg_name::Path;
 use cg_text::Settings;
 use cg_world::PlainTree;
 use std::alloc::{AllocError, Global};
@@ -16,11 +17,11 @@ use std::collections::BTreeMap;
 pub(crate) fn with_entries(
     alloc: Global,
     listed: &BTreeMap<Path, Settings>,
-) -> Result<PathMap<Option<Settings>>, AllocError>
+) -> Result<Groups, AllocError>
     ensures groups { IfOk result (λ made. present made ≡ from_entries path_cmp listed.now.entries) }
     ensures entries { IfOk result (λ made. domain made ≡ domain (from_entries path_cmp listed.now.entries)) }
 {
-    let mut made = PathMap::new(alloc);
+    let mut made = Groups::new(alloc);
     for (path, settings) in listed {
         made.insert(alloc, path, Some(*settings))?;
     }
@@ -30,15 +31,15 @@ pub(crate) fn with_entries(
 // Puts the present groups into a tree of none.
 pub(crate) fn add_groups(
     alloc: Global,
-    groups: &PathMap<Option<Settings>>,
+    groups: &Groups,
     tree: &mut PlainTree,
 ) -> Result<(), AllocError>
     requires { tree.old.groups ≡ empty }
     ensures { OnOk result (tree.new ≡ record tree.old { groups = present groups.now }) }
 {
-    for (path, settings) in groups.iter() {
-        if let Some(settings) = settings {
-            tree.set_group(path.to_path(alloc)?, *settings)?;
+    for (path, entry) in groups.iter() {
+        if let Some(settings) = entry.settings {
+            tree.set_group(path.to_path(alloc)?, settings)?;
         }
     }
     Ok(())

@@ -5,9 +5,9 @@ ghost use Rattle.cg_maps.specs.FiniteMap.{entries};
 ghost use Rattle.cg_tree.specs.Present.{present};
 ghost use Rattle.cg_world.specs.World.{group_line, settings_fit_one, text_of_version, world_text, written_version};
 
+use crate::groups::Groups;
 use crate::tree::Tree;
-use cg_name::{PathMap, or_truncate};
-use cg_text::Settings;
+use cg_name::or_truncate;
 use cg_world::{
     Version, append_end, append_group, append_head, append_processes, cpus_fit, settings_fit,
 };
@@ -38,11 +38,11 @@ impl Tree {
 }
 
 // Whether the groups' settings fit version 1.
-fn groups_fit(groups: &PathMap<Option<Settings>>) -> bool
+fn groups_fit(groups: &Groups) -> bool
     ensures { result ≡ list_all (λ e. settings_fit_one e.1) (entries (present groups.now)) }
 {
-    for (_path, settings) in groups.iter() {
-        if let Some(settings) = settings {
+    for (_path, entry) in groups.iter() {
+        if let Some(settings) = &entry.settings {
             if !settings_fit(settings) {
                 return false;
             }
@@ -65,16 +65,12 @@ fn append_tree(version: Version, tree: &Tree, out: &mut Vec<u8>) -> Result<(), A
 }
 
 // The line of each present group.
-fn append_groups(
-    version: Version,
-    groups: &PathMap<Option<Settings>>,
-    out: &mut Vec<u8>,
-) -> Result<(), AllocError>
+fn append_groups(version: Version, groups: &Groups, out: &mut Vec<u8>) -> Result<(), AllocError>
     ensures ok { OnOk result (out.new.items ≡ out.old.items ++ flat_map (group_line version) (entries (present groups.now))) }
     ensures kept { OnErr result (take (length out.old.items) out.new.items ≡ out.old.items) }
 {
-    for (path, settings) in groups.iter() {
-        if let Some(settings) = settings {
+    for (path, entry) in groups.iter() {
+        if let Some(settings) = &entry.settings {
             append_group(version, &path, settings, out)?;
         }
     }

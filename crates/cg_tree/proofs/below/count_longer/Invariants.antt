@@ -4,6 +4,6 @@ use Rattle.cg_tree.proofs.below.count_longer.Given as goal
 
 abbrev pub invariant-loop-path : goal.invariant-loop-path
 invariant-loop-path l = record {
-  counted : l.count + length (filter (λ e. nat_lt l.fn.depth (length e.0) && is_some e.1) l.path-iterator) ≡ length (filter (λ e. nat_lt l.fn.depth (length e.0) && is_some e.1) l.fn.entries);
+  counted : l.count + length (filter (λ e. nat_lt l.fn.depth (length e.0) && is_some e.1.settings) l.path-iterator) ≡ length (filter (λ e. nat_lt l.fn.depth (length e.0) && is_some e.1.settings) l.fn.entries);
   few : l.count + length l.path-iterator ≤ length l.fn.entries;
 }

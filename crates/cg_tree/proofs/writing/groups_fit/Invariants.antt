@@ -2,9 +2,10 @@ use Rattle.std.proofs.Common.{◌≡◌}
 use Rattle.std.specs.List.{list_all}
 use Rattle.cg_maps.specs.FiniteMap.{entries}
 use Rattle.cg_world.specs.World.{settings_fit_one}
+use Rattle.cg_tree.specs.Entries.{held}
 use Rattle.cg_tree.specs.Present.{held_entries}
 use Rattle.cg_tree.proofs.writing.groups_fit.Given as goal
 
 -- what is left to look at decides the whole
 abbrev pub invariant-loop-path : goal.invariant-loop-path
-invariant-loop-path l = list_all (λ e. settings_fit_one e.1) (held_entries l._path-iterator) ≡ list_all (λ e. settings_fit_one e.1) (held_entries (entries l.groups))
+invariant-loop-path l = list_all (λ e. settings_fit_one e.1) (held l._path-iterator) ≡ list_all (λ e. settings_fit_one e.1) (held_entries (entries l.groups))

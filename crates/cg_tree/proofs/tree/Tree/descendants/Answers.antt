@@ -13,7 +13,7 @@ pub returns-in-Some : goal.returns-in-Some
 returns-in-Some c =
     let top : c.min.result ≡ length (take c.args.depth c.args.path.now) = c.min.ensures ∙ ap (min c.args.depth) c.depth.ensures.value ∙ sym (length-take c.args.depth c.args.path.now) in
     c.count_longer.ensures
-    ∙ ap (λ n. length (filter (λ e. nat_lt n (length e.0) && is_some e.1) c.in-Some.entries)) top
+    ∙ ap (λ n. length (filter (λ e. nat_lt n (length e.0) && is_some e.1.settings) c.in-Some.entries)) top
     ∙ descendants_in c.args.self.now _ c.groups-groups.ensures.present c.groups-groups.ensures.entries c.groups-groups.ensures.rooted _ c.in-Some.entries c.in-Some.ensures.value
 
 pub returns-in-None : goal.returns-in-None

@@ -12,7 +12,7 @@ no_group : (c : goal.After-remove) → group c.args.self.now.tree c.args.path.no
 no_group c = none_there _ (sym c.find.ensures.value ∙ c.if-not-find.true)
 
 removed : (c : goal.After-remove) → room_of (with_map c.self.inside c.args.path.now c.remove.new.self) ≡ with_entries (room_of c.self.inside) (set_at (domain c.self.inside.groups) c.args.path.now None)
-removed c = entry_removed c.self.inside c.args.path.now c.remove.new.self c.remove.ensures.removed (ap (λ t. group t.tree c.args.path.now) c.self.view_is ∙ no_group c)
+removed c = entry_removed c.self.inside c.args.path.now c.remove.new.self c.remove.ensures (ap (λ t. group t.tree c.args.path.now) c.self.view_is ∙ no_group c)
 
 pub invariant_of-self : goal.invariant_of-self
 invariant_of-self c =
