@@ -1,3 +1,4 @@
 mod Counting
 mod Comparing
 mod NeverLost
+mod Replied

@@ -22,7 +22,7 @@ IsOpenIn c s t = transaction_in s (opens c.history) ≡ Some t
 pub record IsStep (before : CoreState) (s : ℕ) (r : Request) (a : Answer) (c : CoreState) : Type 0 where
   pub answer : OnFalse (is_memory a) (answer_of a ≡ reply before s (request_of r))
   pub state : OnFalse (is_memory a) (c ≡ after before s (request_of r))
-  pub machines : OnFalse (is_memory a) (step cgroups (machine before) s (request_of r) ≡ (machine c, answer_of a))
+  pub by_machine : OnFalse (is_memory a) (step cgroups (machine before) s (request_of r) ≡ (machine c, answer_of a))
   pub memory : OnTrue (is_memory a) (c ≡ before)
   pub infallible : takes_memory r ≡ false → is_memory a ≡ false
   pub reached : Reached c.opening c.bound c.history

@@ -1,5 +1,5 @@
 //! Whether sessions and a history agree.
-ghost use Rattle.std.specs.Prelude.{◌≡◌, ◌≢◌, ◌≤◌, ◌↔◌, ◌⊎◌, ◌∷◌, ℕ, List, Err, Some, IfErr, IfOk, IsSome, IsTrue, OnOk, length};
+ghost use Rattle.std.specs.Prelude.{◌≡◌, ◌≢◌, ◌≤◌, ◌↔◌, ◌⊎◌, [], ◌∷◌, ℕ, List, Err, Some, IfErr, IfOk, IsSome, IsTrue, OnOk, length};
 ghost use Rattle.std.specs.Bool.{OnFalse, OnTrue};
 ghost use Rattle.std.specs.List.{sum_by};
 ghost use Rattle.cg_desk.specs.Audit.{AreNumbered, IsAudited};
@@ -7,6 +7,7 @@ ghost use Rattle.cg_desk.specs.Call as model;
 ghost use Rattle.cg_desk.specs.Rests.{rests_of, total, AreCallsOf};
 ghost use Rattle.cg_history.specs.Meaning.{history_of, record_of};
 ghost use Rattle.cg_history.specs.SessionMap.{found, with_value, IsOnceEach};
+ghost use Rattle.cg_model.specs.Opens.{opens};
 ghost use Rattle.cg_name.specs.declared.refusal.Refusal.TheVariants as refusals;
 
 use crate::rest::Rest;
@@ -26,7 +27,7 @@ pub fn audit(alloc: Global, core: &Core, handed: u32, sessions: &[Session]) -> R
     ensures refusals { IfErr result (λ e. (e ≡ refusals.Disagree) ⊎ (e ≡ refusals.Memory)) }
 {
     let records = core.history();
-    if core.open_count() != 0 || !lengths_add_up(sessions, records.len()) {
+    if !has_ended(core) || !lengths_add_up(sessions, records.len()) {
         return Err(Refusal::Disagree);
     }
     let mut rests = by_number(alloc, handed, sessions)?;
@@ -35,6 +36,13 @@ pub fn audit(alloc: Global, core: &Core, handed: u32, sessions: &[Session]) -> R
     } else {
         Err(Refusal::Disagree)
     }
+}
+
+// Whether no transaction is open.
+fn has_ended(core: &Core) -> bool
+    ensures { IsTrue result ↔ (opens core.now.history ≡ []) }
+{
+    core.open_count() == 0
 }
 
 // Whether the logs have so many calls together.

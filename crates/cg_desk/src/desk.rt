@@ -12,8 +12,8 @@ use cg_world::World;
 use std::alloc::{AllocError, Global};
 use std::sync::{Mutex, Wait};
 
-/// How many sessions a desk hands out at most.
-pub const MOST_SESSIONS: u32 = 65_536;
+// How many sessions a desk hands out at most.
+const MOST_SESSIONS: u32 = 65_536;
 
 // What the lock holds.
 #[derive(Drop)]

@@ -13,6 +13,10 @@ mod transaction;
 
 pub use auditing::audit;
 pub use call::Call;
+pub use cg_command::Command;
+pub use cg_core::{Answer, Core, Record, Request, SessionId};
+pub use cg_name::{Refusal, SaveName, TxnNumber};
+pub use cg_world::World;
 pub use desk::{CloseFault, Desk};
 pub use session::Session;
 pub use stepping::{step_for, step_for_pair};

@@ -1,7 +1,9 @@
 //! Sessions.
-ghost use Rattle.std.specs.Prelude.{◌≡◌, ◌⊎◌, IfErr, IfOk, false, map};
+ghost use Rattle.std.specs.Prelude.{◌≡◌, ◌⊎◌, IfErr, IfOk, false, map, true};
 ghost use Rattle.cg_desk.specs.Call.{after_call};
 ghost use Rattle.cg_desk.specs.CallOf.{call_of};
+ghost use Rattle.cg_desk.specs.Replies.{MayAnswer};
+ghost use Rattle.cg_desk.specs.Transactions.{session_of, txn_number};
 ghost use Rattle.cg_core.specs.Answers.{is_memory, takes_memory};
 ghost use Rattle.cg_history.specs.Meaning.{answer_of, request_of};
 ghost use Rattle.cg_model.specs.History as model;
@@ -65,7 +67,7 @@ impl Session {
         desk: &'s Desk,
     ) -> Result<Transaction<'s>, Refusal>
         ensures* refused { sem 𝓛 (RestsIfErr the_row self.entry (λ t. t.session.ghost_name) result (λ s. s ≡ self.old)) }
-        ensures begun { IfOk result (λ t. t.session.now ≡ after_call self.old model.Begin (model.Begun t.number.0)) }
+        ensures begun { IfOk result (λ t. session_of t ≡ after_call self.old model.Begin (model.Begun (txn_number t))) }
         ensures refusals { IfErr result (λ e. (e ≡ refusals.AlreadyOpen) ⊎ (e ≡ refusals.Full) ⊎ (e ≡ refusals.Memory)) }
     {
         if self.log.reserve().is_err() {
@@ -89,7 +91,9 @@ impl Session {
         number: TxnNumber,
         request: Request,
     ) -> Answer
-        ensures { self.new ≡ after_call self.old (request_of request) (answer_of result) }
+        requires { takes_memory request ≡ true }
+        ensures logged { self.new ≡ after_call self.old (request_of request) (answer_of result) }
+        ensures answers { MayAnswer number.0 (request_of request) (answer_of result) }
     {
         let Ok(copy) = request.copy(alloc) else {
             return Answer::Refused(Refusal::Memory);
@@ -115,6 +119,7 @@ impl Session {
         requires no_memory { takes_memory request ≡ false }
         requires same { request_of copy ≡ request_of request }
         ensures logged { self.new ≡ after_call self.old (request_of request) (answer_of result) }
+        ensures answers { MayAnswer number.0 (request_of request) (answer_of result) }
         ensures infallible { is_memory result ≡ false }
     {
         // Never so where the transaction is open at its desk.
@@ -161,6 +166,7 @@ fn step_at(
     request: Request,
 ) -> (Answer, Answer)
     ensures copy { answer_of result.1 ≡ answer_of result.0 }
+    ensures answers { MayAnswer number.0 (request_of request) (answer_of result.0) }
     ensures infallible { takes_memory request ≡ false → is_memory result.0 ≡ false }
 {
     let mut locked = desk.locked.lock(rt);

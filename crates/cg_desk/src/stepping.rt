@@ -1,7 +1,8 @@
 //! A step in a transaction that has to be open.
 ghost use Rattle.std.specs.Prelude.{◌≡◌, ◌≢◌, ◌↔◌, IsTrue};
+ghost use Rattle.cg_desk.specs.Replies.{MayAnswer};
 ghost use Rattle.cg_desk.specs.Step.{IsOpenIn, IsStep};
-ghost use Rattle.cg_history.specs.Meaning.{answer_of};
+ghost use Rattle.cg_history.specs.Meaning.{answer_of, request_of};
 ghost use Rattle.cg_history.specs.declared.record.Answer.TheVariants as answers;
 ghost use Rattle.cg_name.specs.declared.refusal.Refusal.TheVariants as refusals;
 
@@ -22,6 +23,7 @@ pub fn step_for(
     ensures unchanged { ¬ IsOpenIn core.old session.0 number.0 → core.new ≡ core.old }
     ensures open { IsOpenIn core.old session.0 number.0 → result ≢ answers.Refused refusals.Lost }
     ensures step { IsOpenIn core.old session.0 number.0 → IsStep core.old session.0 request result core.new }
+    ensures answers { MayAnswer number.0 (request_of request) (answer_of result) }
 {
     step_for_pair(alloc, core, session, number, request).0
 }
@@ -39,6 +41,7 @@ pub fn step_for_pair(
     ensures unchanged { ¬ IsOpenIn core.old session.0 number.0 → core.new ≡ core.old }
     ensures open { IsOpenIn core.old session.0 number.0 → result.0 ≢ answers.Refused refusals.Lost }
     ensures step { IsOpenIn core.old session.0 number.0 → IsStep core.old session.0 request result.0 core.new }
+    ensures answers { MayAnswer number.0 (request_of request) (answer_of result.0) }
     ensures copy { answer_of result.1 ≡ answer_of result.0 }
 {
     if !is_open_in(core, session, number) {

@@ -3,6 +3,8 @@ ghost use Rattle.std.specs.Prelude.{◌≡◌, false};
 ghost use Rattle.cg_command.specs.Meaning.{command_of};
 ghost use Rattle.cg_core.specs.Answers.{is_memory};
 ghost use Rattle.cg_desk.specs.Call.{after_call};
+ghost use Rattle.cg_desk.specs.Replies.{MayAnswer};
+ghost use Rattle.cg_desk.specs.Transactions.{session_left, session_of, txn_number, IsSame};
 ghost use Rattle.cg_history.specs.Meaning.{answer_of};
 ghost use Rattle.cg_model.specs.History as model;
 
@@ -24,8 +26,9 @@ pub struct Transaction<'s> {
 impl<'s> Transaction<'s> {
     /// Runs a command.
     pub fn run(&mut self, rt: &impl Wait, alloc: Global, command: Command) -> Answer
-        ensures logged { self.new.session.now ≡ after_call self.old.session.now (model.Do (command_of command)) (answer_of result) }
-        ensures same { self.new.session.ghost_name ≡ self.old.session.ghost_name }
+        ensures answers { MayAnswer (txn_number self.old) (model.Do (command_of command)) (answer_of result) }
+        ensures logged { session_of self.new ≡ after_call (session_of self.old) (model.Do (command_of command)) (answer_of result) }
+        ensures same { IsSame self.old self.new }
     {
         self.session
             .call(rt, alloc, self.desk, self.number, Request::Do(command))
@@ -33,8 +36,9 @@ impl<'s> Transaction<'s> {
 
     /// Sets a savepoint with a name.
     pub fn save(&mut self, rt: &impl Wait, alloc: Global, name: SaveName) -> Answer
-        ensures logged { self.new.session.now ≡ after_call self.old.session.now (model.Save name) (answer_of result) }
-        ensures same { self.new.session.ghost_name ≡ self.old.session.ghost_name }
+        ensures answers { MayAnswer (txn_number self.old) (model.Save name) (answer_of result) }
+        ensures logged { session_of self.new ≡ after_call (session_of self.old) (model.Save name) (answer_of result) }
+        ensures same { IsSame self.old self.new }
     {
         self.session
             .call(rt, alloc, self.desk, self.number, Request::Save(name))
@@ -42,8 +46,9 @@ impl<'s> Transaction<'s> {
 
     /// Takes the newest command off, where nothing came after it.
     pub fn undo(&mut self, rt: &impl Wait, alloc: Global) -> Answer
-        ensures logged { self.new.session.now ≡ after_call self.old.session.now model.Undo (answer_of result) }
-        ensures same { self.new.session.ghost_name ≡ self.old.session.ghost_name }
+        ensures answers { MayAnswer (txn_number self.old) model.Undo (answer_of result) }
+        ensures logged { session_of self.new ≡ after_call (session_of self.old) model.Undo (answer_of result) }
+        ensures same { IsSame self.old self.new }
         ensures infallible { is_memory result ≡ false }
     {
         self.session.call_reserved(
@@ -58,8 +63,9 @@ impl<'s> Transaction<'s> {
 
     /// Takes all that came after the savepoint with the name off, and the savepoint.
     pub fn back(&mut self, rt: &impl Wait, alloc: Global, name: SaveName) -> Answer
-        ensures logged { self.new.session.now ≡ after_call self.old.session.now (model.Back name) (answer_of result) }
-        ensures same { self.new.session.ghost_name ≡ self.old.session.ghost_name }
+        ensures answers { MayAnswer (txn_number self.old) (model.Back name) (answer_of result) }
+        ensures logged { session_of self.new ≡ after_call (session_of self.old) (model.Back name) (answer_of result) }
+        ensures same { IsSame self.old self.new }
         ensures infallible { is_memory result ≡ false }
     {
         self.session.call_reserved(
@@ -74,7 +80,8 @@ impl<'s> Transaction<'s> {
 
     /// Keeps what the transaction changed, and ends it.
     pub fn commit(self, rt: &impl Wait, alloc: Global) -> Answer
-        ensures logged { self.exit.0.now ≡ after_call self.entry.session.now model.Commit (answer_of result) }
+        ensures answers { MayAnswer (txn_number self.entry) model.Commit (answer_of result) }
+        ensures logged { session_left self.exit ≡ after_call (session_of self.entry) model.Commit (answer_of result) }
         ensures infallible { is_memory result ≡ false }
     {
         let Transaction {
@@ -96,7 +103,8 @@ impl<'s> Transaction<'s> {
 
     /// Takes all that the transaction did off, and ends it.
     pub fn abort(self, rt: &impl Wait, alloc: Global) -> Answer
-        ensures logged { self.exit.0.now ≡ after_call self.entry.session.now model.Abort (answer_of result) }
+        ensures answers { MayAnswer (txn_number self.entry) model.Abort (answer_of result) }
+        ensures logged { session_left self.exit ≡ after_call (session_of self.entry) model.Abort (answer_of result) }
         ensures infallible { is_memory result ≡ false }
     {
         let Transaction {

@@ -5,7 +5,7 @@ use Rattle.cg_history.proofs.Records.{same_length}
 use Rattle.cg_desk.specs.Call.{calls_of}
 use Rattle.cg_desk.specs.Rests.{total, AreCallsOf}
 use Rattle.cg_desk.proofs.Comparing.{all_rests, all_sessions}
-use Rattle.cg_desk.proofs.Counting.{empty, sum_by-rests}
+use Rattle.cg_desk.proofs.Counting.{sum_by-rests}
 use Rattle.cg_desk.proofs.auditing.audit.Goals as goal
 
 pub all_are_in-requires-clause-as_many : goal.all_are_in-requires-clause-as_many
@@ -20,7 +20,7 @@ returns-then-all_are_in-clause-agrees c =
       logs = all_sessions (λ x. x.1 ≡ calls_of x.0 h) c.args.sessions.now
           (subst₂ AreCallsOf c.history-records.ensures c.in_ok-rests.ensures.logs (c.all_are_in.ensures.0 c.if-all_are_in.true));
       lengths = c.lengths_add_up.ensures.0 c.if-not-lengths_add_up.false ∙ sym (same_length c.history-records.result.now) ∙ ap length c.history-records.ensures;
-      ended = empty _ (sym c.open_count.ensures ∙ c.if-open_count-ne0.false);
+      ended = c.has_ended.ensures.0 c.if-not-has_ended.false;
     }
 
 pub returns-clause-disagrees : goal.returns-clause-disagrees
