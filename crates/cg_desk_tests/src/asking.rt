@@ -1,0 +1,89 @@
+//! Transactions whose requests are words, and the lines of what is answered.
+use cg_command_text::read_command;
+use cg_desk::{Answer, Call, Desk, Refusal, SaveName, Session, Transaction};
+use std::alloc::{AllocError, Global};
+use std::str;
+use std::sync::Wait;
+
+// Asks for what the words say, which leaves the transaction open.
+pub(crate) fn ask(
+    rt: &impl Wait,
+    alloc: Global,
+    transaction: &mut Transaction,
+    words: &[&str],
+) -> Result<Answer, Refusal> {
+    match words {
+        ["save", name] => Ok(transaction.save(rt, alloc, SaveName::read(name)?)),
+        ["back", name] => Ok(transaction.back(rt, alloc, SaveName::read(name)?)),
+        ["undo"] => Ok(transaction.undo(rt, alloc)),
+        _ => Ok(transaction.run(rt, alloc, read_command(alloc, words)?)),
+    }
+}
+
+// Appends a file's text, which ends with a newline.
+fn write_text(text: &[u8], out: &mut String) -> Result<(), AllocError> {
+    match str::from_utf8(text) {
+        Ok(text) => write!(out, "text {text}"),
+        Err(_) => out.push_str("no text\n"),
+    }
+}
+
+// Appends the line of an answer.
+pub(crate) fn write_answer(answer: &Answer, out: &mut String) -> Result<(), AllocError> {
+    match answer {
+        Answer::Begun(number) => {
+            let number = number.0;
+            writeln!(out, "begun {number}")
+        }
+        Answer::Done => out.push_str("done\n"),
+        Answer::Text(text) => write_text(text.as_slice(), out),
+        Answer::Saved => out.push_str("saved\n"),
+        Answer::Back(count) => writeln!(out, "back {count}"),
+        Answer::Committed(number) => writeln!(out, "committed {number}"),
+        Answer::Aborted(number) => {
+            let number = number.0;
+            writeln!(out, "aborted {number}")
+        }
+        Answer::Refused(refusal) => writeln!(out, "{refusal}"),
+    }
+}
+
+// Asks for what each row of words says, and appends the lines of the answers.
+pub(crate) fn ask_all(
+    rt: &impl Wait,
+    alloc: Global,
+    transaction: &mut Transaction,
+    rows: &[&[&str]],
+    out: &mut String,
+) -> Result<(), Refusal> {
+    for words in rows {
+        let answer = ask(rt, alloc, transaction, words)?;
+        write_answer(&answer, out)?;
+    }
+    Ok(())
+}
+
+// Begins a transaction, asks in it for what each row of words says, and commits; appends the lines of the answers from the
+// second on.
+pub(crate) fn commit_all(
+    rt: &impl Wait,
+    alloc: Global,
+    desk: &Desk,
+    session: &mut Session,
+    rows: &[&[&str]],
+    out: &mut String,
+) -> Result<(), Refusal> {
+    let mut transaction = session.begin(rt, alloc, desk)?;
+    let asked = ask_all(rt, alloc, &mut transaction, rows, out);
+    let answer = transaction.commit(rt, alloc);
+    write_answer(&answer, out)?;
+    asked
+}
+
+// Appends the lines of the answers in a log.
+pub(crate) fn write_log(log: &[Call], out: &mut String) -> Result<(), AllocError> {
+    for call in log {
+        write_answer(&call.answer, out)?;
+    }
+    Ok(())
+}
