@@ -4,6 +4,7 @@ ghost use Rattle.std.specs.Result.{IsErrOf};
 ghost use Rattle.cg_program.specs.declared.inputs.OpenFault.TheVariants as faults;
 
 use cg_lines::Source;
+use cg_script::ScriptFault;
 use thiserror::Error;
 
 /// Why a file was not opened.
@@ -15,6 +16,20 @@ pub enum OpenFault {
     /// There is no file of this name, or it may not be read.
     #[error("the file can't be read")]
     Unreadable,
+}
+
+impl From<OpenFault> for ScriptFault {
+    ghost use Rattle.std.specs.Prelude.{◌≡◌};
+    ghost use Rattle.cg_program.specs.Named.{of_open_fault};
+
+    ghost from_gives = { λ given fault. fault ≡ of_open_fault given };
+
+    fn from(fault: OpenFault) -> ScriptFault {
+        match fault {
+            OpenFault::Memory => ScriptFault::Memory,
+            OpenFault::Unreadable => ScriptFault::ReadFault,
+        }
+    }
 }
 
 /// What opens the inputs that words name.

@@ -7,6 +7,8 @@ mod replaying;
 mod showing;
 mod status;
 
+pub use cg_lines::{FromRead, FromWrite};
+pub use cg_script::ScriptFault;
 pub use inputs::{Inputs, OpenFault};
 pub use named::{replay_named, show_named};
 pub use replaying::{replay_to, stop};

@@ -13,7 +13,7 @@ ghost use Rattle.cg_program.specs.Named.{is_standard, named, DoneOverNamed};
 ghost use Rattle.cg_program.specs.Program.{status_of, fault_line, Plays, Stops, WritesUnlessFailed};
 ghost use Rattle.cg_program.specs.Show.{status_where, refusal_line, Finds, WhyNotShown};
 
-use crate::inputs::{Inputs, OpenFault};
+use crate::inputs::Inputs;
 use crate::replaying::{replay_to, stop};
 use crate::showing::show_to;
 use cg_lines::{LineReader, Sink, Source};
@@ -132,11 +132,7 @@ fn open<P: Inputs>(inputs: &P, word: &str) -> Result<P::Input, ScriptFault>
     if is_standard(word) {
         return Ok(inputs.open_standard());
     }
-    match inputs.open_file(word) {
-        Ok(input) => Ok(input),
-        Err(OpenFault::Memory) => Err(ScriptFault::Memory),
-        Err(OpenFault::Unreadable) => Err(ScriptFault::ReadFault),
-    }
+    Ok(inputs.open_file(word)?)
 }
 
 // A reader of the source's lines.
@@ -144,10 +140,7 @@ fn reader<S: Source + Drop>(alloc: Global, source: S) -> Result<LineReader<S>, S
     ensures pending { IfOk result (λ r. pending r ≡ S.left source) }
     ensures memory { IfErr result (λ e. e ≡ faults.Memory) }
 {
-    match LineReader::new(alloc, source) {
-        Ok(reader) => Ok(reader),
-        Err(_) => Err(ScriptFault::Memory),
-    }
+    Ok(LineReader::new(alloc, source)?)
 }
 
 // Whether the word names standard input.

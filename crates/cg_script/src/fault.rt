@@ -2,7 +2,9 @@
 ghost use Rattle.std.specs.Prelude.{◌≡◌};
 ghost use Rattle.cg_script.specs.Fault.{refusal_of};
 
+use cg_lines::{DeviceFault, LineFault};
 use cg_name::Refusal;
+use std::alloc::AllocError;
 use thiserror::Error;
 
 /// Why a text was not read or written to its end.
@@ -20,6 +22,43 @@ pub enum ScriptFault {
     /// The sink failed.
     #[error("the writer failed")]
     WriteFault,
+}
+
+impl From<AllocError> for ScriptFault {
+    ghost use Rattle.std.specs.Prelude.{◌≡◌};
+    ghost use Rattle.cg_script.specs.declared.fault.ScriptFault.TheVariants.{Memory};
+
+    ghost from_gives = { λ _ fault. fault ≡ Memory };
+
+    fn from(_: AllocError) -> ScriptFault {
+        ScriptFault::Memory
+    }
+}
+
+impl From<LineFault> for ScriptFault {
+    ghost use Rattle.std.specs.Prelude.{◌≡◌};
+    ghost use Rattle.cg_script.specs.Fault.{of_line_fault};
+
+    ghost from_gives = { λ given fault. fault ≡ of_line_fault given };
+
+    fn from(fault: LineFault) -> ScriptFault {
+        match fault {
+            LineFault::Memory => ScriptFault::Memory,
+            LineFault::Read => ScriptFault::ReadFault,
+        }
+    }
+}
+
+// A source's faults come as those of its lines, so a device's own is its sink's.
+impl From<DeviceFault> for ScriptFault {
+    ghost use Rattle.std.specs.Prelude.{◌≡◌};
+    ghost use Rattle.cg_script.specs.declared.fault.ScriptFault.TheVariants.{WriteFault};
+
+    ghost from_gives = { λ _ fault. fault ≡ WriteFault };
+
+    fn from(_: DeviceFault) -> ScriptFault {
+        ScriptFault::WriteFault
+    }
 }
 
 impl ScriptFault {

@@ -40,9 +40,7 @@ pub fn replay<S: Source, K: Sink>(
 {
     // A world tells that its tree is sound when it is looked at.
     let _ = world.tree();
-    let Ok(mut player) = Player::open(alloc, world, limit) else {
-        return Err(ScriptFault::Memory);
-    };
+    let mut player = Player::open(alloc, world, limit)?;
     play(alloc, reader, sink, &mut player)
 }
 
@@ -126,9 +124,7 @@ fn send<K: Sink>(sink: &mut K, out: &mut Vec<u8>) -> Result<(), ScriptFault>
     ensures fault { IfErr result (λ e. e ≡ faults.WriteFault) }
     ensures failed { OnErr result (Failed (K.failed sink.old) (K.failed sink.new)) }
 {
-    if write_all(sink, out.as_slice()).is_err() {
-        return Err(ScriptFault::WriteFault);
-    }
+    write_all(sink, out.as_slice())?;
     out.clear();
     Ok(())
 }
@@ -148,15 +144,10 @@ fn answer_line<S: Source>(
     ensures loses { IsErrOf result faults.ReadFault → LosesOfLine (pending reader.old) (pending reader.new) }
     ensures faults { IfErr result (λ e. (e ≡ faults.ReadFault) ⊎ (e ≡ faults.Memory)) }
 {
-    let Ok(kind) = reader.next_line() else {
-        return Err(ScriptFault::ReadFault);
-    };
-    match kind {
+    match reader.next_line()? {
         LineKind::End => Ok(false),
         LineKind::TooLong => {
-            if refuse(out).is_err() {
-                return Err(ScriptFault::Memory);
-            }
+            refuse(out)?;
             Ok(true)
         }
         LineKind::Text => answer_with(alloc, player, reader.line(), out),
@@ -175,10 +166,8 @@ fn answer_with(
     ensures unchanged { OnErr result (out.new.items ≡ out.old.items) }
     ensures memory { IfErr result (λ e. e ≡ faults.Memory) }
 {
-    match player.answer(alloc, line, out) {
-        Ok(()) => Ok(true),
-        Err(_) => Err(ScriptFault::Memory),
-    }
+    player.answer(alloc, line, out)?;
+    Ok(true)
 }
 
 /// A schedule's text has one output at most over a tree and a limit of the history.

@@ -49,15 +49,14 @@ fn take_line<S: Source>(
     ensures reads { IsErrOf result faults.ReadFault → CanBreak reader.new.failed_before reader.new.failures reader.new.reads }
     ensures writes { ¬ (IsErrOf result faults.WriteFault) }
 {
-    match reader.next_line() {
-        Ok(LineKind::Text) => {
+    match reader.next_line()? {
+        LineKind::Text => {
             let line = reader.line();
             part.take(alloc, line, line.len() + 1)
         }
-        Ok(LineKind::Last) => part.take_last(alloc, reader.line()),
-        Ok(LineKind::TooLong) => Err(ScriptFault::Syntax),
-        Ok(LineKind::End) => Err(ScriptFault::Syntax),
-        Err(_) => Err(ScriptFault::ReadFault),
+        LineKind::Last => part.take_last(alloc, reader.line()),
+        LineKind::TooLong => Err(ScriptFault::Syntax),
+        LineKind::End => Err(ScriptFault::Syntax),
     }
 }
 

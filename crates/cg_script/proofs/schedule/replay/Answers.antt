@@ -1,7 +1,7 @@
 use Rattle.std.proofs.Common.{◌≡◌, List, ℕ, OnErr, OnOk, Option, Some, None, subst}
 use Rattle.std.specs.Prelude.{IfSome}
 use Rattle.std.specs.Io.KnownBytes.{Appends}
-use Rattle.std.proofs.lemmas.Result.{on_ok_weaker}
+use Rattle.std.proofs.lemmas.Result.{err_from_is_err_and, on_ok_weaker}
 use Rattle.cg_lines.specs.Device.{AppendsFront}
 use Rattle.cg_lines.specs.Lines.{pending}
 use Rattle.cg_model.specs.Sound.{Sound}
@@ -12,13 +12,15 @@ use Rattle.cg_script.proofs.MachineOutputs.{outputs_are_the_machines}
 use Rattle.cg_script.proofs.Playing.{front_nothing}
 use Rattle.cg_script.proofs.schedule.replay.Goals as goal
 
-pub returns-in_default-clause-front : goal.returns-in_default-clause-front
-returns-in_default-clause-front g c = front_nothing (opened c.args.world c.args.limit) (pending c.args.reader.now) (g.K.Sink.taken c.args.sink.now)
+pub returns-in_err-player-clause-front : goal.returns-in_err-player-clause-front
+returns-in_err-player-clause-front g c =
+    let p = err_from_is_err_and c.from_residual.result c.from_residual.ensures.1 in
+    rw p.1 (front_nothing (opened c.args.world c.args.limit) (pending c.args.reader.now) (g.K.Sink.taken c.args.sink.now))
 
 pub returns-clause-passed : goal.returns-clause-passed
 returns-clause-passed g c = λ broken.
     subst (λ s. IfSome (pending c.args.reader.now) (λ text. AnswersPassed s text (pending c.play.new.reader) (g.K.Sink.taken c.args.sink.now) (g.K.Sink.taken c.play.new.sink)))
-    c.in-Ok.ensures (c.play.ensures.passed broken)
+    c.in_ok-player.ensures (c.play.ensures.passed broken)
 
 -- what was written is the machine's output
 machines_output : (T : Tree) (limit : ℕ) (s : Replay) (text was is : Option (List ℕ)) → Sound T → s ≡ opened T limit →
@@ -28,16 +30,16 @@ machines_output T limit s (Some t) was is sound same h = (h.0, outputs_are_the_m
 
 pub returns-clause-output : goal.returns-clause-output
 returns-clause-output g c =
-    subst (λ s. OnOk c.play.result (IfSome (pending c.args.reader.now) (λ text. (out : List ℕ) × IsOutputFrom s text out × Appends (g.K.Sink.taken c.args.sink.now) (g.K.Sink.taken c.play.new.sink) out))) c.in-Ok.ensures
+    subst (λ s. OnOk c.play.result (IfSome (pending c.args.reader.now) (λ text. (out : List ℕ) × IsOutputFrom s text out × Appends (g.K.Sink.taken c.args.sink.now) (g.K.Sink.taken c.play.new.sink) out))) c.in_ok-player.ensures
     c.play.ensures.output
 
 pub returns-clause-front : goal.returns-clause-front
 returns-clause-front g c =
     subst (λ s. OnErr c.play.result (IfSome (pending c.args.reader.now) (λ text. (out : List ℕ) → IsOutputFrom s text out → AppendsFront (g.K.Sink.taken c.args.sink.now) (g.K.Sink.taken c.play.new.sink) out)))
-    c.in-Ok.ensures c.play.ensures.front
+    c.in_ok-player.ensures c.play.ensures.front
 
 pub returns-clause-machine : goal.returns-clause-machine
 returns-clause-machine g c =
     on_ok_weaker c.play.result
-    (machines_output c.args.world c.args.limit _ (pending c.args.reader.now) (g.K.Sink.taken c.args.sink.now) (g.K.Sink.taken c.play.new.sink) c.tree.ensures.sound c.in-Ok.ensures)
+    (machines_output c.args.world c.args.limit _ (pending c.args.reader.now) (g.K.Sink.taken c.args.sink.now) (g.K.Sink.taken c.play.new.sink) c.tree.ensures.sound c.in_ok-player.ensures)
     c.play.ensures.output
