@@ -1,8 +1,7 @@
 //! The inputs of this computer: standard input and files.
 ghost use Rattle.std.specs.Prelude.{None, false};
 
-use cg_lines::FromRead;
-use cg_program::{Inputs, OpenFault};
+use cg_program::{FromRead, Inputs, OpenFault};
 use std::fs::File;
 use std::io;
 use std::io::Read;

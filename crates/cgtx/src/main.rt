@@ -7,9 +7,7 @@ mod host;
 
 use crate::host::Host;
 use cg_command_line::{Asked, Unasked, read_command_line};
-use cg_lines::FromWrite;
-use cg_program::{Status, replay_named, show_named, stop};
-use cg_script::ScriptFault;
+use cg_program::{FromWrite, ScriptFault, Status, replay_named, show_named, stop};
 use std::process::ExitCode;
 use std::{env, io};
 
