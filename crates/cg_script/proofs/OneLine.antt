@@ -57,7 +57,7 @@ both_are ws r q (inl a) (inr b) = absurd (b.0 a.0 a.2)
 both_are ws r q (inr a) (inl b) = absurd (a.0 b.0 b.2)
 both_are ws r q (inr a) (inr b) = some_same (sym a.1 ∙ b.1)
 
-request_one : (ws : List Word) (r q : Request cgroups) → SpellsRequest ws r → SpellsRequest ws q → r ≡ q
+pub request_one : (ws : List Word) (r q : Request cgroups) → SpellsRequest ws r → SpellsRequest ws q → r ≡ q
 request_one ws r q a b = both_are ws r q (request_is ws r a) (request_is ws q b)
 
 call_one : (ws : List Word) (n m : List ℕ) (r q : Request cgroups) → SpellsCall ws n r → SpellsCall ws m q → ◌≡◌ {A = List ℕ × Request cgroups} (n, r) (m, q)

@@ -16,13 +16,13 @@ use Rattle.cg_script.specs.Request.{SpellsRequest, SpellsLine, request_text, req
 use Rattle.cg_script.proofs.SessionNames.{save_name_fits, save_name_says}
 
 -- words that a request's text joins and that spell it
-record Written (r : Request cgroups) : Type 0 where
-  first : Word
-  more : List Word
-  joined : line_of (first ∷ more) ≡ request_text r
-  fit : AllByRecursion FitsLine (first ∷ more)
-  short : length (request_text r) ≤ 65519
-  request : SpellsRequest (first ∷ more) r
+pub record Written (r : Request cgroups) : Type 0 where
+  pub first : Word
+  pub more : List Word
+  pub joined : line_of (first ∷ more) ≡ request_text r
+  pub fit : AllByRecursion FitsLine (first ∷ more)
+  pub short : length (request_text r) ≤ 65519
+  pub request : SpellsRequest (first ∷ more) r
 
 alone : (w : Word) → 0 < length w → list_all is_plain_byte w ≡ true → AllByRecursion FitsLine (w ∷ [])
 alone w some plain = (plain_fits w some plain, tt)
@@ -50,7 +50,7 @@ named_written w n r h some plain four joined request = record {
   request = request;
 }
 
-request_written : (r : Request cgroups) → CanBeAsked r → Written r
+pub request_written : (r : Request cgroups) → CanBeAsked r → Written r
 request_written Begin h = record { first = codes "begin"; more = []; joined = refl; fit = alone (codes "begin") (omega arith) refl; short = omega arith; request = refl }
 request_written (Do c) h = command_written c h
 request_written (Save n) h = named_written (codes "save") n (Save n) h (omega arith) refl (omega arith) refl (refl, h)

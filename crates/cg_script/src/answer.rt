@@ -24,7 +24,7 @@ pub fn write_answer(answer: &Answer, out: &mut Vec<u8>) -> Result<(), AllocError
 // What follows appends to `out`, and an error leaves what stood there at the front.
 
 // The line of an answer.
-fn append_answer(answer: &Answer, out: &mut Vec<u8>) -> Result<(), AllocError>
+pub(crate) fn append_answer(answer: &Answer, out: &mut Vec<u8>) -> Result<(), AllocError>
     ensures ok { OnOk result (out.new.items ≡ out.old.items ++ answer_text (answer_of answer.now)) }
     ensures kept { OnErr result (take (length out.old.items) out.new.items ≡ out.old.items) }
 {

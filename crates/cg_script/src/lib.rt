@@ -3,14 +3,18 @@
 
 mod answer;
 mod fault;
+mod history;
 mod player;
 mod request;
 mod schedule;
+mod script;
+mod script_reader;
 mod session;
 mod world_reader;
 
 pub use answer::write_answer;
 pub use fault::ScriptFault;
+pub use history::{histories_are_read, histories_are_replayed, write_history};
 pub use player::{Player, refuse};
 pub use request::{
     a_line_says_one_thing_at_most, read_line, write_line, written_lines_are_spelled,
@@ -18,5 +22,7 @@ pub use request::{
 pub use schedule::{
     a_schedule_has_an_output, a_schedule_has_one_output_at_most, outputs_are_the_machines, replay,
 };
+pub use script::Script;
+pub use script_reader::{a_text_spells_one_script_at_most, read_script, scripts_can_be_asked};
 pub use session::SessionName;
 pub use world_reader::read_world;

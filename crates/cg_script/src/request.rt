@@ -43,7 +43,7 @@ fn read_call(alloc: Global, words: &[&str]) -> Result<(SessionName, Request), Re
 }
 
 // The request that the words behind a session's name spell.
-fn read_request(alloc: Global, words: &[&str]) -> Result<Request, Refusal>
+pub(crate) fn read_request(alloc: Global, words: &[&str]) -> Result<Request, Refusal>
     ensures value { IfOk result (λ r. SpellsRequest (map (λ w. w.now) words.now) (request_of r)) }
     ensures syntax { IsErrOf result Refusal.Syntax → (r : model.Request cgroups) → SpellsRequest (map (λ w. w.now) words.now) r → ⊥ }
     ensures refusals { IfErr result IsSyntaxOrMemory }
@@ -93,7 +93,7 @@ fn append_line(name: SessionName, request: &Request, out: &mut Vec<u8>) -> Resul
 }
 
 // The words behind the session's name.
-fn append_request(request: &Request, out: &mut Vec<u8>) -> Result<(), AllocError>
+pub(crate) fn append_request(request: &Request, out: &mut Vec<u8>) -> Result<(), AllocError>
     ensures ok { OnOk result (out.new.items ≡ out.old.items ++ request_text (request_of request.now)) }
     ensures kept { OnErr result (take (length out.old.items) out.new.items ≡ out.old.items) }
 {

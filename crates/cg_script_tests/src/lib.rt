@@ -5,8 +5,12 @@
 #[cfg(test)]
 mod answers;
 #[cfg(test)]
+mod histories;
+#[cfg(test)]
 mod machine;
 #[cfg(test)]
 mod printed;
 #[cfg(test)]
 mod requests;
+#[cfg(test)]
+mod scripts;
