@@ -1,0 +1,55 @@
+//! Reports of runs, as texts.
+use cg_runner::{Core, RunReport, ScriptEnd};
+use std::alloc::{AllocError, Global};
+use std::str;
+
+// How the text of each tree begins here.
+const HEAD: &str = "world 1
+controllers cpuset cpu memory
+online 0-7
+group / - 0 -
+";
+
+// Appends the line of an end.
+fn write_end(end: ScriptEnd, out: &mut String) -> Result<(), AllocError> {
+    match end {
+        ScriptEnd::Committed { number, tries } => {
+            writeln!(out, "committed {number} tries {tries}")
+        }
+        ScriptEnd::Aborted { tries } => writeln!(out, "aborted tries {tries}"),
+        ScriptEnd::Failed {
+            line,
+            refusal,
+            tries,
+        } => writeln!(out, "failed {line} {refusal} tries {tries}"),
+        ScriptEnd::GaveUp { tries } => writeln!(out, "gaveup tries {tries}"),
+    }
+}
+
+// The text of the world that equals the machine's tree.
+pub(crate) fn tree_of(alloc: Global, core: &Core) -> Result<Vec<u8>, AllocError> {
+    let mut text = Vec::new(alloc);
+    core.tree().to_world(alloc)?.write(&mut text)?;
+    Ok(text)
+}
+
+// Appends what the machine's tree has beside its root.
+fn write_tree(alloc: Global, core: &Core, out: &mut String) -> Result<(), AllocError> {
+    let text = tree_of(alloc, core)?;
+    match text.as_slice().strip_prefix(HEAD.as_bytes()) {
+        Some(rest) => out.push_str(str::from_utf8(rest).unwrap_or("no text\n")),
+        None => out.push_str("another world\n"),
+    }
+}
+
+// Appends the lines of the ends, and of the tree.
+pub(crate) fn write_report(
+    alloc: Global,
+    report: &RunReport,
+    out: &mut String,
+) -> Result<(), AllocError> {
+    for end in &report.ends {
+        write_end(*end, out)?;
+    }
+    write_tree(alloc, &report.core, out)
+}
