@@ -1,12 +1,18 @@
 -- Transactions, and the sessions that they borrow.
-use Rattle.std.specs.Prelude.{◌≡◌, ℕ}
+use Rattle.std.specs.Prelude.{◌≡◌, ℕ, map}
 use Rattle.std.specs.Borrow.{MutBor}
 use Rattle.cg_desk.specs.Call.{SessionState}
-use Rattle.cg_desk.specs.declared.transaction.Transaction.{Transaction}
+use Rattle.cg_desk.specs.CallOf.{call_of}
+use Rattle.cg_desk.specs.declared.log.Log.{Log}
+use Rattle.cg_desk.specs.declared.transaction.Transaction as declared
 
--- its session, as it is
+-- a transaction, which holds the log of its session
+abbrev pub Transaction : Type 0
+Transaction = declared.Transaction Log
+
+-- its session, as it is: the number behind the borrow, and the log that the transaction holds
 abbrev pub session_of : Transaction → SessionState
-session_of t = t.session.now
+session_of t = record { number = t.session.now.number; log = map call_of t.log.calls.items }
 
 -- its number
 abbrev pub txn_number : Transaction → ℕ

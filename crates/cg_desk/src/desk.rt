@@ -4,7 +4,6 @@ ghost use Rattle.cg_desk.specs.Audit.{IsAudited};
 ghost use Rattle.cg_name.specs.declared.refusal.Refusal.TheVariants as refusals;
 
 use crate::auditing::audit;
-use crate::log::Log;
 use crate::session::Session;
 use cg_core::{Core, SessionId};
 use cg_name::Refusal;
@@ -69,7 +68,7 @@ impl Desk {
         let number = SessionId(locked.handed);
         Ok(Session {
             number,
-            log: Log::new(alloc),
+            log: Vec::new(alloc),
         })
     }
 

@@ -1,26 +1,33 @@
 //! Transactions, which have to be spent.
-ghost use Rattle.std.specs.Prelude.{◌≡◌, false};
+ghost use Rattle.std.specs.Prelude.{◌≡◌, ◌≤◌, false, true};
 ghost use Rattle.cg_command.specs.Meaning.{command_of};
-ghost use Rattle.cg_core.specs.Answers.{is_memory};
+ghost use Rattle.cg_core.specs.Answers.{is_memory, takes_memory};
 ghost use Rattle.cg_desk.specs.Call.{after_call};
 ghost use Rattle.cg_desk.specs.Replies.{MayAnswer};
 ghost use Rattle.cg_desk.specs.Transactions.{session_left, session_of, txn_number, IsSame};
-ghost use Rattle.cg_history.specs.Meaning.{answer_of};
+ghost use Rattle.cg_history.specs.Meaning.{answer_of, request_of};
 ghost use Rattle.cg_model.specs.History as model;
 
 use crate::desk::Desk;
+use crate::log::Log;
 use crate::session::Session;
+use crate::stepping::step_for_pair;
 use cg_command::Command;
 use cg_core::{Answer, Request};
-use cg_name::{SaveName, TxnNumber};
+use cg_name::{Refusal, SaveName, TxnNumber};
 use std::alloc::Global;
 use std::sync::Wait;
 
 /// A transaction of a session. It isn't dropped: `commit` and `abort` end it, and the session can be used again.
-pub struct Transaction<'s> {
+///
+/// `L` is always the session's log. It is a parameter because a clause can tell what a struct leaves behind a reference in it
+/// only where the struct names no type that owns memory.
+pub struct Transaction<'s, L = Log> {
     pub(crate) session: &'s mut Session,
     pub(crate) desk: &'s Desk,
     pub(crate) number: TxnNumber,
+    // Taken out of the session, and put back at the end.
+    pub(crate) log: L,
 }
 
 impl<'s> Transaction<'s> {
@@ -30,8 +37,7 @@ impl<'s> Transaction<'s> {
         ensures logged { session_of self.new ≡ after_call (session_of self.old) (model.Do (command_of command)) (answer_of result) }
         ensures same { IsSame self.old self.new }
     {
-        self.session
-            .call(rt, alloc, self.desk, self.number, Request::Do(command))
+        self.ask(rt, alloc, Request::Do(command))
     }
 
     /// Sets a savepoint with a name.
@@ -40,8 +46,7 @@ impl<'s> Transaction<'s> {
         ensures logged { session_of self.new ≡ after_call (session_of self.old) (model.Save name) (answer_of result) }
         ensures same { IsSame self.old self.new }
     {
-        self.session
-            .call(rt, alloc, self.desk, self.number, Request::Save(name))
+        self.ask(rt, alloc, Request::Save(name))
     }
 
     /// Takes the newest command off, where nothing came after it.
@@ -51,14 +56,10 @@ impl<'s> Transaction<'s> {
         ensures same { IsSame self.old self.new }
         ensures infallible { is_memory result ≡ false }
     {
-        self.session.call_reserved(
-            rt,
-            alloc,
-            self.desk,
-            self.number,
-            Request::Undo,
-            Request::Undo,
-        )
+        if !self.log.has_way_back() {
+            return Answer::Refused(Refusal::NothingToUndo);
+        }
+        self.go_back(rt, alloc, Request::Undo, Request::Undo)
     }
 
     /// Takes all that came after the savepoint with the name off, and the savepoint.
@@ -68,14 +69,10 @@ impl<'s> Transaction<'s> {
         ensures same { IsSame self.old self.new }
         ensures infallible { is_memory result ≡ false }
     {
-        self.session.call_reserved(
-            rt,
-            alloc,
-            self.desk,
-            self.number,
-            Request::Back(name),
-            Request::Back(name),
-        )
+        if !self.log.has_way_back() {
+            return Answer::Refused(Refusal::NoSavepoint);
+        }
+        self.go_back(rt, alloc, Request::Back(name), Request::Back(name))
     }
 
     /// Keeps what the transaction changed, and ends it.
@@ -84,21 +81,7 @@ impl<'s> Transaction<'s> {
         ensures logged { session_left self.exit ≡ after_call (session_of self.entry) model.Commit (answer_of result) }
         ensures infallible { is_memory result ≡ false }
     {
-        let Transaction {
-            session,
-            desk,
-            number,
-        } = self;
-        let answer = session.call_reserved(
-            rt,
-            alloc,
-            desk,
-            number,
-            Request::Commit,
-            Request::Commit,
-        );
-        session.release();
-        answer
+        self.end(rt, alloc, Request::Commit, Request::Commit)
     }
 
     /// Takes all that the transaction did off, and ends it.
@@ -107,13 +90,69 @@ impl<'s> Transaction<'s> {
         ensures logged { session_left self.exit ≡ after_call (session_of self.entry) model.Abort (answer_of result) }
         ensures infallible { is_memory result ≡ false }
     {
+        self.end(rt, alloc, Request::Abort, Request::Abort)
+    }
+
+    // Asks for what may take memory: room in the log and the copy for it come first.
+    fn ask(&mut self, rt: &impl Wait, alloc: Global, request: Request) -> Answer
+        requires { takes_memory request ≡ true }
+        ensures answers { MayAnswer (txn_number self.old) (request_of request) (answer_of result) }
+        ensures logged { session_of self.new ≡ after_call (session_of self.old) (request_of request) (answer_of result) }
+        ensures same { IsSame self.old self.new }
+    {
+        let Ok(copy) = request.copy(alloc) else {
+            return Answer::Refused(Refusal::Memory);
+        };
+        let Ok(()) = self.log.reserve() else {
+            return Answer::Refused(Refusal::Memory);
+        };
+        let (answer, second) = self.step(rt, alloc, request);
+        self.log.note(copy, second);
+        answer
+    }
+
+    // Asks to go back, with the same again for the log, which has room reserved for it.
+    fn go_back(&mut self, rt: &impl Wait, alloc: Global, request: Request, copy: Request) -> Answer
+        requires way_back { 2 ≤ self.old.log.reserved }
+        requires no_memory { takes_memory request ≡ false }
+        requires same { request_of copy ≡ request_of request }
+        ensures answers { MayAnswer (txn_number self.old) (request_of request) (answer_of result) }
+        ensures logged { session_of self.new ≡ after_call (session_of self.old) (request_of request) (answer_of result) }
+        ensures same { IsSame self.old self.new }
+        ensures infallible { is_memory result ≡ false }
+    {
+        let (answer, second) = self.step(rt, alloc, request);
+        self.log.note_back(copy, second);
+        answer
+    }
+
+    // Asks for what ends the transaction, with the same again for the log, which the session has back then.
+    fn end(self, rt: &impl Wait, alloc: Global, request: Request, copy: Request) -> Answer
+        requires no_memory { takes_memory request ≡ false }
+        requires same { request_of copy ≡ request_of request }
+        ensures answers { MayAnswer (txn_number self.entry) (request_of request) (answer_of result) }
+        ensures logged { session_left self.exit ≡ after_call (session_of self.entry) (request_of request) (answer_of result) }
+        ensures infallible { is_memory result ≡ false }
+    {
+        let (answer, second) = self.step(rt, alloc, request);
         let Transaction {
             session,
-            desk,
-            number,
+            desk: _,
+            number: _,
+            log,
         } = self;
-        let answer = session.call_reserved(rt, alloc, desk, number, Request::Abort, Request::Abort);
-        session.release();
+        session.log = log.close(copy, second);
         answer
+    }
+
+    // One step of the desk's machine, under its lock.
+    fn step(&self, rt: &impl Wait, alloc: Global, request: Request) -> (Answer, Answer)
+        ensures copy { answer_of result.1 ≡ answer_of result.0 }
+        ensures answers { MayAnswer (txn_number self.now) (request_of request) (answer_of result.0) }
+        ensures infallible { takes_memory request ≡ false → is_memory result.0 ≡ false }
+    {
+        let session = self.session.id();
+        let mut locked = self.desk.locked.lock(rt);
+        step_for_pair(alloc, &mut locked.core, session, self.number, request)
     }
 }

@@ -5,12 +5,13 @@ use cg_desk::{Desk, Refusal};
 use std::alloc::Global;
 use std::sync::Wait;
 
-static ROWS: [&[&str]; 7] = [
+static ROWS: [&[&str]; 8] = [
     &["create", "/a"],
     &["save", "m"],
     &["back", "m"],
     &["undo"],
     &["undo"],
+    &["back", "m"],
     &["migrate", "99", "/"],
     &["show", "/", "cgroup.procs"],
 ];
@@ -20,6 +21,7 @@ saved
 back 0
 done
 refused 18 nothingtoundo
+refused 16 nosavepoint
 refused 11 noprocess
 text 10
 11
