@@ -1,19 +1,24 @@
 //! The command line of `cgtx`: its words, and what they ask for.
 #![tactic(auto)]
 
+mod batches;
+
 ghost use Rattle.std.specs.Prelude.{◌≡◌, ◌≤◌, codes, length};
 ghost use Rattle.std.specs.Result.{IsOkAnd};
 ghost use Rattle.cg_command_line.specs.Asked.{AsksForReplay};
 
+pub use batches::{Batch, MOST_SCRIPTS, MOST_TRIES, MOST_WORKERS};
 use clap::error::ErrorKind;
-use clap::{Arg, Command, Error};
+use clap::{Arg, ArgMatches, Command, Error, value_parser};
 use std::alloc::{AllocError, Global};
 
 // The word that names standard input.
 const STANDARD_INPUT: &str = "-";
 
+const WORLD_HELP: &str = "The file of the world, or - for standard input";
+
 /// What the words of a command line ask for.
-#[derive(Clone, Copy, Debug)]
+#[derive(Debug, Drop)]
 pub enum Asked<'a> {
     /// To replay the schedule over the world that these words name.
     Replay {
@@ -26,6 +31,8 @@ pub enum Asked<'a> {
         path: &'a str,
         file: &'a str,
     },
+    /// To run these scripts.
+    Run(Batch<'a>),
 }
 
 /// Why the words of a command line ask for nothing.
@@ -42,6 +49,12 @@ pub enum Unasked {
     Memory,
 }
 
+impl From<AllocError> for Unasked {
+    fn from(_: AllocError) -> Unasked {
+        Unasked::Memory
+    }
+}
+
 /// What the words ask for, the program's name first. With no words beside it that is to replay standard input alone.
 /// Help goes to standard output, and what is wrong with the words to standard error.
 pub fn read_command_line<'a, R: Print + Eprint + AllocGlobal>(
@@ -56,10 +69,7 @@ pub fn read_command_line<'a, R: Print + Eprint + AllocGlobal>(
             schedule: STANDARD_INPUT,
         });
     }
-    let Ok(command) = command(rt.alloc()) else {
-        return Err(Unasked::Memory);
-    };
-    match command.try_get_matches_from(words) {
+    match command(rt.alloc())?.try_get_matches_from(words) {
         Ok(matches) => match matches.subcommand() {
             Some(("replay", given)) => Ok(Asked::Replay {
                 world: given.get_str("WORLD").unwrap_or(STANDARD_INPUT),
@@ -70,10 +80,34 @@ pub fn read_command_line<'a, R: Print + Eprint + AllocGlobal>(
                 path: given.get_str("PATH").unwrap_or_default(),
                 file: given.get_str("FILE").unwrap_or_default(),
             }),
+            Some(("run", given)) => Ok(Asked::Run(batch_of(rt.alloc(), given)?)),
             _ => Err(Unasked::Refused),
         },
         Err(error) => Err(answer(rt, &error)),
     }
+}
+
+// What the words behind `run` ask for. Their numbers were tested as the words were read, but no contract says so.
+fn batch_of<'a>(alloc: Global, given: &ArgMatches<'a>) -> Result<Batch<'a>, Unasked> {
+    let scripts = given.get_strs("SCRIPT").unwrap_or_default();
+    if scripts.is_empty() || scripts.len() > MOST_SCRIPTS {
+        return Err(Unasked::Refused);
+    }
+    Ok(Batch {
+        world: given.get_str("WORLD").unwrap_or(STANDARD_INPUT),
+        scripts: Vec::from_slice(alloc, scripts)?,
+        workers: number(given, "workers", MOST_WORKERS),
+        tries: number(given, "tries", MOST_TRIES),
+        history: given.get_str("history"),
+    })
+}
+
+// The number of this option, which is from 1 to `most`.
+fn number(given: &ArgMatches<'_>, id: &str, most: u32) -> u32
+    requires { 1 ≤ most }
+    ensures { (1 ≤ result) × (result ≤ most) }
+{
+    given.get_one::<u32>(id).unwrap_or(1).clamp(1, most)
 }
 
 // Prints help on standard output and what is wrong with the words on standard error.
@@ -94,40 +128,72 @@ fn command<'a>(alloc: Global) -> Result<Command<'a>, AllocError> {
     Command::new(alloc, "cgtx")
         .bin_name("cgtx")?
         .about(
-            "Replays schedules of requests against a tree of control groups, and shows its files.",
+            "Replays schedules and runs scripts of requests against a tree of control groups, and shows its files.",
         )
         .subcommand_required(true)
         .disable_help_subcommand(true)
         .subcommand(replay(alloc)?)?
-        .subcommand(show(alloc)?)
+        .subcommand(show(alloc)?)?
+        .subcommand(run(alloc)?)
 }
 
 fn replay<'a>(alloc: Global) -> Result<Command<'a>, AllocError> {
-    let world = Arg::new(alloc, "WORLD")
-        .required(true)
-        .help("The file of the world, or - for standard input");
-    let schedule = Arg::new(alloc, "SCHEDULE").required(true).help(
-        "The file of the schedule, or - for standard input, behind the world where that is - too",
-    );
     Command::new(alloc, "replay")
         .about("Replays a schedule over a world, and writes the answers and the world that results")
-        .arg(world)?
-        .arg(schedule)
+        .arg(word(alloc, "WORLD", WORLD_HELP))?
+        .arg(word(
+            alloc,
+            "SCHEDULE",
+            "The file of the schedule, or - for standard input, behind the world where that is - too",
+        ))
 }
 
 fn show<'a>(alloc: Global) -> Result<Command<'a>, AllocError> {
-    let world = Arg::new(alloc, "WORLD")
-        .required(true)
-        .help("The file of the world, or - for standard input");
-    let path = Arg::new(alloc, "PATH")
-        .required(true)
-        .help("The path of the group, as in a world");
-    let file = Arg::new(alloc, "FILE")
-        .required(true)
-        .help("The name of the file, such as cgroup.procs");
     Command::new(alloc, "show")
         .about("Shows an interface file of a group of a world")
-        .arg(world)?
-        .arg(path)?
-        .arg(file)
+        .arg(word(alloc, "WORLD", WORLD_HELP))?
+        .arg(word(alloc, "PATH", "The path of the group, as in a world"))?
+        .arg(word(alloc, "FILE", "The name of the file, such as cgroup.procs"))
+}
+
+fn run<'a>(alloc: Global) -> Result<Command<'a>, AllocError> {
+    Command::new(alloc, "run")
+        .about(
+            "Runs scripts on worker threads over a world, and writes how each ended and the world that results",
+        )
+        .arg(
+            number_of(alloc, "workers", "N", MOST_WORKERS)
+                .default_value("2")
+                .help("How many scripts run beside each other, from 1 to 64"),
+        )?
+        .arg(
+            number_of(alloc, "tries", "K", MOST_TRIES)
+                .default_value("8")
+                .help(
+                    "How often a script is begun at most where others are in its way, from 1 to 1000",
+                ),
+        )?
+        .arg(
+            Arg::new(alloc, "history")
+                .long("history")
+                .value_name("FILE")
+                .help("The file that the history is written to"),
+        )?
+        .arg(word(alloc, "WORLD", WORLD_HELP))?
+        .arg(word(alloc, "SCRIPT", "The files of the scripts, at most 4096").num_args(
+            1..=MOST_SCRIPTS,
+        ))
+}
+
+// A word that has to be there.
+fn word<'a>(alloc: Global, name: &'a str, help: &'a str) -> Arg<'a> {
+    Arg::new(alloc, name).required(true).help(help)
+}
+
+// An option of this name with a number from 1 to `most`.
+fn number_of<'a>(alloc: Global, name: &'a str, value: &'a str, most: u32) -> Arg<'a> {
+    Arg::new(alloc, name)
+        .long(name)
+        .value_name(value)
+        .value_parser(value_parser!(u32).range(1..=i64::from(most)))
 }
