@@ -1,3 +1,4 @@
 pub mod DeviceLemmas
 pub mod LinesLaw
 pub mod LinesLemmas
+pub mod WholeLemmas

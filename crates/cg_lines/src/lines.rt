@@ -11,20 +11,20 @@ use std::marker::Model;
 use thiserror::Error;
 
 // How many bytes are read at most at a time.
-const CHUNK: usize = 65_536;
+pub(crate) const CHUNK: usize = 65_536;
 
 // How many reads a reader makes at most.
 const MOST_READS: u32 = 67_108_864;
 
 const NEWLINE: u8 = b'\n';
 
-/// Why a reader of lines gave none.
+/// Why a reader gave no line, or not all bytes.
 #[derive(Clone, Copy, Debug, PartialEq, Eq, Error)]
 pub enum LineFault {
     /// There was no memory for the buffers.
     #[error("memory ran out")]
     Memory,
-    /// A read of the source failed, or the reader has made all its reads.
+    /// A read of the source failed, or a reader of lines has made all its reads.
     #[error("the reader failed")]
     Read,
 }
@@ -90,16 +90,26 @@ impl From<AllocError> for LineFault {
     }
 }
 
+impl From<DeviceFault> for LineFault {
+    ghost use Rattle.std.specs.Prelude.{◌≡◌};
+    ghost use Rattle.cg_lines.specs.declared.lines.LineFault.TheVariants.{Read};
+
+    ghost from_gives = { λ _ fault. fault ≡ Read };
+
+    fn from(_: DeviceFault) -> LineFault {
+        LineFault::Read
+    }
+}
+
 impl<S: Source> LineReader<S> {
-    /// A reader of the source's lines. It takes all its memory here; `Memory` is the only fault.
-    pub fn new(alloc: Global, source: S) -> Result<LineReader<S>, LineFault>
+    /// A reader of the source's lines. It takes all its memory here.
+    pub fn new(alloc: Global, source: S) -> Result<LineReader<S>, AllocError>
     where
         S: Drop,
         ensures pending { IfOk result (λ r. pending r ≡ S.left source) }
         ensures failed_before { IfOk result (λ r. r.failed_before ≡ S.failed source) }
         ensures failures { IfOk result (λ r. r.failures ≡ S.failed source) }
         ensures fresh { IfOk result (λ r. (r.reads ≡ 0) × (r.line ≡ []) × (r.is_broken ≡ false)) }
-        ensures err { IfErr result (λ e. e ≡ LineFault.Memory) }
     {
         let failed_before = source.failures();
         let chunk = zeros(alloc, CHUNK)?;
@@ -251,7 +261,7 @@ pub fn steps_are_lines()
     ensures { StepsAreLines }
 {}
 
-fn zeros(alloc: Global, n: usize) -> Result<Vec<u8>, AllocError>
+pub(crate) fn zeros(alloc: Global, n: usize) -> Result<Vec<u8>, AllocError>
     ensures { IfOk result (λ v. vec_len v ≡ n) }
 {
     vec![in alloc; 0; n]
