@@ -1,7 +1,9 @@
-//! Readers and writers that fail in mid-stream, and go on failing.
+//! Readers and writers that fail in mid-stream, and go on failing; texts that are read whole up to a bound.
 use cg_lines::{
-    DeviceFault, FromRead, FromWrite, LineFault, LineKind, LineReader, Sink, write_all,
+    DeviceFault, FromRead, FromWrite, LineFault, LineKind, LineReader, Sink, Source, read_at_most,
+    write_all,
 };
+use std::alloc::Global;
 use std::io::{self, Read, Write};
 
 /// A reader of newlines, one a call, and a writer that takes at most two bytes a call. It fails where no call is left.
@@ -70,4 +72,29 @@ fn a_reader_fails_in_mid_stream(rt: HostRuntime) {
     assert!(rt; reader.next_line() == Ok(LineKind::Text) && reader.reads() == 1);
     assert!(rt; reader.next_line() == Err(LineFault::Read) && reader.reads() == 2);
     assert!(rt; reader.next_line() == Err(LineFault::Read) && reader.reads() == 2);
+}
+
+// Whether what is read with this bound is this text, or none where it is longer.
+fn reads<S: Source>(alloc: Global, source: &mut S, most: usize, text: Option<&[u8]>) -> bool {
+    match read_at_most(alloc, source, most) {
+        Ok(Some(bytes)) => text == Some(bytes.as_slice()),
+        Ok(None) => text.is_none(),
+        Err(_) => false,
+    }
+}
+
+#[test]
+fn a_text_is_read_whole_up_to_its_bound(rt: HostRuntime) {
+    let mut source = FromRead::new(b"abcdefghij".as_slice());
+    assert!(rt; reads(rt.alloc(), &mut source, 3, None));
+    assert!(rt; reads(rt.alloc(), &mut source, 6, Some(b"efghij".as_slice())));
+    assert!(rt; reads(rt.alloc(), &mut source, 0, Some(b"".as_slice())));
+}
+
+#[test]
+fn a_text_is_not_read_whole_where_its_reader_fails(rt: HostRuntime) {
+    let mut source = FromRead::new(Failing::after(3));
+    assert!(rt; reads(rt.alloc(), &mut source, 1, None) && source.failures() == 0);
+    let read = read_at_most(rt.alloc(), &mut source, 5);
+    assert!(rt; matches!(&read, Err(LineFault::Read)) && source.failures() == 1);
 }
