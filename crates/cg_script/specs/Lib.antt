@@ -8,5 +8,6 @@ pub mod ReplayCode
 pub mod Request
 pub mod Script
 pub mod ScriptLines
+pub mod ScriptOf
 pub mod WorldLines
 pub mod WorldPart

@@ -4,7 +4,7 @@ ghost use Rattle.cg_script.specs.Fault.{refusal_of};
 
 use cg_lines::{DeviceFault, LineFault};
 use cg_name::Refusal;
-use std::alloc::AllocError;
+use std::alloc::{AllocError, AllocFailed};
 use thiserror::Error;
 
 /// Why a text was not read or written to its end.
@@ -31,6 +31,17 @@ impl From<AllocError> for ScriptFault {
     ghost from_gives = { λ _ fault. fault ≡ Memory };
 
     fn from(_: AllocError) -> ScriptFault {
+        ScriptFault::Memory
+    }
+}
+
+impl<T: Drop> From<AllocFailed<T>> for ScriptFault {
+    ghost use Rattle.std.specs.Prelude.{◌≡◌};
+    ghost use Rattle.cg_script.specs.declared.fault.ScriptFault.TheVariants.{Memory};
+
+    ghost from_gives = { λ _ fault. fault ≡ Memory };
+
+    fn from(_: AllocFailed<T>) -> ScriptFault {
         ScriptFault::Memory
     }
 }

@@ -23,6 +23,8 @@ pub use schedule::{
     a_schedule_has_an_output, a_schedule_has_one_output_at_most, outputs_are_the_machines, replay,
 };
 pub use script::Script;
-pub use script_reader::{a_text_spells_one_script_at_most, read_script, scripts_can_be_asked};
+pub use script_reader::{
+    LONGEST_SCRIPT, a_text_spells_one_script_at_most, read_script, scripts_can_be_asked,
+};
 pub use session::SessionName;
 pub use world_reader::read_world;

@@ -16,8 +16,8 @@ use cg_name::Refusal;
 use cg_text::read_words;
 use std::alloc::Global;
 
-// The most bytes of a script's text.
-const LONGEST_SCRIPT: usize = 16_777_216;
+/// The most bytes of a script's text.
+pub const LONGEST_SCRIPT: usize = 16_777_216;
 
 // The most requests of a script.
 const MOST_REQUESTS: usize = 65_536;
