@@ -1,1 +1,1 @@
-mod Zipping
+pub mod Zipping

@@ -1,5 +1,7 @@
 -- How scripts end.
-use Rattle.std.specs.Prelude.{◌≡◌, ℕ, ◌+◌, ◌≤◌, Bool, true, false, vec_len, ⊤}
+use Rattle.std.specs.Prelude.{◌≡◌, ℕ, ◌+◌, ◌≤◌, Bool, true, false, List, ◌++◌, codes, vec_len, ⊤}
+use Rattle.std.specs.Fmt.{decimal}
+use Rattle.cg_name.specs.Refusal.{refusal_text}
 use Rattle.std.specs.Coded.{Unit-prop}
 use Rattle.std.proofs.Props.{props}
 use Rattle.cg_script.specs.declared.script.Script.{Script}
@@ -20,6 +22,13 @@ Fits requests aborts (Committed number tries) = aborts ≡ false
 Fits requests aborts (Aborted tries) = aborts ≡ true
 Fits requests aborts (Failed line refusal tries) = line ≤ requests + 1
 Fits requests aborts (GaveUp tries) = ⊤
+
+-- how a script ended, as it is printed
+abbrev pub end_words : ScriptEnd → List ℕ
+end_words (Committed number tries) = codes "committed " ++ decimal number ++ codes " tries " ++ decimal tries
+end_words (Aborted tries) = codes "aborted tries " ++ decimal tries
+end_words (Failed line refusal tries) = codes "failed " ++ decimal line ++ codes " " ++ refusal_text refusal ++ codes " tries " ++ decimal tries
+end_words (GaveUp tries) = codes "gaveup tries " ++ decimal tries
 
 -- a script that may be begun so often can end so
 pub record CanEnd (tries : ℕ) (script : Script) (end : ScriptEnd) : Type 0 where

@@ -1,5 +1,9 @@
 //! How scripts end.
+ghost use Rattle.std.specs.Prelude.{◌≡◌, Some};
+ghost use Rattle.cg_runner.specs.End.{end_words, tries_of};
+
 use cg_desk::Refusal;
+use std::fmt;
 
 /// How a script ended, and how often it was begun.
 #[derive(Clone, Copy, Debug, PartialEq, Eq)]
@@ -30,4 +34,36 @@ pub enum ScriptEnd {
         /// How often it was begun.
         tries: u32,
     },
+}
+
+impl ScriptEnd {
+    /// How often the script was begun.
+    pub fn tries(self) -> u32
+        ensures { result ≡ tries_of self }
+    {
+        match self {
+            ScriptEnd::Committed { tries, .. }
+            | ScriptEnd::Aborted { tries }
+            | ScriptEnd::Failed { tries, .. }
+            | ScriptEnd::GaveUp { tries } => tries,
+        }
+    }
+}
+
+/// Prints how the script ended and, behind `tries`, how often it was begun.
+impl fmt::Display for ScriptEnd {
+    ghost output = { λ end. Some (end_words end) };
+
+    fn fmt<W: fmt::Write>(&self, f: &mut fmt::Formatter<W>) -> fmt::Result {
+        match *self {
+            ScriptEnd::Committed { number, tries } => write!(f, "committed {number} tries {tries}"),
+            ScriptEnd::Aborted { tries } => write!(f, "aborted tries {tries}"),
+            ScriptEnd::Failed {
+                line,
+                refusal,
+                tries,
+            } => write!(f, "failed {line} {refusal} tries {tries}"),
+            ScriptEnd::GaveUp { tries } => write!(f, "gaveup tries {tries}"),
+        }
+    }
 }

@@ -1,8 +1,8 @@
 //! Runs of scripts.
-ghost use Rattle.std.specs.Prelude.{◌≡◌, ◌≤◌, ℕ, List, IfOk, length, vec_len};
+ghost use Rattle.std.specs.Prelude.{◌≡◌, ◌≤◌, ℕ, IfOk, length, vec_len};
 ghost use Rattle.std.specs.List.{AllZip};
 ghost use Rattle.cg_desk.specs.Audit.{IsAudited};
-ghost use Rattle.cg_desk.specs.Call.{SessionState};
+ghost use Rattle.cg_runner.specs.Closed.{IsClosed};
 ghost use Rattle.cg_runner.specs.End.{CanEnd};
 
 use crate::end::ScriptEnd;
@@ -47,7 +47,7 @@ pub fn run_scripts<G: Gate + Sync, R: Threads + Wait + Sync>(
     requires a_try { 1 ≤ tries }
     requires few_tries { tries ≤ 1000 }
     ensures ends { IfOk result (λ r. AllZip (CanEnd tries) scripts.items r.ends.items) }
-    ensures closed { IfOk result (λ r. (sessions : List SessionState) × (length sessions ≡ workers) × (handed : ℕ) × IsAudited r.core.history handed sessions) }
+    ensures closed { IfOk result (λ r. IsClosed workers r.core.history) }
 {
     let desk = Desk::open(alloc, world, LIMIT)?;
     run_at(rt, alloc, gate, desk, scripts.as_slice(), workers, tries)
@@ -66,7 +66,7 @@ fn run_at<G: Gate + Sync, R: Threads + Wait + Sync>(
     requires few { length scripts.now ≤ 4096 }
     requires a_try { 1 ≤ tries }
     ensures ends { IfOk result (λ r. AllZip (CanEnd tries) scripts.now r.ends.items) }
-    ensures closed { IfOk result (λ r. (sessions : List SessionState) × (length sessions ≡ workers) × (handed : ℕ) × IsAudited r.core.history handed sessions) }
+    ensures closed { IfOk result (λ r. IsClosed workers r.core.history) }
 {
     let mut sessions = hand_out(rt, alloc, &desk, workers)?;
     let ends = run_all(

@@ -91,6 +91,7 @@ fn finish<G: Gate>(
 ) -> Finished {
     let passage = Passage::new(gate, job.number);
     let end = run_script(rt, alloc, passage, desk, session, job.script, job.tries);
+    gate.ended(job.number, end.tries());
     Finished {
         number: job.number,
         outline: Outline::of(job.script, job.tries),

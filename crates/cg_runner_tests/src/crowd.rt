@@ -1,7 +1,7 @@
 //! As many scripts and workers as there can be.
 ghost use Rattle.std.specs.Prelude.{◌≤◌, IfOk, vec_len};
 
-use crate::gates::Open;
+use crate::gates::Counting;
 use crate::opening::few;
 use crate::replaying::agrees_with_replay;
 use cg_runner::{
@@ -10,6 +10,7 @@ use cg_runner::{
 };
 use std::alloc::{AllocError, Global};
 use std::sync::Wait;
+use std::sync::atomic::Ordering;
 use std::thread::Threads;
 
 const GROUPS: usize = 64;
@@ -83,6 +84,18 @@ fn committed(ends: &[ScriptEnd]) -> usize {
         .count()
 }
 
+// How often all scripts were begun.
+fn begun(ends: &[ScriptEnd]) -> u32 {
+    ends.iter()
+        .fold(0u32, |begun, end| begun.saturating_add(end.tries()))
+}
+
+// Whether the gate was told of each end.
+fn was_told(gate: &Counting, ends: &[ScriptEnd]) -> bool {
+    gate.ended.load(Ordering::SeqCst) as usize == ends.len()
+        && gate.begun.load(Ordering::SeqCst) == begun(ends)
+}
+
 // How many commits a history has.
 fn commits_in(records: &[Record]) -> usize {
     records
@@ -91,11 +104,14 @@ fn commits_in(records: &[Record]) -> usize {
         .count()
 }
 
-// What is wrong with the report.
-fn fault_of(alloc: Global, report: &RunReport) -> Result<&'static str, Refusal> {
+// What is wrong with the report, and with what the gate was told.
+fn fault_of(alloc: Global, gate: &Counting, report: &RunReport) -> Result<&'static str, Refusal> {
     let ends = report.ends.as_slice();
     if !all_may_end(ends) {
         return Ok("an end that can't be");
+    }
+    if !was_told(gate, ends) {
+        return Ok("an end that wasn't told");
     }
     if committed(ends) != commits_in(report.core.history()) {
         return Ok("other commits");
@@ -110,15 +126,17 @@ fn fault_of(alloc: Global, report: &RunReport) -> Result<&'static str, Refusal> 
 fn run<R: Threads + Wait + Sync>(
     rt: &R,
     alloc: Global,
+    gate: &Counting,
 ) -> Result<Result<RunReport, RunFault>, Refusal> {
     let scripts = scripts(alloc)?;
-    Ok(run_scripts(rt, alloc, &Open, world(alloc)?, scripts, 64, TRIES))
+    Ok(run_scripts(rt, alloc, gate, world(alloc)?, scripts, 64, TRIES))
 }
 
 // What is wrong with that.
 fn crowd<R: Threads + Wait + Sync>(rt: &R, alloc: Global) -> Result<&'static str, Refusal> {
-    match run(rt, alloc)? {
-        Ok(report) => fault_of(alloc, &report),
+    let gate = Counting::new();
+    match run(rt, alloc, &gate)? {
+        Ok(report) => fault_of(alloc, &gate, &report),
         Err(_) => Ok("no report"),
     }
 }

@@ -13,6 +13,33 @@ impl Gate for Open {
     fn after(&self, _script: u32, _call: u32) {}
 }
 
+/// Holds no call, and counts the scripts that have ended, and how often they were begun.
+#[derive(Drop)]
+pub(crate) struct Counting {
+    pub(crate) ended: AtomicU32,
+    pub(crate) begun: AtomicU32,
+}
+
+impl Counting {
+    pub(crate) fn new() -> Counting {
+        Counting {
+            ended: AtomicU32::new(0),
+            begun: AtomicU32::new(0),
+        }
+    }
+}
+
+impl Gate for Counting {
+    fn before(&self, _script: u32, _call: u32) {}
+
+    fn after(&self, _script: u32, _call: u32) {}
+
+    fn ended(&self, _script: u32, tries: u32) {
+        self.ended.fetch_add(1, Ordering::SeqCst);
+        self.begun.fetch_add(tries, Ordering::SeqCst);
+    }
+}
+
 // For how many turns a call is held at most.
 const TURNS: u32 = 1_000_000_000;
 
@@ -24,13 +51,35 @@ pub(crate) struct Rule {
     pub(crate) behind: u32,
 }
 
+/// What a gate was told of a script.
+#[derive(Drop)]
+pub(crate) struct Told {
+    // Which call was answered last.
+    pub(crate) answered: AtomicU32,
+    // How often it has ended, and which call had been answered last then.
+    pub(crate) endings: AtomicU32,
+    pub(crate) last: AtomicU32,
+    // How often it was begun.
+    pub(crate) tries: AtomicU32,
+}
+
+impl Told {
+    fn new() -> Told {
+        Told {
+            answered: AtomicU32::new(0),
+            endings: AtomicU32::new(0),
+            last: AtomicU32::new(0),
+            tries: AtomicU32::new(0),
+        }
+    }
+}
+
 /// A gate for two scripts, which holds some calls of each until a call of the other was answered.
 #[derive(Drop)]
 pub(crate) struct Holding {
     pub(crate) rules: &'static [Rule],
-    // Which call of either script was answered last.
-    pub(crate) first: AtomicU32,
-    pub(crate) second: AtomicU32,
+    pub(crate) first: Told,
+    pub(crate) second: Told,
     // Whether a call was held too long.
     pub(crate) is_late: AtomicBool,
 }
@@ -39,14 +88,14 @@ impl Holding {
     pub(crate) fn new(rules: &'static [Rule]) -> Holding {
         Holding {
             rules,
-            first: AtomicU32::new(0),
-            second: AtomicU32::new(0),
+            first: Told::new(),
+            second: Told::new(),
             is_late: AtomicBool::new(false),
         }
     }
 
-    // The last answered call of a script.
-    fn answered(&self, script: u32) -> &AtomicU32 {
+    // What was told of a script.
+    fn told(&self, script: u32) -> &Told {
         if script == 1 {
             &self.first
         } else {
@@ -56,9 +105,9 @@ impl Holding {
 
     // Waits until that call of the script was answered.
     fn hold(&self, script: u32, call: u32) {
-        let answered = self.answered(script);
+        let told = self.told(script);
         for _ in 0..TURNS {
-            if answered.load(Ordering::SeqCst) >= call {
+            if told.answered.load(Ordering::SeqCst) >= call {
                 return;
             }
             hint::spin_loop();
@@ -77,6 +126,14 @@ impl Gate for Holding {
     }
 
     fn after(&self, script: u32, call: u32) {
-        self.answered(script).store(call, Ordering::SeqCst);
+        self.told(script).answered.store(call, Ordering::SeqCst);
+    }
+
+    fn ended(&self, script: u32, tries: u32) {
+        let told = self.told(script);
+        told.endings.fetch_add(1, Ordering::SeqCst);
+        told.last
+            .store(told.answered.load(Ordering::SeqCst), Ordering::SeqCst);
+        told.tries.store(tries, Ordering::SeqCst);
     }
 }

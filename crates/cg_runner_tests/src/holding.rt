@@ -1,7 +1,7 @@
 //! Two scripts in two threads, and a gate that holds their calls.
 ghost use Rattle.std.specs.Prelude.{◌≤◌};
 
-use crate::gates::{Holding, Rule};
+use crate::gates::{Holding, Rule, Told};
 use crate::opening::{scripts, world};
 use crate::telling::write_report;
 use cg_runner::{Refusal, RunFault, RunReport, run_scripts};
@@ -62,12 +62,24 @@ fn run<R: Threads + Wait + Sync>(
     Ok(run_scripts(rt, alloc, gate, world(alloc)?, scripts, 2, tries))
 }
 
-// Appends the last call of either script, and whether one was held too long.
-fn write_calls(gate: &Holding, out: &mut String) -> Result<(), AllocError> {
-    let first = gate.first.load(Ordering::SeqCst);
-    let second = gate.second.load(Ordering::SeqCst);
+// Appends what the gate was told of a script.
+fn write_told(told: &Told, out: &mut String) -> Result<(), AllocError> {
+    let answered = told.answered.load(Ordering::SeqCst);
+    let endings = told.endings.load(Ordering::SeqCst);
+    let last = told.last.load(Ordering::SeqCst);
+    let tries = told.tries.load(Ordering::SeqCst);
+    writeln!(
+        out,
+        "calls {answered}, ended {endings} behind call {last}, tries {tries}"
+    )
+}
+
+// Appends what the gate was told of either script, and whether a call was held too long.
+fn write_gate(gate: &Holding, out: &mut String) -> Result<(), AllocError> {
+    write_told(&gate.first, out)?;
+    write_told(&gate.second, out)?;
     let is_late = gate.is_late.load(Ordering::SeqCst);
-    writeln!(out, "calls {first} and {second}, late {is_late}")
+    writeln!(out, "late {is_late}")
 }
 
 // The text of how such a run ends.
@@ -87,7 +99,7 @@ fn text_of<R: Threads + Wait + Sync>(
         Ok(report) => write_report(alloc, &report, &mut out)?,
         Err(fault) => writeln!(out, "{fault}")?,
     }
-    write_calls(&gate, &mut out)?;
+    write_gate(&gate, &mut out)?;
     Ok(out)
 }
 
@@ -115,7 +127,9 @@ group /b - 0 -
 proc 10 /
 proc 11 /
 end
-calls 3 and 3, late false
+calls 3, ended 1 behind call 3, tries 1
+calls 3, ended 1 behind call 3, tries 1
+late false
 ",
     "committed 2 tries 1
 committed 1 tries 1
@@ -124,7 +138,9 @@ group /b - 0 -
 proc 10 /
 proc 11 /
 end
-calls 3 and 3, late false
+calls 3, ended 1 behind call 3, tries 1
+calls 3, ended 1 behind call 3, tries 1
+late false
 ",
 ];
 
@@ -141,7 +157,9 @@ group /a - 0 -
 proc 10 /
 proc 11 /
 end
-calls 3 and 3, late false
+calls 3, ended 1 behind call 3, tries 1
+calls 3, ended 1 behind call 3, tries 1
+late false
 ",
 ];
 
@@ -159,7 +177,9 @@ group /a/b - 0 -
 proc 10 /
 proc 11 /
 end
-calls 3 and 6, late false
+calls 3, ended 1 behind call 3, tries 1
+calls 6, ended 1 behind call 6, tries 2
+late false
 ",
 ];
 

@@ -1,5 +1,5 @@
 //! Reports of runs, as texts.
-use cg_runner::{Core, RunReport, ScriptEnd};
+use cg_runner::{Core, RunReport};
 use std::alloc::{AllocError, Global};
 use std::str;
 
@@ -10,26 +10,10 @@ online 0-7
 group / - 0 -
 ";
 
-// Appends the line of an end.
-fn write_end(end: ScriptEnd, out: &mut String) -> Result<(), AllocError> {
-    match end {
-        ScriptEnd::Committed { number, tries } => {
-            writeln!(out, "committed {number} tries {tries}")
-        }
-        ScriptEnd::Aborted { tries } => writeln!(out, "aborted tries {tries}"),
-        ScriptEnd::Failed {
-            line,
-            refusal,
-            tries,
-        } => writeln!(out, "failed {line} {refusal} tries {tries}"),
-        ScriptEnd::GaveUp { tries } => writeln!(out, "gaveup tries {tries}"),
-    }
-}
-
-// The text of the world that equals the machine's tree.
+// The text of the machine's tree.
 pub(crate) fn tree_of(alloc: Global, core: &Core) -> Result<Vec<u8>, AllocError> {
     let mut text = Vec::new(alloc);
-    core.tree().to_world(alloc)?.write(&mut text)?;
+    core.tree().write(&mut text)?;
     Ok(text)
 }
 
@@ -49,7 +33,7 @@ pub(crate) fn write_report(
     out: &mut String,
 ) -> Result<(), AllocError> {
     for end in &report.ends {
-        write_end(*end, out)?;
+        writeln!(out, "{end}")?;
     }
     write_tree(alloc, &report.core, out)
 }
