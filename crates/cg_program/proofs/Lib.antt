@@ -1,3 +1,4 @@
+pub mod BatchLemmas
 pub mod NamedLemmas
 pub mod ProgramLemmas
 pub mod ShowLemmas

@@ -1,5 +1,7 @@
+pub mod Batch
+pub mod Ends
+pub mod Fault
 pub mod Named
 pub mod Program
 pub mod Show
-pub mod ShowFault
 pub mod Status

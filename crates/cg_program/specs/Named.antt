@@ -3,6 +3,8 @@ use Rattle.std.specs.Prelude.{ℕ, ◌&&◌, ◌==◌, Bool, false, cond, List, 
 use Rattle.cg_model.specs.Tree.{Tree}
 use Rattle.cg_program.specs.declared.inputs.OpenFault.{OpenFault}
 use Rattle.cg_program.specs.declared.inputs.OpenFault.TheVariants as open_faults
+use Rattle.cg_program.specs.declared.outputs.CreateFault.{CreateFault}
+use Rattle.cg_program.specs.declared.outputs.CreateFault.TheVariants as create_faults
 use Rattle.cg_script.specs.WorldPart.{ReadsWorld}
 use Rattle.cg_script.specs.declared.fault.ScriptFault.{ScriptFault}
 use Rattle.cg_script.specs.declared.fault.ScriptFault.TheVariants as faults
@@ -29,3 +31,8 @@ DoneOverNamed P standard file world schedule =
 abbrev pub of_open_fault : OpenFault → ScriptFault
 of_open_fault open_faults.Memory = faults.Memory
 of_open_fault open_faults.Unreadable = faults.ReadFault
+
+-- the fault of a run whose file was not made
+abbrev pub of_create_fault : CreateFault → ScriptFault
+of_create_fault create_faults.Memory = faults.Memory
+of_create_fault create_faults.Unwritable = faults.WriteFault

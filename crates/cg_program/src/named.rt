@@ -16,7 +16,7 @@ ghost use Rattle.cg_program.specs.Show.{status_where, refusal_line, Finds, WhyNo
 use crate::inputs::Inputs;
 use crate::replaying::{replay_to, stop};
 use crate::showing::show_to;
-use cg_lines::{LineReader, Sink, Source};
+use cg_lines::{LineReader, Sink};
 use cg_script::ScriptFault;
 use std::alloc::Global;
 
@@ -88,7 +88,7 @@ pub fn show_named<P: Inputs, O: Sink, E: Sink>(
 }
 
 // A reader of the lines of what the word names.
-fn open_reader<P: Inputs>(
+pub(crate) fn open_reader<P: Inputs>(
     alloc: Global,
     inputs: &P,
     word: &str,
@@ -98,7 +98,7 @@ fn open_reader<P: Inputs>(
     ensures faults { IfErr result (λ e. (e ≡ faults.ReadFault) ⊎ (e ≡ faults.Memory)) }
 {
     let source = open(inputs, word)?;
-    reader(alloc, source)
+    Ok(LineReader::new(alloc, source)?)
 }
 
 // The readers of the world and of the schedule, which has none of its own where it stands behind the world.
@@ -117,10 +117,13 @@ fn readers<P: Inputs>(
 {
     let first = open(inputs, world)?;
     if is_standard(world) && is_standard(schedule) {
-        return Ok((reader(alloc, first)?, None));
+        return Ok((LineReader::new(alloc, first)?, None));
     }
     let second = open(inputs, schedule)?;
-    Ok((reader(alloc, first)?, Some(reader(alloc, second)?)))
+    Ok((
+        LineReader::new(alloc, first)?,
+        Some(LineReader::new(alloc, second)?),
+    ))
 }
 
 // What the word names.
@@ -133,14 +136,6 @@ fn open<P: Inputs>(inputs: &P, word: &str) -> Result<P::Input, ScriptFault>
         return Ok(inputs.open_standard());
     }
     Ok(inputs.open_file(word)?)
-}
-
-// A reader of the source's lines.
-fn reader<S: Source + Drop>(alloc: Global, source: S) -> Result<LineReader<S>, ScriptFault>
-    ensures pending { IfOk result (λ r. pending r ≡ S.left source) }
-    ensures memory { IfErr result (λ e. e ≡ faults.Memory) }
-{
-    Ok(LineReader::new(alloc, source)?)
 }
 
 // Whether the word names standard input.

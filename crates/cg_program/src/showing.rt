@@ -12,9 +12,9 @@ ghost use Rattle.cg_script.specs.WorldPart.{HasNoWorld};
 ghost use Rattle.cg_script.specs.declared.fault.ScriptFault.TheVariants as faults;
 ghost use Rattle.cg_program.specs.Program.{IsBroken, WritesUnlessFailed};
 ghost use Rattle.cg_program.specs.Show.{status_where, refusal_line, Finds, IsFileOf, NamesNoFile, SpellsNoPath, WhyNotShown};
-ghost use Rattle.cg_program.specs.ShowFault.{refusal_of_fault};
+ghost use Rattle.cg_program.specs.Fault.{refusal_of_fault};
 
-use crate::replaying::stop;
+use crate::fault::ProgramFault;
 use crate::status::Status;
 use cg_lines::{LineReader, Sink, Source, write_all};
 use cg_name::{FileName, Path, Refusal};
@@ -56,51 +56,6 @@ pub fn show_to<W: Source, O: Sink, E: Sink>(
     }
 }
 
-// Why a file is not shown.
-#[derive(Clone, Copy)]
-enum ShowFault {
-    // What a replay may stop at, too.
-    Stopped(ScriptFault),
-    // The world has no such group.
-    NoGroup,
-    // The group has no such file.
-    NoFile,
-}
-
-impl From<ScriptFault> for ShowFault {
-    ghost use Rattle.std.specs.Prelude.{◌≡◌};
-    ghost use Rattle.cg_program.specs.declared.showing.ShowFault.TheVariants.{Stopped};
-
-    ghost from_gives = { λ fault e. e ≡ Stopped fault };
-
-    fn from(fault: ScriptFault) -> ShowFault {
-        ShowFault::Stopped(fault)
-    }
-}
-
-impl ShowFault {
-    // Tells it on a line of its own, and gives the status.
-    fn tell<E: Sink>(self, err: &mut E) -> u8
-        ensures status { result ≡ status_where (refusal_of_fault self) }
-        ensures line { WritesUnlessFailed (E.taken err.old) (E.taken err.new) (E.failed err.old) (E.failed err.new) (refusal_line (refusal_of_fault self)) }
-    {
-        match self {
-            ShowFault::Stopped(fault) => stop(fault, err),
-            ShowFault::NoGroup => refuse(b"refused 6 nogroup\n", err),
-            ShowFault::NoFile => refuse(b"refused 15 nofile\n", err),
-        }
-    }
-}
-
-// Tells on this line that what was asked for isn't there, and gives the status.
-fn refuse<E: Sink>(line: &[u8], err: &mut E) -> u8
-    ensures status { result ≡ 2 }
-    ensures line { WritesUnlessFailed (E.taken err.old) (E.taken err.new) (E.failed err.old) (E.failed err.new) line.now }
-{
-    let _ = write_all(err, line);
-    Status::Refused.code()
-}
-
 // Writes the text of the file that the words ask for.
 fn show<W: Source, O: Sink>(
     alloc: Global,
@@ -108,20 +63,20 @@ fn show<W: Source, O: Sink>(
     path: &str,
     file: &str,
     out: &mut O,
-) -> Result<(), ShowFault>
+) -> Result<(), ProgramFault>
     ensures done { OnOk result ((text : List ℕ) × Finds (pending world.old) path.now file.now (Ok text) × Appends (O.taken out.old) (O.taken out.new) text) }
     ensures why { IfErr result (λ e. WhyNotShown (pending world.old) path.now file.now (refusal_of_fault e)) }
-    ensures reads { IsErrOf result (ShowFault.Stopped faults.ReadFault) → IsBroken world.new }
-    ensures writes { IsErrOf result (ShowFault.Stopped faults.WriteFault) → Failed (O.failed out.old) (O.failed out.new) }
-    ensures kept { IfErr result (λ e. (out.new ≡ out.old) ⊎ (e ≡ ShowFault.Stopped faults.WriteFault)) }
-    ensures front { IsErrOf result (ShowFault.Stopped faults.WriteFault) → (text : List ℕ) × Finds (pending world.old) path.now file.now (Ok text) × AppendsFront (O.taken out.old) (O.taken out.new) text }
+    ensures reads { IsErrOf result (ProgramFault.Stopped faults.ReadFault) → IsBroken world.new }
+    ensures writes { IsErrOf result (ProgramFault.Stopped faults.WriteFault) → Failed (O.failed out.old) (O.failed out.new) }
+    ensures kept { IfErr result (λ e. (out.new ≡ out.old) ⊎ (e ≡ ProgramFault.Stopped faults.WriteFault)) }
+    ensures front { IsErrOf result (ProgramFault.Stopped faults.WriteFault) → (text : List ℕ) × Finds (pending world.old) path.now file.now (Ok text) × AppendsFront (O.taken out.old) (O.taken out.new) text }
     ensures unread { SpellsNoPath path.now ⊎ NamesNoFile file.now → world.new ≡ world.old }
 {
     let (path, file) = read_words(alloc, path, file)?;
     let text = find(alloc, world, &path, file)?;
     match write_all(out, text.as_slice()) {
         Ok(()) => Ok(()),
-        Err(_) => Err(ShowFault::Stopped(ScriptFault::WriteFault)),
+        Err(_) => Err(ProgramFault::Stopped(ScriptFault::WriteFault)),
     }
 }
 
@@ -149,22 +104,23 @@ fn find<W: Source>(
     world: &mut LineReader<W>,
     path: &Path,
     file: FileName,
-) -> Result<Vec<u8>, ShowFault>
+) -> Result<Vec<u8>, ProgramFault>
     ensures value { IfOk result (λ text. IsFileOf (pending world.old) path.now file (Ok text.items)) }
-    ensures syntax { IsErrOf result (ShowFault.Stopped faults.Syntax) → IfSome (pending world.old) HasNoWorld }
-    ensures no_group { IsErrOf result ShowFault.NoGroup → IsFileOf (pending world.old) path.now file (Err refusals.NoGroup) }
-    ensures no_file { IsErrOf result ShowFault.NoFile → IsFileOf (pending world.old) path.now file (Err refusals.NoFile) }
-    ensures reads { IsErrOf result (ShowFault.Stopped faults.ReadFault) → IsBroken world.new }
-    ensures writes { ¬ (IsErrOf result (ShowFault.Stopped faults.WriteFault)) }
+    ensures syntax { IsErrOf result (ProgramFault.Stopped faults.Syntax) → IfSome (pending world.old) HasNoWorld }
+    ensures no_group { IsErrOf result ProgramFault.NoGroup → IsFileOf (pending world.old) path.now file (Err refusals.NoGroup) }
+    ensures no_file { IsErrOf result ProgramFault.NoFile → IsFileOf (pending world.old) path.now file (Err refusals.NoFile) }
+    ensures reads { IsErrOf result (ProgramFault.Stopped faults.ReadFault) → IsBroken world.new }
+    ensures writes { ¬ (IsErrOf result (ProgramFault.Stopped faults.WriteFault)) }
+    ensures agrees { ¬ (IsErrOf result ProgramFault.Disagree) }
 {
     let world = read_world(alloc, world)?;
     let Ok(tree) = Tree::from_world(alloc, world) else {
-        return Err(ShowFault::Stopped(ScriptFault::Memory));
+        return Err(ProgramFault::Stopped(ScriptFault::Memory));
     };
     match cg_derive::file(alloc, &tree, path, file) {
         Ok(text) => Ok(text),
-        Err(Refusal::NoGroup) => Err(ShowFault::NoGroup),
-        Err(Refusal::NoFile) => Err(ShowFault::NoFile),
-        Err(_) => Err(ShowFault::Stopped(ScriptFault::Memory)),
+        Err(Refusal::NoGroup) => Err(ProgramFault::NoGroup),
+        Err(Refusal::NoFile) => Err(ProgramFault::NoFile),
+        Err(_) => Err(ProgramFault::Stopped(ScriptFault::Memory)),
     }
 }

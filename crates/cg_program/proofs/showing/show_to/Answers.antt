@@ -1,6 +1,6 @@
 use Rattle.std.proofs.Common.{inr, ap}
 use Rattle.std.specs.Prelude.{Err}
-use Rattle.cg_program.specs.ShowFault.{refusal_of_fault}
+use Rattle.cg_program.specs.Fault.{refusal_of_fault}
 use Rattle.cg_program.proofs.ShowLemmas.{told_read_fault, told_write_fault}
 use Rattle.cg_program.proofs.showing.show_to.Goals as goal
 

@@ -1,0 +1,48 @@
+-- A batch: scripts run over a world, and what is told of them.
+use Rattle.std.specs.Prelude.{◌≡◌, ℕ, List, ◌++◌, Option, Some, None, IfSome, ⊤}
+use Rattle.std.specs.List.{AllZip, Any}
+use Rattle.std.specs.Io.KnownBytes.{Appends}
+use Rattle.cg_model.specs.Cgroups.{cgroups}
+use Rattle.cg_model.specs.History.{History}
+use Rattle.cg_model.specs.Tree.{Tree}
+use Rattle.cg_script.specs.HistoryText.{history_text}
+use Rattle.cg_script.specs.ScriptOf.{SpellsAs, SpellsNoScript, text_left}
+use Rattle.cg_script.specs.declared.script.Script.{Script}
+use Rattle.cg_runner.specs.Closed.{IsClosed}
+use Rattle.cg_runner.specs.End.{CanEnd}
+use Rattle.cg_runner.specs.declared.end.ScriptEnd.{ScriptEnd}
+use Rattle.cg_program.specs.Ends.{end_lines}
+
+-- one of the texts spells no script
+abbrev pub SomeSpellsNone : List (List ℕ) → Type 0
+SomeSpellsNone texts = Any SpellsNoScript texts
+
+-- each text spells a script, which may be begun so often and can end so
+abbrev pub EndSo : ℕ → List (List ℕ) → List ScriptEnd → Type 0
+EndSo tries texts ends = (scripts : List Script) × AllZip SpellsAs texts scripts × AllZip (CanEnd tries) scripts ends
+
+-- what is told of a batch: how each script ended, and the world that they left
+abbrev pub batch_text : List ScriptEnd → Tree → History cgroups → List ℕ
+batch_text ends opening h = end_lines 1 ends ++ text_left opening h
+
+-- the text was appended where a sink is given for it
+abbrev pub AppendsGiven : {K : Type 0} → (K → Option (List ℕ)) → Option K → Option K → List ℕ → Type 0
+AppendsGiven taken (Some old) (Some new) text = Appends (taken old) (taken new) text
+AppendsGiven taken None None text = ⊤
+AppendsGiven taken _ _ text = ⊥
+
+-- the scripts of the texts ended, run by so many workers: how they did, the tree on which their history began, and the history
+pub record Batch (workers tries : ℕ) (texts : List (List ℕ)) : Type 0 where
+  pub ends : List ScriptEnd
+  pub opening : Tree
+  pub history : History cgroups
+  pub so : EndSo tries texts ends
+  pub closed : IsClosed workers history
+
+-- such a batch was run, and this done with what is told of it and with the text of its history
+abbrev pub Tells : ℕ → ℕ → List (List ℕ) → (List ℕ → List ℕ → Type 0) → Type 0
+Tells workers tries texts P = (b : Batch workers tries texts) × P (batch_text b.ends b.opening b.history) (history_text b.history)
+
+-- these are the texts of the files with these names, as far as those are known
+abbrev pub AreTexts : (List ℕ → Option (List ℕ)) → List (List ℕ) → List (List ℕ) → Type 0
+AreTexts file names texts = AllZip (λ name text. IfSome (file name) (λ known. text ≡ known)) names texts
