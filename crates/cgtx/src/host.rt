@@ -1,7 +1,7 @@
-//! The inputs of this computer: standard input and files.
+//! The inputs and outputs of this computer: standard input and files.
 ghost use Rattle.std.specs.Prelude.{None, false};
 
-use cg_program::{FromRead, Inputs, OpenFault};
+use cg_program::{CreateFault, FromRead, FromWrite, Inputs, OpenFault, Outputs};
 use std::fs::File;
 use std::io;
 use std::io::Read;
@@ -45,6 +45,20 @@ impl Inputs for Host<'_> {
             Ok(file) => Ok(FromRead::new(Input::Opened(file))),
             Err(fault) if fault.kind() == io::ErrorKind::OutOfMemory => Err(OpenFault::Memory),
             Err(_) => Err(OpenFault::Unreadable),
+        }
+    }
+}
+
+impl Outputs for Host<'_> {
+    type Output = FromWrite<File>;
+
+    ghost is_barred = { λ _ _. false };
+
+    fn create_file(&self, name: &str) -> Result<FromWrite<File>, CreateFault> {
+        match File::create(self.0, name) {
+            Ok(file) => Ok(FromWrite::new(file)),
+            Err(fault) if fault.kind() == io::ErrorKind::OutOfMemory => Err(CreateFault::Memory),
+            Err(_) => Err(CreateFault::Unwritable),
         }
     }
 }

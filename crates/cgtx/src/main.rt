@@ -1,19 +1,27 @@
 //! Replays schedules of requests against a tree of control groups: `cgtx replay WORLD SCHEDULE` reads a world and the
 //! lines of a schedule, and writes the answers and the tree that results. With no words both come on standard input.
-//! `cgtx show WORLD PATH FILE` reads a world and writes an interface file of a group.
+//! `cgtx show WORLD PATH FILE` reads a world and writes an interface file of a group. `cgtx run WORLD SCRIPT...` runs scripts,
+//! each a transaction, over a world, and writes how they ended and the world that they left.
 #![tactic(auto)]
 
 mod host;
+mod progress;
 
 use crate::host::Host;
-use cg_command_line::{Asked, Unasked, read_command_line};
-use cg_program::{FromWrite, ScriptFault, Status, replay_named, show_named, stop};
+use crate::progress::Progress;
+use cg_command_line::{Asked, Batch, Unasked, read_command_line};
+use cg_program::{
+    FromWrite, ScriptFault, Status, Words, replay_named, run_named, show_named, stop,
+};
+use std::io::IsTerminal;
 use std::process::ExitCode;
+use std::sync::Wait;
+use std::thread::Threads;
 use std::{env, io};
 
 fn main(rt: HostRuntime) -> ExitCode {
     ExitCode::from(match words(&rt) {
-        Ok(words) => run(&rt, words.as_slice()),
+        Ok(words) => run(&rt, &rt, words.as_slice()),
         Err(fault) if fault.kind() == io::ErrorKind::OutOfMemory => no_memory(&rt),
         Err(_) => {
             let _ = rt.eprintln("cgtx: a word is not UTF-8");
@@ -27,11 +35,12 @@ fn words(rt: &HostRuntime) -> io::Result<Vec<String>> {
     Ok(env::args(rt)?.collect(rt.alloc())?)
 }
 
-// Does what the words ask, and gives the status.
-fn run(rt: &HostRuntime, words: &[String]) -> u8 {
+// Does what the words ask, with threads of `workers` where they ask for any, and gives the status.
+fn run<R: Threads + Wait + Eprint + Sync>(rt: &HostRuntime, workers: &R, words: &[String]) -> u8 {
     match read_command_line(rt, words) {
         Ok(Asked::Replay { world, schedule }) => replay(rt, world, schedule),
         Ok(Asked::Show { world, path, file }) => show(rt, world, path, file),
+        Ok(Asked::Run(batch)) => run_batch(rt, workers, &batch),
         Err(Unasked::Helped) => Status::Done.code(),
         Err(Unasked::Refused) => Status::Refused.code(),
         Err(Unasked::Memory) => no_memory(rt),
@@ -50,6 +59,34 @@ fn show(rt: &HostRuntime, world: &str, path: &str, file: &str) -> u8 {
     let mut out = FromWrite::new(rt.stdout());
     let mut err = FromWrite::new(rt.stderr());
     show_named(rt.alloc(), &Host(rt), world, path, file, &mut out, &mut err)
+}
+
+// Runs the scripts that the words name.
+fn run_batch<R: Threads + Wait + Eprint + Sync>(
+    rt: &HostRuntime,
+    workers: &R,
+    batch: &Batch,
+) -> u8 {
+    let words = Words {
+        world: batch.world,
+        scripts: batch.scripts.as_slice(),
+        history: batch.history,
+    };
+    let is_shown = rt.stderr().is_terminal();
+    let progress = Progress::new(workers, is_shown, batch.scripts.len());
+    let mut out = FromWrite::new(rt.stdout());
+    let mut err = FromWrite::new(rt.stderr());
+    run_named(
+        workers,
+        rt.alloc(),
+        &Host(rt),
+        &progress,
+        words,
+        batch.workers,
+        batch.tries,
+        &mut out,
+        &mut err,
+    )
 }
 
 // Tells that memory is wanted, and gives the status.
