@@ -84,10 +84,9 @@ answered_first (Some text) None line before out answer s t h e a = absurd h
 answered_first (Some text) (Some rest) line before out answer s t h e a = (answer, e, (line, h, a))
 
 -- a call that answers a line answers the first
-pub answered_line : {E : Type 0} (r : Result Bool E) (old new : Option (List ℕ)) (line given before out : List ℕ) (s t : Replay) → IsFirstLine old line new → given ≡ line
-    → IfOk r (λ more. (more ≡ true) × (answer : List ℕ) × (out ≡ before ++ answer) × Answers s given answer t) → IfOk r (λ more. more ≡ true → AnswersBehind old s before out t new)
-answered_line (Ok more) old new line given before out s t first same h = λ _. answered_first old new line before out h.1 s t first h.2 (subst (λ l. Answers s l h.1 t) same h.3)
-answered_line (Err e) old new line given before out s t first same h = tt
+pub answered_line : (old new : Option (List ℕ)) (line given before out : List ℕ) (s t : Replay) → IsFirstLine old line new → given ≡ line
+    → (answer : List ℕ) × (out ≡ before ++ answer) × Answers s given answer t → AnswersBehind old s before out t new
+answered_line old new line given before out s t first same h = answered_first old new line before out h.0 s t first h.1 (subst (λ l. Answers s l h.0 t) same h.2)
 
 -- some of what waited is written, and the first line is answered behind the rest
 pub gathers_first : (s t : Replay) (text rest a b : Option (List ℕ)) (before waiting after : List ℕ) → AppendsTo a b before waiting → AnswersBehind text s waiting after t rest

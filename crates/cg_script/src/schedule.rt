@@ -150,24 +150,15 @@ fn answer_line<S: Source>(
             refuse(out)?;
             Ok(true)
         }
-        LineKind::Text => answer_with(alloc, player, reader.line(), out),
-        LineKind::Last => answer_with(alloc, player, reader.line(), out),
+        LineKind::Text => {
+            player.answer(alloc, reader.line(), out)?;
+            Ok(true)
+        }
+        LineKind::Last => {
+            player.answer(alloc, reader.line(), out)?;
+            Ok(true)
+        }
     }
-}
-
-// Answers a line of text at the end of `out`. After a fault `out` is as it was.
-fn answer_with(
-    alloc: Global,
-    player: &mut Player,
-    line: &[u8],
-    out: &mut Vec<u8>,
-) -> Result<bool, ScriptFault>
-    ensures answered { IfOk result (λ more. (more ≡ true) × (answer : List ℕ) × (out.new.items ≡ out.old.items ++ answer) × Answers player.old line.now answer player.new) }
-    ensures unchanged { OnErr result (out.new.items ≡ out.old.items) }
-    ensures memory { IfErr result (λ e. e ≡ faults.Memory) }
-{
-    player.answer(alloc, line, out)?;
-    Ok(true)
 }
 
 /// A schedule's text has one output at most over a tree and a limit of the history.

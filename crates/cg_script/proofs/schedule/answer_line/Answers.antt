@@ -11,20 +11,18 @@ returns-in_ok-refuse-in-TooLong-clause-answered g c =
     let appended = c.in_ok-refuse-in-TooLong.ensures.ok in
     λ e. answered_too_long (pending old) (pending new) new.line c.args.out.now.items c.refuse.new.out.items c.args.player.now takes appended
 
-pub returns-in-Text-clause-answered : goal.returns-in-Text-clause-answered
-returns-in-Text-clause-answered g c =
+pub returns-in_ok-answer-in-Text-clause-answered : goal.returns-in_ok-answer-in-Text-clause-answered
+returns-in_ok-answer-in-Text-clause-answered g c =
     let old = pending c.args.reader.now in
     let new = pending c.next_line.new.self in
     let line = c.next_line.new.self.line in
     let takes = subst (λ kind. TakesKnownLine old kind line new) c.in-Text.is c.in_ok-next_line.ensures.takes in
-    answered_line c.answer_with.result old new line c.line.result.now c.args.out.now.items c.answer_with.new.out.items c.args.player.now c.answer_with.new.player (first_text old new line takes) c.line.ensures
-    c.answer_with.ensures.answered
+    λ e. answered_line old new line c.line.result.now c.args.out.now.items c.answer.new.out.items c.args.player.now c.answer.new.self (first_text old new line takes) c.line.ensures c.in_ok-answer-in-Text.ensures.ok
 
-pub returns-in-Last-clause-answered : goal.returns-in-Last-clause-answered
-returns-in-Last-clause-answered g c =
+pub returns-in_ok-answer-in-Last-clause-answered : goal.returns-in_ok-answer-in-Last-clause-answered
+returns-in_ok-answer-in-Last-clause-answered g c =
     let old = pending c.args.reader.now in
     let new = pending c.next_line.new.self in
     let line = c.next_line.new.self.line in
     let takes = subst (λ kind. TakesKnownLine old kind line new) c.in-Last.is c.in_ok-next_line.ensures.takes in
-    answered_line c.answer_with-in-Last.result old new line c.line-in-Last.result.now c.args.out.now.items c.answer_with-in-Last.new.out.items c.args.player.now c.answer_with-in-Last.new.player
-    (first_last old new line takes) c.line-in-Last.ensures c.answer_with-in-Last.ensures.answered
+    λ e. answered_line old new line c.line-in-Last.result.now c.args.out.now.items c.answer-in-Last.new.out.items c.args.player.now c.answer-in-Last.new.self (first_last old new line takes) c.line-in-Last.ensures c.in_ok-answer-in-Last.ensures.ok
