@@ -145,7 +145,7 @@ fn write_word(path: &PathRef<'_>, out: &mut Vec<u8>) -> Result<(), AllocError>
 }
 
 // Whether all bytes of the names are plain.
-fn has_plain_names(path: &PathRef<'_>) -> bool
+pub(crate) fn has_plain_names(path: &PathRef<'_>) -> bool
     ensures { result ≡ list_all (λ n. list_all is_plain_byte n) path.now }
 {
     path.names().all(|name| are_plain(name.as_bytes()))
