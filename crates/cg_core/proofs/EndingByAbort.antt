@@ -3,47 +3,41 @@ use Rattle.std.proofs.Common.{◌≡◌, ℕ, ◌-◌, length, List, Some, refl,
 use Rattle.cg_model.specs.Cgroups.{cgroups}
 use Rattle.cg_model.specs.History.{Abort, Aborted, History}
 use Rattle.cg_model.specs.Live.{live}
-use Rattle.cg_model.specs.Opens.{numbers, opens}
 use Rattle.cg_model.specs.Run.{tree_of}
 use Rattle.cg_model.specs.Tree.{Tree}
-use Rattle.cg_core_laws.specs.LettingGo.{NewestLetsGo}
-use Rattle.cg_core_laws.specs.MachineOf.{machine_of}
 use Rattle.cg_history.specs.SessionMap as sessions
 use Rattle.cg_history.specs.SessionMap.{found}
 use Rattle.cg_locks.specs.Holdings.{Holdings}
 use Rattle.cg_rollback.specs.TakingOff.{AllMayComeOff, AllComeOff}
 use Rattle.cg_tree.specs.Room.{TreeWithRoom}
 use Rattle.cg_txn.specs.Stack.{Stack}
-use Rattle.cg_core.proofs.AtHistory.{at_history}
-use Rattle.cg_core.proofs.Endings.{items, is_open, with_end, state_left, parts_left, answer_is}
+use Rattle.cg_core.proofs.Endings.{with_end, state_left, parts_left, answer_is}
+use Rattle.cg_core.proofs.ReturningParts.{is_open, items_are, state, unwindable}
 use Rattle.cg_core.proofs.Stages.Items.{undone_all, unwound_is}
-use Rattle.cg_core.proofs.Stages.Unwinding.{Unwindable, unwindable_by_law, whole_may_come_off, held_after_whole_off}
-use Rattle.cg_core.proofs.TheLaws.{newest_law}
+use Rattle.cg_core.proofs.Stages.Unwinding.{whole_may_come_off, held_after_whole_off}
 use Rattle.cg_core.specs.Parts.{IsCoreOf}
 use Rattle.cg_core.specs.State.{CoreState, after}
-use Rattle.cg_core.specs.State as state
+use Rattle.cg_core.specs.State as cores
 
 module _ {O : Tree} {b : ℕ} {h : History cgroups} {n : ℕ} {R : TreeWithRoom} {H : Holdings} {xs : List (ℕ × Stack)} (core : IsCoreOf O b h n R H xs) (s : ℕ) (x : Stack) (here : found s xs ≡ Some x) where
-  unwindable : Unwindable O (numbers (opens h)) (λ u. live u h) (tree_of cgroups O h)
-  unwindable = unwindable_by_law O (machine_of O b h) (at_history (λ O m. NewestLetsGo O m) newest_law O b h core.sound core.reached)
-
   -- all that stands of it may come off
   pub may_abort : AllMayComeOff x.number x.items R H
-  may_abort = subst (λ l. AllMayComeOff x.number l R H) (sym (items core s x here)) (whole_may_come_off x.number (is_open core s x here) core.holds unwindable)
+  may_abort = subst (λ l. AllMayComeOff x.number l R H) (sym (items_are core s x here)) (whole_may_come_off x.number (is_open core s x here) core.holds (unwindable core s x here))
 
-  module _ (k : ℕ) (is_number : k ≡ x.number) where
+  module _ {k : ℕ} (is_number : k ≡ x.number) where
     -- the answer is that of the history
-    pub abort_answers : (v : CoreState) → v ≡ record { opening = O; bound = b; history = h } → Aborted k ≡ state.reply v s Abort
-    abort_answers v is = answer_is core s x here Abort (Aborted x.number) tt refl refl refl (Aborted k) (ap Aborted is_number) v is
+    pub abort_answers : {v : CoreState} → state O b h ≡ v → Aborted k ≡ cores.reply v s Abort
+    abort_answers is = answer_is core s x here Abort (Aborted x.number) tt refl refl refl (ap Aborted is_number) is
 
-    module _ (m : ℕ) (is_length : m ≡ length x.items) (p e : History cgroups × ℕ) (pushed : p ≡ (with_end h s k Abort (Aborted k), n - 1)) (released : e ≡ (p.0, p.1 - m)) where
+    module _ {m : ℕ} (is_length : m ≡ length x.items) {p e : History cgroups × ℕ} (pushed : p ≡ (with_end h s k Abort (Aborted k), n - 1)) (released : e ≡ (p.0, p.1 - m)) where
       -- so is the state after it
-      pub abort_state : (v : CoreState) → v ≡ record { opening = O; bound = b; history = h } → record { opening = O; bound = b; history = e.0 } ≡ after v s Abort
-      abort_state v is = state_left core s x here Abort (Aborted x.number) tt refl refl refl k m (Aborted k) is_number is_length (ap Aborted is_number) p e pushed released v is
+      pub abort_state : {v : CoreState} → state O b h ≡ v → state O b e.0 ≡ after v s Abort
+      abort_state is = state_left core s x here Abort (Aborted x.number) tt refl refl refl is_number is_length (ap Aborted is_number) pushed released is
 
       -- and so are its parts
-      pub abort_leaves : (R' : TreeWithRoom) (H' : Holdings) → AllComeOff x.number x.items R H R' H' → IsCoreOf O b e.0 e.1 R' H' (sessions.without s xs)
-      abort_leaves R' H' off =
-          parts_left core s x here Abort (Aborted x.number) tt refl refl refl k m (Aborted k) is_number is_length (ap Aborted is_number) p e pushed released
+      pub abort_leaves : {R' : TreeWithRoom} {H' : Holdings} {xs' : List (ℕ × Stack)} → AllComeOff x.number x.items R H R' H' → xs' ≡ sessions.without s xs → IsCoreOf O b e.0 e.1 R' H' xs'
+      abort_leaves {R'} {H'} off removed =
+          subst (IsCoreOf O b e.0 e.1 R' H') (sym removed)
+          (parts_left core s x here Abort (Aborted x.number) tt refl refl refl is_number is_length (ap Aborted is_number) pushed released
           (undone_all O (live x.number h) (tree_of cgroups O h)) (unwound_is O (live x.number h) (tree_of cgroups O h)) R' H'
-          (held_after_whole_off x.number (is_open core s x here) core.holds unwindable R' H' (subst (λ l. AllComeOff x.number l R H R' H') (items core s x here) off))
+          (held_after_whole_off x.number (is_open core s x here) core.holds (unwindable core s x here) R' H' (subst (λ l. AllComeOff x.number l R H R' H') (items_are core s x here) off)))

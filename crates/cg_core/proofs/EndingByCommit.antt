@@ -16,12 +16,13 @@ use Rattle.cg_rollback.specs.TakingOff.{AllMayLetGo, AllLetGo}
 use Rattle.cg_tree.specs.Room.{TreeWithRoom}
 use Rattle.cg_txn.specs.Stack.{Stack}
 use Rattle.cg_core.proofs.AtHistory.{at_history}
-use Rattle.cg_core.proofs.Endings.{items, is_open, few_records, with_end, state_left, parts_left, answer_is}
+use Rattle.cg_core.proofs.Endings.{with_end, state_left, parts_left, answer_is}
+use Rattle.cg_core.proofs.ReturningParts.{few_records, is_open, items_are, state}
 use Rattle.cg_core.proofs.Stages.Draining.{Drainable, drainable_by_law, all_may_let_go, held_after_all_let_go}
 use Rattle.cg_core.proofs.TheLaws.{oldest_law}
 use Rattle.cg_core.specs.Parts.{IsCoreOf}
 use Rattle.cg_core.specs.State.{CoreState, after}
-use Rattle.cg_core.specs.State as state
+use Rattle.cg_core.specs.State as cores
 
 -- one answer commits one at most
 one_more : (a : Answer) (n m : ℕ) → n ≤ m → commits_after a n ≤ m + 1
@@ -47,7 +48,7 @@ module _ {O : Tree} {b : ℕ} {h : History cgroups} {n : ℕ} {R : TreeWithRoom}
   -- all that it holds may be let go
   pub may_commit : AllMayLetGo x.number (reverse x.items) R H
   may_commit =
-      subst (λ l. AllMayLetGo x.number (reverse l) R H) (sym (items core s x here))
+      subst (λ l. AllMayLetGo x.number (reverse l) R H) (sym (items_are core s x here))
       (all_may_let_go O (numbers (opens h)) (λ u. live u h) (tree_of cgroups O h) x.number (is_open core s x here) drainable core.holds)
 
   -- few have committed
@@ -57,20 +58,25 @@ module _ {O : Tree} {b : ℕ} {h : History cgroups} {n : ℕ} {R : TreeWithRoom}
       let within : commits h ≤ length h = commits_within h in
       omega (arith, few, within)
 
-  module _ (g : ℕ) (is_next : g ≡ commits h + 1) where
-    -- the answer is that of the history
-    pub commit_answers : (v : CoreState) → v ≡ record { opening = O; bound = b; history = h } → Committed g ≡ state.reply v s Commit
-    commit_answers v is = answer_is core s x here Commit (Committed (commits h + 1)) tt refl refl refl (Committed g) (ap Committed is_next) v is
+  -- the place of the commit, where so many have committed
+  module _ {g : ℕ} (counted : g ≡ commits h) where
+    next_place : Committed (g + 1) ≡ Committed (commits h + 1)
+    next_place = ap (λ g. Committed (g + 1)) counted
 
-    module _ (k : ℕ) (is_number : k ≡ x.number) (m : ℕ) (is_length : m ≡ length x.items) (p e : History cgroups × ℕ) (pushed : p ≡ (with_end h s k Commit (Committed g), n - 1)) (released : e ≡ (p.0, p.1 - m)) where
+    -- the answer is that of the history
+    pub commit_answers : {v : CoreState} → state O b h ≡ v → Committed (g + 1) ≡ cores.reply v s Commit
+    commit_answers is = answer_is core s x here Commit (Committed (commits h + 1)) tt refl refl refl next_place is
+
+    module _ {k m : ℕ} (is_number : k ≡ x.number) (is_length : m ≡ length x.items) {p e : History cgroups × ℕ} (pushed : p ≡ (with_end h s k Commit (Committed (g + 1)), n - 1)) (released : e ≡ (p.0, p.1 - m)) where
       -- so is the state after it
-      pub commit_state : (v : CoreState) → v ≡ record { opening = O; bound = b; history = h } → record { opening = O; bound = b; history = e.0 } ≡ after v s Commit
-      commit_state v is = state_left core s x here Commit (Committed (commits h + 1)) tt refl refl refl k m (Committed g) is_number is_length (ap Committed is_next) p e pushed released v is
+      pub commit_state : {v : CoreState} → state O b h ≡ v → state O b e.0 ≡ after v s Commit
+      commit_state is = state_left core s x here Commit (Committed (commits h + 1)) tt refl refl refl is_number is_length next_place pushed released is
 
       -- and so are its parts
-      pub commit_leaves : (R' : TreeWithRoom) (H' : Holdings) → AllLetGo x.number (reverse x.items) R H R' H' → IsCoreOf O b e.0 e.1 R' H' (sessions.without s xs)
-      commit_leaves R' H' let_go =
-          parts_left core s x here Commit (Committed (commits h + 1)) tt refl refl refl k m (Committed g) is_number is_length (ap Committed is_next) p e pushed released
+      pub commit_leaves : {R' : TreeWithRoom} {H' : Holdings} {xs' : List (ℕ × Stack)} → AllLetGo x.number (reverse x.items) R H R' H' → xs' ≡ sessions.without s xs → IsCoreOf O b e.0 e.1 R' H' xs'
+      commit_leaves {R'} {H'} let_go removed =
+          subst (IsCoreOf O b e.0 e.1 R' H') (sym removed)
+          (parts_left core s x here Commit (Committed (commits h + 1)) tt refl refl refl is_number is_length next_place pushed released
           (tree_of cgroups O h) refl R' H'
           (held_after_all_let_go O (numbers (opens h)) (λ u. live u h) (tree_of cgroups O h) x.number (is_open core s x here) drainable core.holds R' H'
-          (subst (λ l. AllLetGo x.number (reverse l) R H R' H') (items core s x here) let_go))
+          (subst (λ l. AllLetGo x.number (reverse l) R H R' H') (items_are core s x here) let_go)))

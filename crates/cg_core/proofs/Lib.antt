@@ -2,7 +2,6 @@ mod AtHistory
 mod Begun
 mod EndingByAbort
 mod EndingByCommit
-mod EndingRefused
 mod Endings
 mod Open
 mod Opened

@@ -63,6 +63,10 @@ pub copied_too : {A : Type 0} (r : Option (Bor A)) → is_some (option_copied r)
 copied_too None = refl
 copied_too (Some x) = refl
 
+-- whether there is one, as the code asks a copy
+pub found_told : {A : Type 0} (r : Option (Bor A)) {o : Option A} {said there : Bool} → option_copied r ≡ o → said ≡ is_some r → said ≡ there → is_some o ≡ there
+found_told r copied told e = sym (ap is_some copied) ∙ copied_too r ∙ sym told ∙ e
+
 pub nothing_there : {A : Type 0} (o : Option A) → is_some o ≡ false → o ≡ None
 nothing_there None e = refl
 nothing_there (Some x) e = absurd (true≢false e)

@@ -1,5 +1,5 @@
 -- Requests of a session: what a core is after them, by its parts.
-use Rattle.std.proofs.Common.{◌≡◌, ℕ, ◌+◌, ◌≤◌, ◌↔◌, Bool, true, false, List, ◌∷◌, length, map, Some, None, Ok, Err, refl, sym, ap, subst, subst₂, ◌∙◌, true≢false, arith}
+use Rattle.std.proofs.Common.{◌≡◌, ℕ, ◌+◌, ◌<◌, ◌≤◌, ◌↔◌, Bool, true, false, List, ◌∷◌, length, map, Option, OnSome, Some, None, Ok, Err, refl, sym, ap, subst, subst₂, ◌∙◌, true≢false, arith}
 use Rattle.std.proofs.lemmas.Bool.{true_from_ne_false}
 use Rattle.std.specs.Result.{is_ok}
 use Rattle.std.proofs.lemmas.List.{length-map}
@@ -28,7 +28,7 @@ use Rattle.cg_model.specs.Live as live
 use Rattle.cg_model.specs.Live.{Items, live_after}
 use Rattle.cg_model.specs.Machine.{step_in}
 use Rattle.cg_model.specs.Opens.{among, numbers, opens, transaction_in, without}
-use Rattle.cg_model.specs.Reply.{reply, reply_at, reply_in, reply_out, live_count}
+use Rattle.cg_model.specs.Reply.{reply, reply_at, reply_in, reply_out, is_full, live_count}
 use Rattle.cg_model.specs.Run.{tree_of}
 use Rattle.cg_model.specs.Tree.{Tree}
 use Rattle.cg_name.specs.declared.refusal.Refusal.TheVariants.{NoTransaction}
@@ -40,14 +40,28 @@ use Rattle.cg_txn.specs.Stack.{Stack}
 abbrev pub state : Tree → ℕ → History cgroups → CoreState
 state O b h = record { opening = O; bound = b; history = h }
 
-module _ (O : Tree) (b : ℕ) (h : History cgroups) (s : ℕ) (q : Request cgroups) (c : CoreState) (is : state O b h ≡ c) where
+module _ {O : Tree} {b : ℕ} {h : History cgroups} {c : CoreState} (s : ℕ) (q : Request cgroups) (is : state O b h ≡ c) where
   -- the answer is the reply of the core
-  pub answer_told : (a : Answer) → reply cgroups O b h s q ≡ a → a ≡ cores.reply c s q
-  answer_told a e = sym e ∙ ap (λ k. cores.reply k s q) is
+  pub answer_told : {a : Answer} → reply cgroups O b h s q ≡ a → a ≡ cores.reply c s q
+  answer_told e = sym e ∙ ap (λ k. cores.reply k s q) is
 
   -- the history is that of the core after it
-  pub state_told : (k : History cgroups) → history_after O b h s q ≡ k → state O b k ≡ cores.after c s q
-  state_told k e = ap (state O b) (sym e) ∙ ap (λ k. cores.after k s q) is
+  pub state_told : {k : History cgroups} → history_after O b h s q ≡ k → state O b k ≡ cores.after c s q
+  state_told e = ap (state O b) (sym e) ∙ ap (λ k. cores.after k s q) is
+
+-- the history is full where the core says so
+pub full_told : {O : Tree} {b : ℕ} {h : History cgroups} {c : CoreState} {said full : Bool} → state O b h ≡ c → said ≡ is_full c.bound c.history → said ≡ full → is_full b h ≡ full
+full_told is told e = ap (λ (v : CoreState). is_full v.bound v.history) is ∙ sym told ∙ e
+
+-- what the code adds to its history, which has the number, the answer and the records so far by names of its own
+pub noted_is : {s k t m : ℕ} {q : Request cgroups} {a c : Answer} {g h : History cgroups} {p : History cgroups × ℕ} → k ≡ t → a ≡ c → g ≡ h
+    → p ≡ (record { session = s; transaction = k; request = q; answer = a } ∷ g, m) → p.0 ≡ record { session = s; transaction = t; request = q; answer = c } ∷ h
+noted_is {s} {k} {t} {m} {q} number answer before pushed =
+    ap (λ p. p.0) pushed ∙ (λ i. record { session = s; transaction = number i; request = q; answer = answer i } ∷ before i)
+
+-- what holds once a value is lent, where one is
+pub where_lent : {A P : Type 0} {r : Option A} {v : A} → r ≡ Some v → OnSome r P → P
+where_lent {A} {P} is holds = subst (λ r. OnSome r P) is holds
 
 -- a result that is a value is no error
 pub no_error : {T E : Type 0} (v : T) (e : E) (b : Bool) → ((Ok v) ≡ Err e) ↔ (b ≡ false) → b ≡ true
@@ -111,6 +125,10 @@ module _ {O : Tree} {b : ℕ} {h : History cgroups} {n : ℕ} {R : TreeWithRoom}
       let reserved : n ≡ length (opens h) + live_count (opens h) h = core.reserved in
       omega (arith, used, high, reserved)
 
+  -- so one more can be counted
+  pub few_records : length h < 4294967295
+  few_records = let all : length h + n ≤ 1048576 = few in omega (arith, all)
+
   -- the answer is that to its own request
   pub replied : (q : Request cgroups) → reply cgroups O b h s q ≡ reply_in cgroups O b h x.number q
   replied q = ap (λ o. reply_at cgroups O b h o q) session_open
@@ -131,8 +149,8 @@ module _ {O : Tree} {b : ℕ} {h : History cgroups} {n : ℕ} {R : TreeWithRoom}
   }
 
   -- and so it is with equal parts
-  pub unchanged : (R' : TreeWithRoom) (H' : Holdings) (x' : Stack) (xs' : List (ℕ × Stack)) → R' ≡ R → H' ≡ H → x' ≡ x → xs' ≡ with_value s x' xs → IsCoreOf O b h n R' H' xs'
-  unchanged R' H' x' xs' tree locks same written =
+  pub unchanged : {R' : TreeWithRoom} {H' : Holdings} {x' : Stack} {xs' : List (ℕ × Stack)} → R' ≡ R → H' ≡ H → x' ≡ x → xs' ≡ with_value s x' xs → IsCoreOf O b h n R' H' xs'
+  unchanged {R'} {H'} tree locks same written =
       subst (λ l. IsCoreOf O b h n R' H' l) (sym (written ∙ ap (λ y. with_value s y xs) same)) (subst₂ (λ R H. IsCoreOf O b h n R H (with_value s x xs)) (sym tree) (sym locks) written_same)
 
   -- ---- a request that is recorded
@@ -149,7 +167,7 @@ module _ {O : Tree} {b : ℕ} {h : History cgroups} {n : ℕ} {R : TreeWithRoom}
     history_is = recorded steps_law O b h core.sound core.reached s q proper a answer noted ∙ recorded_in
 
     -- steps lead to it
-    reached_after : Reached O b after
+    pub reached_after : Reached O b after
     reached_after = subst (Reached O b) recorded_in (reached_on steps_law O b h core.sound core.reached s q proper a answer noted)
 
     -- its tree is that of the machine's step
@@ -160,7 +178,7 @@ module _ {O : Tree} {b : ℕ} {h : History cgroups} {n : ℕ} {R : TreeWithRoom}
     left = live_after q a x.number h ours
 
     -- the stack of the transaction is what is left of it, and the others stay
-    same : (u : ℕ) → live.live u after ≡ with_items x.number left stacks u
+    pub same : (u : ℕ) → live.live u after ≡ with_items x.number left stacks u
     same u = live_stacks (record { session = s; transaction = x.number; request = q; answer = a }) h u
 
     -- the core with what is left of the stack

@@ -83,6 +83,13 @@ module _ {O : Tree} {b : ℕ} {h : History cgroups} {n : ℕ} {R : TreeWithRoom}
         let split : length ours ≡ length (above m ours) + length (y ∷ live.below m ours) = ap length parts ∙ length-append (above m ours) (y ∷ live.below m ours) in
         omega (arith, all, low, split)
 
+    -- as the code counts them
+    pub fewer_counted : {k j : ℕ} {x' : Stack} → k ≡ length x.items → j ≡ length x'.items → x' ≡ record x { items = below m x.items; reserved = false } → j + 1 ≤ k
+    fewer_counted {k} {j} {x'} all left written =
+        let less : length (below m x.items) + 1 ≤ length x.items = fewer in
+        let are : length x'.items ≡ length (below m x.items) = ap (λ (y : Stack). length y.items) written in
+        omega (arith, all, left, are, less)
+
     -- no more come off than stand
     pub few_come_off : length (commands_above m x.items) ≤ length x.items
     few_come_off =

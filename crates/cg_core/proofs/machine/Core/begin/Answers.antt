@@ -7,30 +7,29 @@ use Rattle.cg_model.specs.Reply.{slots, is_full}
 use Rattle.cg_history.proofs.Records.{begins_within}
 use Rattle.cg_history.specs.SessionMap.{found}
 use Rattle.cg_core.specs.Parts.{IsCoreOf}
-use Rattle.cg_core.specs.State.{CoreState, reply}
 use Rattle.cg_core.proofs.AtHistory.{within}
 use Rattle.cg_core.proofs.Begun.{already_open, begin_full, begin_reply, begun_core, begun_record}
-use Rattle.cg_core.proofs.Open.{copied_too, nothing_there, session_absent, session_none, session_there}
-use Rattle.cg_core.proofs.ReturningParts.{answer_told, state_told}
+use Rattle.cg_core.proofs.Open.{found_told, nothing_there, session_absent, session_none, session_there}
+use Rattle.cg_core.proofs.ReturningParts.{answer_told, state_told, full_told, noted_is}
 use Rattle.cg_core.proofs.Stepping.{recorded, stays}
 use Rattle.cg_core.proofs.TheLaws.{faithful_law, steps_law}
 use Rattle.cg_core.proofs.machine.Core.begin.Goals as goal
 
 pub returns-then-is_some-clause-answer : goal.returns-then-is_some-clause-answer
 returns-then-is_some-clause-answer c =
-    let there : is_some (found c.args.session.0 c.self.inside.open) ≡ true = sym (ap is_some c.get.ensures) ∙ copied_too c.get.result ∙ sym c.is_some.ensures ∙ c.if-is_some.true in
-    sym (already_open c.self.inside.opening c.self.inside.limit c.self.inside.history.0 c.args.session.0 (session_there _ _ _ _ c.self.invariant.transactions c.args.session.0 there))
-    ∙ ap (λ (v : CoreState). reply v c.args.session.0 Begin) c.self.view_is
+    let there : is_some (found c.args.session.0 c.self.inside.open) ≡ true = found_told c.get.result c.get.ensures c.is_some.ensures c.if-is_some.true in
+    answer_told c.args.session.0 Begin c.self.view_is
+    (already_open c.self.inside.opening c.self.inside.limit c.self.inside.history.0 c.args.session.0 (session_there _ _ _ _ c.self.invariant.transactions c.args.session.0 there))
 
 pub returns-then-is_some-clause-state : goal.returns-then-is_some-clause-state
 returns-then-is_some-clause-state c = stays c.args.self.now c.args.session.0 Begin (Refused AlreadyOpen) (sym (returns-then-is_some-clause-answer c)) refl
 
 pub returns-then-is_full-clause-answer : goal.returns-then-is_full-clause-answer
 returns-then-is_full-clause-answer c =
-    let absent : is_some (found c.args.session.0 c.self.inside.open) ≡ false = sym (ap is_some c.get.ensures) ∙ copied_too c.get.result ∙ sym c.is_some.ensures ∙ c.if-is_some.false in
-    let full : is_full c.self.inside.limit c.self.inside.history.0 ≡ true = ap (λ (v : CoreState). is_full v.bound v.history) c.self.view_is ∙ sym c.is_full.ensures ∙ c.if-is_full.true in
-    sym (begin_full c.self.inside.opening c.self.inside.limit c.self.inside.history.0 c.args.session.0 (session_absent _ _ _ _ c.self.invariant.transactions c.args.session.0 absent) full)
-    ∙ ap (λ (v : CoreState). reply v c.args.session.0 Begin) c.self.view_is
+    let absent : is_some (found c.args.session.0 c.self.inside.open) ≡ false = found_told c.get.result c.get.ensures c.is_some.ensures c.if-is_some.false in
+    let full : is_full c.self.inside.limit c.self.inside.history.0 ≡ true = full_told c.self.view_is c.is_full.ensures c.if-is_full.true in
+    answer_told c.args.session.0 Begin c.self.view_is
+    (begin_full c.self.inside.opening c.self.inside.limit c.self.inside.history.0 c.args.session.0 (session_absent _ _ _ _ c.self.invariant.transactions c.args.session.0 absent) full)
 
 pub overflow_add-number : goal.overflow_add-number
 overflow_add-number c =
@@ -46,11 +45,11 @@ invariant_of-self-2 c =
     let b = c.self.inside.limit in
     let h = c.self.inside.history.0 in
     let s = c.args.session.0 in
-    let absent : found s c.self.inside.open ≡ None = nothing_there _ (sym (ap is_some c.get.ensures) ∙ copied_too c.get.result ∙ sym c.is_some.ensures ∙ c.if-is_some.false) in
-    let room : is_full b h ≡ false = ap (λ (v : CoreState). is_full v.bound v.history) c.self.view_is ∙ sym c.is_full.ensures ∙ c.if-is_full.false in
+    let absent : found s c.self.inside.open ≡ None = nothing_there _ (found_told c.get.result c.get.ensures c.is_some.ensures c.if-is_some.false) in
+    let room : is_full b h ≡ false = full_told c.self.view_is c.is_full.ensures c.if-is_full.false in
     let counted : c.begun.result ≡ begins h = c.begun.ensures ∙ ap (λ p. begins p.0) c.in-Ok.ensures.ok in
     let history_is : c.push.new.self.0 ≡ record { session = s; transaction = begins h + 1; request = Begin; answer = Begun (begins h + 1) } ∷ h =
-    ap (λ p. p.0) c.push.ensures ∙ (λ i. record { session = s; transaction = counted i + 1; request = Begin; answer = Begun (counted i + 1) } ∷ (c.in-Ok.ensures.ok i).0) in
+    noted_is (ap (λ n. n + 1) counted) (ap (λ n. Begun (n + 1)) counted) (ap (λ p. p.0) c.in-Ok.ensures.ok) c.push.ensures in
     let reserved : c.reserve.new.self.1 ≡ c.self.inside.history.1 + 2 = ap (λ p. p.1) c.in-Ok.ensures.ok in
     let pushed : c.push.new.self.1 ≡ c.reserve.new.self.1 - 1 = ap (λ p. p.1) c.push.ensures in
     let slots_are : c.push.new.self.1 ≡ c.self.inside.history.1 + 1 = omega (arith, reserved, pushed) in
@@ -64,20 +63,20 @@ invariant_of-self-2 c =
 
 pub returns-clause-answer : goal.returns-clause-answer
 returns-clause-answer c =
-    let absent : found c.args.session.0 c.self.inside.open ≡ None = nothing_there _ (sym (ap is_some c.get.ensures) ∙ copied_too c.get.result ∙ sym c.is_some.ensures ∙ c.if-is_some.false) in
-    let room : is_full c.self.inside.limit c.self.inside.history.0 ≡ false = ap (λ (v : CoreState). is_full v.bound v.history) c.self.view_is ∙ sym c.is_full.ensures ∙ c.if-is_full.false in
+    let absent : found c.args.session.0 c.self.inside.open ≡ None = nothing_there _ (found_told c.get.result c.get.ensures c.is_some.ensures c.if-is_some.false) in
+    let room : is_full c.self.inside.limit c.self.inside.history.0 ≡ false = full_told c.self.view_is c.is_full.ensures c.if-is_full.false in
     ap (λ n. Begun (n + 1)) (c.begun.ensures ∙ ap (λ p. begins p.0) c.in-Ok.ensures.ok)
-    ∙ answer_told _ _ _ c.args.session.0 Begin c.args.self.now c.self.view_is _ (begin_reply _ _ _ c.args.session.0 (session_none _ _ _ _ c.self.invariant.transactions c.args.session.0 absent) room)
+    ∙ answer_told c.args.session.0 Begin c.self.view_is (begin_reply _ _ _ c.args.session.0 (session_none _ _ _ _ c.self.invariant.transactions c.args.session.0 absent) room)
 
 pub returns-clause-state : goal.returns-clause-state
 returns-clause-state c =
     let s = c.args.session.0 in
     let h = c.self.inside.history.0 in
-    let absent : found s c.self.inside.open ≡ None = nothing_there _ (sym (ap is_some c.get.ensures) ∙ copied_too c.get.result ∙ sym c.is_some.ensures ∙ c.if-is_some.false) in
-    let room : is_full c.self.inside.limit h ≡ false = ap (λ (v : CoreState). is_full v.bound v.history) c.self.view_is ∙ sym c.is_full.ensures ∙ c.if-is_full.false in
+    let absent : found s c.self.inside.open ≡ None = nothing_there _ (found_told c.get.result c.get.ensures c.is_some.ensures c.if-is_some.false) in
+    let room : is_full c.self.inside.limit h ≡ false = full_told c.self.view_is c.is_full.ensures c.if-is_full.false in
     let none : transaction_in s (opens h) ≡ None = session_none _ _ _ _ c.self.invariant.transactions s absent in
     let counted : c.begun.result ≡ begins h = c.begun.ensures ∙ ap (λ p. begins p.0) c.in-Ok.ensures.ok in
-    state_told _ _ _ s Begin c.args.self.now c.self.view_is _
+    state_told s Begin c.self.view_is
     (recorded steps_law _ _ _ c.self.invariant.sound c.self.invariant.reached s Begin tt _ (begin_reply _ _ _ s none room) refl
     ∙ begun_record _ _ _ _ _ _ _ c.self.invariant s absent room
-    ∙ sym (ap (λ p. p.0) c.push.ensures ∙ (λ i. record { session = s; transaction = counted i + 1; request = Begin; answer = Begun (counted i + 1) } ∷ (c.in-Ok.ensures.ok i).0)))
+    ∙ sym (noted_is (ap (λ n. n + 1) counted) (ap (λ n. Begun (n + 1)) counted) (ap (λ p. p.0) c.in-Ok.ensures.ok) c.push.ensures))

@@ -1,51 +1,41 @@
 -- A commit: what it leaves is the core of the history with its record.
-use Rattle.std.proofs.Common.{◌≡◌, ◌+◌, ◌-◌, ◌<◌, ◌≤◌, length, refl, sym, ap, subst, arith}
+use Rattle.std.proofs.Common.{◌≡◌, ◌<◌, refl, sym, arith}
 use Rattle.cg_model.specs.History.{Commit}
 use Rattle.cg_model.specs.Opens.{commits}
-use Rattle.cg_core.specs.Parts.{IsCoreOf}
 use Rattle.cg_core.proofs.EndingByCommit.{may_commit, few_commits, commit_answers, commit_state, commit_leaves}
-use Rattle.cg_core.proofs.EndingRefused.{stays_without, refused_without, same_without}
-use Rattle.cg_core.proofs.Endings.{slots_reserved, few_records}
+use Rattle.cg_core.proofs.Endings.{slot_for_end, slots_for_items, stays_without}
+use Rattle.cg_core.proofs.ReturningParts.{answer_told, state_told, out_refused, history_out, few_records}
 use Rattle.cg_core.proofs.machine.Core.commit.Goals as goal
 
 pub invariant_of-self : goal.invariant_of-self
-invariant_of-self c = subst (IsCoreOf c.self.inside.opening c.self.inside.limit c.self.inside.history.0 c.self.inside.history.1 c.self.inside.tree c.self.inside.locks) (sym c.remove.ensures.removed) (stays_without c.self.invariant c.args.session.0 (sym c.in_default.ensures.value))
+invariant_of-self c = stays_without c.self.invariant c.args.session.0 (sym c.in_default.ensures.value) c.remove.ensures.removed
 
 pub returns-in_default-clause-answer : goal.returns-in_default-clause-answer
-returns-in_default-clause-answer c = refused_without c.self.invariant c.args.session.0 (sym c.in_default.ensures.value) Commit tt refl refl c.args.self.now (sym c.self.view_is)
+returns-in_default-clause-answer c = answer_told c.args.session.0 Commit c.self.view_is (out_refused c.self.invariant c.args.session.0 (sym c.in_default.ensures.value) Commit refl)
 
 pub returns-in_default-clause-state : goal.returns-in_default-clause-state
-returns-in_default-clause-state c = same_without c.self.invariant c.args.session.0 (sym c.in_default.ensures.value) Commit tt refl refl c.args.self.now (sym c.self.view_is)
+returns-in_default-clause-state c = state_told c.args.session.0 Commit c.self.view_is (history_out c.self.invariant c.args.session.0 (sym c.in_default.ensures.value) Commit tt refl refl)
 
 pub commit-requires : goal.commit-requires
 commit-requires c = may_commit c.self.invariant c.args.session.0 c.in-Some.txn (sym c.in-Some.ensures.value)
 
 pub push-requires-clause-reserved : goal.push-requires-clause-reserved
-push-requires-clause-reserved c =
-    let slots : length c.in-Some.txn.items + 1 ≤ c.self.inside.history.1 = slots_reserved c.self.invariant c.args.session.0 c.in-Some.txn (sym c.in-Some.ensures.value) in
-    omega (arith, slots)
+push-requires-clause-reserved c = slot_for_end c.self.invariant c.args.session.0 c.in-Some.txn (sym c.in-Some.ensures.value)
 
 pub push-requires-clause-few : goal.push-requires-clause-few
 push-requires-clause-few c = few_records c.self.invariant c.args.session.0 c.in-Some.txn (sym c.in-Some.ensures.value)
 
 pub release-requires : goal.release-requires
-release-requires c =
-    let slots : length c.in-Some.txn.items + 1 ≤ c.self.inside.history.1 = slots_reserved c.self.invariant c.args.session.0 c.in-Some.txn (sym c.in-Some.ensures.value) in
-    let long : c.len-items.result ≡ length c.in-Some.txn.items = c.len-items.ensures in
-    let left : c.push.new.self.1 ≡ c.self.inside.history.1 - 1 = ap (λ p. p.1) c.push.ensures in
-    omega (arith, slots, long, left)
+release-requires c = slots_for_items c.self.invariant c.args.session.0 c.in-Some.txn (sym c.in-Some.ensures.value) c.len-items.ensures c.push.ensures
 
 pub invariant_of-self-2 : goal.invariant_of-self-2
-invariant_of-self-2 c =
-    subst (IsCoreOf c.self.inside.opening c.self.inside.limit c.release.new.self.0 c.release.new.self.1 c.commit.new.tree c.commit.new.locks) (sym c.remove.ensures.removed)
-    (commit_leaves c.self.invariant c.args.session.0 c.in-Some.txn (sym c.in-Some.ensures.value) (c.committed-place.result + 1) (ap (λ g. g + 1) c.committed-place.ensures) c.number-number.result.0 c.number-number.ensures c.len-items.result c.len-items.ensures c.push.new.self c.release.new.self c.push.ensures c.release.ensures c.commit.new.tree c.commit.new.locks c.commit.ensures.let_go)
+invariant_of-self-2 c = commit_leaves c.self.invariant c.args.session.0 c.in-Some.txn (sym c.in-Some.ensures.value) c.committed-place.ensures c.number-number.ensures c.len-items.ensures c.push.ensures c.release.ensures c.commit.ensures.let_go c.remove.ensures.removed
 
 pub returns-clause-answer : goal.returns-clause-answer
-returns-clause-answer c = commit_answers c.self.invariant c.args.session.0 c.in-Some.txn (sym c.in-Some.ensures.value) (c.committed-place.result + 1) (ap (λ g. g + 1) c.committed-place.ensures) c.args.self.now (sym c.self.view_is)
+returns-clause-answer c = commit_answers c.self.invariant c.args.session.0 c.in-Some.txn (sym c.in-Some.ensures.value) c.committed-place.ensures c.self.view_is
 
 pub returns-clause-state : goal.returns-clause-state
-returns-clause-state c =
-    commit_state c.self.invariant c.args.session.0 c.in-Some.txn (sym c.in-Some.ensures.value) (c.committed-place.result + 1) (ap (λ g. g + 1) c.committed-place.ensures) c.number-number.result.0 c.number-number.ensures c.len-items.result c.len-items.ensures c.push.new.self c.release.new.self c.push.ensures c.release.ensures c.args.self.now (sym c.self.view_is)
+returns-clause-state c = commit_state c.self.invariant c.args.session.0 c.in-Some.txn (sym c.in-Some.ensures.value) c.committed-place.ensures c.number-number.ensures c.len-items.ensures c.push.ensures c.release.ensures c.self.view_is
 
 pub overflow_add-place : goal.overflow_add-place
 overflow_add-place c =

@@ -1,5 +1,5 @@
 -- A command is settled, and the core after it is that of the history with its record; or it is unheard, and has none.
-use Rattle.std.proofs.Common.{◌≡◌, ◌∷◌, Bool, true, false, OnSome, inl, inr, refl, sym, ap, subst, subst₂, ◌∙◌, true≢false}
+use Rattle.std.proofs.Common.{◌≡◌, Bool, true, false, inl, inr, refl, sym, ap, subst, subst₂, ◌∙◌, true≢false}
 use Rattle.std.specs.Bool.{OnFalse, OnTrue}
 use Rattle.cg_command.proofs.Proper.{proper}
 use Rattle.cg_command.specs.Meaning.{command_of}
@@ -13,8 +13,7 @@ use Rattle.cg_txn.specs.Stack.{Stack}
 use Rattle.cg_core.specs.Answers.{is_memory}
 use Rattle.cg_core.specs.Parts.{IsCoreOf}
 use Rattle.cg_core.specs.Settled.{IsUnheard}
-use Rattle.cg_core.specs.State.{CoreState}
-use Rattle.cg_core.proofs.ReturningParts.{answer_told, state_told, out_refused, history_out, few}
+use Rattle.cg_core.proofs.ReturningParts.{answer_told, state_told, full_told, noted_is, where_lent, out_refused, history_out, few}
 use Rattle.cg_core.proofs.RunCommands.{same_core, run_full}
 use Rattle.cg_core.proofs.Settling.{no_memory, settled_reply, settled_noted, settled_history, settled_core}
 use Rattle.cg_core.proofs.machine.Core.run.Goals as goal
@@ -38,11 +37,11 @@ unheard_told full r a unheard when_full = elim unheard as (λ k. OnFalse (is_mem
 
 pub returns-in_default-clause-answer : goal.returns-in_default-clause-answer
 returns-in_default-clause-answer c =
-    answer_told _ _ _ c.args.session.0 (Do (command_of c.args.command)) c.args.self.now c.self.view_is _ (out_refused c.self.invariant c.args.session.0 (sym c.in_default.ensures.value) (Do (command_of c.args.command)) refl)
+    answer_told c.args.session.0 (Do (command_of c.args.command)) c.self.view_is (out_refused c.self.invariant c.args.session.0 (sym c.in_default.ensures.value) (Do (command_of c.args.command)) refl)
 
 pub returns-in_default-clause-state : goal.returns-in_default-clause-state
 returns-in_default-clause-state c =
-    state_told _ _ _ c.args.session.0 (Do (command_of c.args.command)) c.args.self.now c.self.view_is _
+    state_told c.args.session.0 (Do (command_of c.args.command)) c.self.view_is
     (history_out c.self.invariant c.args.session.0 (sym c.in_default.ensures.value) (Do (command_of c.args.command)) (proper c.args.command) refl refl)
 
 pub settle-requires : goal.settle-requires
@@ -53,8 +52,7 @@ settle-requires c = few c.self.invariant c.args.session.0 c.in-Some.txn.now (sym
 pub invariant_of-self-in-Err : goal.invariant_of-self-in-Err
 invariant_of-self-in-Err c =
     let last : Stack = c.settle.new.txn in
-    let written : c.get_mut.follows.lender last ≡ with_value c.args.session.0 last c.self.inside.open =
-    subst (λ r. OnSome r (c.get_mut.follows.lender last ≡ with_value c.args.session.0 last c.self.inside.open)) c.in-Some.is (c.get_mut.follows.holds last) in
+    let written : c.get_mut.follows.lender last ≡ with_value c.args.session.0 last c.self.inside.open = where_lent c.in-Some.is (c.get_mut.follows.holds last) in
     subst₂ (λ R l. IsCoreOf c.self.inside.opening c.self.inside.limit c.settle.new.history.0 c.settle.new.history.1 R c.settle.new.locks l)
     (sym c.in-Err.ensures.tree) (sym written)
     (subst (λ k. IsCoreOf c.self.inside.opening c.self.inside.limit k.0 k.1 c.self.inside.tree c.settle.new.locks (with_value c.args.session.0 last c.self.inside.open))
@@ -65,43 +63,39 @@ pub returns-in-Err-clause-answer : goal.returns-in-Err-clause-answer
 returns-in-Err-clause-answer c =
     unheard_told _ c.in-Err.refusal _ c.in-Err.ensures.unheard
     (λ full.
-    answer_told _ _ _ c.args.session.0 (Do (command_of c.args.command)) c.args.self.now c.self.view_is _
+    answer_told c.args.session.0 (Do (command_of c.args.command)) c.self.view_is
     (run_full c.self.invariant c.args.session.0 c.in-Some.txn.now (sym c.in-Some.ensures.value) (command_of c.args.command) (proper c.args.command)
-    (ap (λ (v : CoreState). is_full v.bound v.history) c.self.view_is ∙ sym c.is_full-full.ensures ∙ full)))
+    (full_told c.self.view_is c.is_full-full.ensures full)))
 
 -- ---- it is settled
 
 pub invariant_of-self-in-Ok : goal.invariant_of-self-in-Ok
 invariant_of-self-in-Ok c =
     let last : Stack = c.settle.new.txn in
-    let room : is_full c.self.inside.limit c.self.inside.history.0 ≡ false = ap (λ (v : CoreState). is_full v.bound v.history) c.self.view_is ∙ sym c.is_full-full.ensures ∙ c.in-Ok.ensures.room in
-    let written : c.get_mut.follows.lender last ≡ with_value c.args.session.0 last c.self.inside.open =
-    subst (λ r. OnSome r (c.get_mut.follows.lender last ≡ with_value c.args.session.0 last c.self.inside.open)) c.in-Some.is (c.get_mut.follows.holds last) in
+    let room : is_full c.self.inside.limit c.self.inside.history.0 ≡ false = full_told c.self.view_is c.is_full-full.ensures c.in-Ok.ensures.room in
+    let written : c.get_mut.follows.lender last ≡ with_value c.args.session.0 last c.self.inside.open = where_lent c.in-Some.is (c.get_mut.follows.holds last) in
     subst₂ (λ k l. IsCoreOf c.self.inside.opening c.self.inside.limit k c.push.new.self.1 c.settle.new.tree c.settle.new.locks l)
-    (sym (ap (λ p. p.0) c.push.ensures
-    ∙ (λ i. record { session = c.args.session.0; transaction = c.number-number.ensures i; request = Do (command_of c.args.command); answer = c.in-Ok.ensures.alike.recorded i } ∷ c.settle.new.history.0)))
-    (sym written)
+    (sym (noted_is c.number-number.ensures c.in-Ok.ensures.alike.recorded refl c.push.ensures)) (sym written)
     (settled_core c.self.invariant c.args.session.0 c.in-Some.txn.now (sym c.in-Some.ensures.value) (command_of c.args.command) (proper c.args.command) room _ _ _ last c.settle.new.history c.in-Ok.ensures.settled
     c.push.new.self.1 (ap (λ p. p.1) c.push.ensures))
 
 pub returns-in-Ok-clause-answer : goal.returns-in-Ok-clause-answer
 returns-in-Ok-clause-answer c =
-    let room : is_full c.self.inside.limit c.self.inside.history.0 ≡ false = ap (λ (v : CoreState). is_full v.bound v.history) c.self.view_is ∙ sym c.is_full-full.ensures ∙ c.in-Ok.ensures.room in
+    let room : is_full c.self.inside.limit c.self.inside.history.0 ≡ false = full_told c.self.view_is c.is_full-full.ensures c.in-Ok.ensures.room in
     unless _
-    (answer_told _ _ _ c.args.session.0 (Do (command_of c.args.command)) c.args.self.now c.self.view_is _
+    (answer_told c.args.session.0 (Do (command_of c.args.command)) c.self.view_is
     (settled_reply c.self.invariant c.args.session.0 c.in-Some.txn.now (sym c.in-Some.ensures.value) (command_of c.args.command) (proper c.args.command) room _ _ _ _ c.settle.new.history c.in-Ok.ensures.settled))
 
 pub returns-in-Ok-clause-state : goal.returns-in-Ok-clause-state
 returns-in-Ok-clause-state c =
-    let room : is_full c.self.inside.limit c.self.inside.history.0 ≡ false = ap (λ (v : CoreState). is_full v.bound v.history) c.self.view_is ∙ sym c.is_full-full.ensures ∙ c.in-Ok.ensures.room in
+    let room : is_full c.self.inside.limit c.self.inside.history.0 ≡ false = full_told c.self.view_is c.is_full-full.ensures c.in-Ok.ensures.room in
     unless _
-    (state_told _ _ _ c.args.session.0 (Do (command_of c.args.command)) c.args.self.now c.self.view_is _
+    (state_told c.args.session.0 (Do (command_of c.args.command)) c.self.view_is
     (settled_history c.self.invariant c.args.session.0 c.in-Some.txn.now (sym c.in-Some.ensures.value) (command_of c.args.command) (proper c.args.command) room _ _ _ _ c.settle.new.history c.in-Ok.ensures.settled
-    ∙ sym (ap (λ p. p.0) c.push.ensures
-    ∙ (λ i. record { session = c.args.session.0; transaction = c.number-number.ensures i; request = Do (command_of c.args.command); answer = c.in-Ok.ensures.alike.recorded i } ∷ c.settle.new.history.0))))
+    ∙ sym (noted_is c.number-number.ensures c.in-Ok.ensures.alike.recorded refl c.push.ensures)))
 
 pub returns-in-Ok-clause-memory : goal.returns-in-Ok-clause-memory
 returns-in-Ok-clause-memory c =
-    let room : is_full c.self.inside.limit c.self.inside.history.0 ≡ false = ap (λ (v : CoreState). is_full v.bound v.history) c.self.view_is ∙ sym c.is_full-full.ensures ∙ c.in-Ok.ensures.room in
+    let room : is_full c.self.inside.limit c.self.inside.history.0 ≡ false = full_told c.self.view_is c.is_full-full.ensures c.in-Ok.ensures.room in
     let noted = settled_noted c.self.invariant c.args.session.0 c.in-Some.txn.now (sym c.in-Some.ensures.value) (command_of c.args.command) (proper c.args.command) room _ _ _ _ c.settle.new.history c.in-Ok.ensures.settled in
     never _ _ (no_memory (command_of c.args.command) c.in-Ok.answers.given noted)
