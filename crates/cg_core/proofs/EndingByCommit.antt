@@ -54,7 +54,7 @@ module _ {O : Tree} {b : ℕ} {h : History cgroups} {n : ℕ} {R : TreeWithRoom}
   -- few have committed
   pub few_commits : commits h < 4294967295
   few_commits =
-      let few : length h < 4294967295 = few_records core s x here in
+      let few : length h < 4294967295 = few_records core in
       let within : commits h ≤ length h = commits_within h in
       omega (arith, few, within)
 

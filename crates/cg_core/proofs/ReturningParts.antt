@@ -67,6 +67,20 @@ where_lent {A} {P} is holds = subst (λ r. OnSome r P) is holds
 pub no_error : {T E : Type 0} (v : T) (e : E) (b : Bool) → ((Ok v) ≡ Err e) ↔ (b ≡ false) → b ≡ true
 no_error v e b tie = true_from_ne_false b (λ k. true≢false (ap is_ok (tie.1 k)))
 
+-- ---- records and slots are within the bound
+
+module _ {O : Tree} {b : ℕ} {h : History cgroups} {n : ℕ} {R : TreeWithRoom} {H : Holdings} {xs : List (ℕ × Stack)} (core : IsCoreOf O b h n R H xs) where
+  pub few : length h + n ≤ 1048576
+  few =
+      let used : length h + (length (opens h) + live_count (opens h) h) ≤ b = within O b h core.sound core.reached faithful_law core.low in
+      let high : b ≤ 1048576 = core.high in
+      let reserved : n ≡ length (opens h) + live_count (opens h) h = core.reserved in
+      omega (arith, used, high, reserved)
+
+  -- so one more can be counted
+  pub few_records : length h < 4294967295
+  few_records = let all : length h + n ≤ 1048576 = few in omega (arith, all)
+
 -- ---- a session with no open transaction: a request for one is refused, and has no record
 
 module _ {O : Tree} {b : ℕ} {h : History cgroups} {n : ℕ} {R : TreeWithRoom} {H : Holdings} {xs : List (ℕ × Stack)} (core : IsCoreOf O b h n R H xs) (s : ℕ) (none : found s xs ≡ None) (q : Request cgroups) where
@@ -116,18 +130,6 @@ module _ {O : Tree} {b : ℕ} {h : History cgroups} {n : ℕ} {R : TreeWithRoom}
       let counted : live_count (opens h) h ≡ count_on stacks (opens h) = count_is h (opens h) in
       let reserved : n ≡ length (opens h) + live_count (opens h) h = core.reserved in
       omega (arith, all, first, others, counted, reserved)
-
-  -- records and slots are within the bound
-  pub few : length h + n ≤ 1048576
-  few =
-      let used : length h + (length (opens h) + live_count (opens h) h) ≤ b = within O b h core.sound core.reached faithful_law core.low in
-      let high : b ≤ 1048576 = core.high in
-      let reserved : n ≡ length (opens h) + live_count (opens h) h = core.reserved in
-      omega (arith, used, high, reserved)
-
-  -- so one more can be counted
-  pub few_records : length h < 4294967295
-  few_records = let all : length h + n ≤ 1048576 = few in omega (arith, all)
 
   -- the answer is that to its own request
   pub replied : (q : Request cgroups) → reply cgroups O b h s q ≡ reply_in cgroups O b h x.number q

@@ -22,7 +22,7 @@ pub push-requires-clause-reserved : goal.push-requires-clause-reserved
 push-requires-clause-reserved c = slot_for_end c.self.invariant c.args.session.0 c.in-Some.txn (sym c.in-Some.ensures.value)
 
 pub push-requires-clause-few : goal.push-requires-clause-few
-push-requires-clause-few c = few_records c.self.invariant c.args.session.0 c.in-Some.txn (sym c.in-Some.ensures.value)
+push-requires-clause-few c = few_records c.self.invariant
 
 pub release-requires : goal.release-requires
 release-requires c = slots_for_items c.self.invariant c.args.session.0 c.in-Some.txn (sym c.in-Some.ensures.value) c.len-items.ensures c.push.ensures

@@ -24,13 +24,13 @@ overflow_cast-count c =
     let is = sym c.in-Some.ensures.value in
     let there = no_error c.in-Ok.count NoSavepoint (has_savepoint c.args.name c.in-Some.txn.now.items) c.in-Ok.ensures.absent in
     let above = few_come_off c.self.invariant c.args.session.0 c.in-Some.txn.now is c.args.name there in
-    let within = few c.self.invariant c.args.session.0 c.in-Some.txn.now is in
+    let within = few c.self.invariant in
     let slots = slots_there c.self.invariant c.args.session.0 c.in-Some.txn.now is in
     let count : c.in-Ok.count ≡ length (commands_above c.args.name c.in-Some.txn.now.items) = c.in-Ok.ensures.count in
     omega (arith, above, within, slots, count)
 
 pub push-requires-clause-few : goal.push-requires-clause-few
-push-requires-clause-few c = few_records c.self.invariant c.args.session.0 c.in-Some.txn.now (sym c.in-Some.ensures.value)
+push-requires-clause-few c = few_records c.self.invariant
 
 pub overflow_sub-before : goal.overflow_sub-before
 overflow_sub-before c =

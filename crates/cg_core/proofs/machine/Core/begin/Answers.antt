@@ -1,18 +1,17 @@
-use Rattle.std.proofs.Common.{◌≡◌, ◌+◌, ◌-◌, ◌≤◌, ◌∷◌, length, is_some, None, true, false, refl, sym, ap, subst, subst₂, ◌∙◌, arith}
+use Rattle.std.proofs.Common.{◌≡◌, ◌+◌, ◌-◌, ◌<◌, ◌≤◌, ◌∷◌, length, is_some, None, true, false, refl, sym, ap, subst, subst₂, ◌∙◌, arith}
 use Rattle.cg_txn.specs.Stack.{Stack}
 use Rattle.cg_name.specs.declared.refusal.Refusal.TheVariants.{AlreadyOpen}
 use Rattle.cg_model.specs.History.{Begin, Begun, Refused}
 use Rattle.cg_model.specs.Opens.{begins, opens, transaction_in}
-use Rattle.cg_model.specs.Reply.{slots, is_full}
+use Rattle.cg_model.specs.Reply.{is_full}
 use Rattle.cg_history.proofs.Records.{begins_within}
 use Rattle.cg_history.specs.SessionMap.{found}
 use Rattle.cg_core.specs.Parts.{IsCoreOf}
-use Rattle.cg_core.proofs.AtHistory.{within}
 use Rattle.cg_core.proofs.Begun.{already_open, begin_full, begin_reply, begun_core, begun_record}
 use Rattle.cg_core.proofs.Open.{found_told, nothing_there, session_absent, session_none, session_there}
-use Rattle.cg_core.proofs.ReturningParts.{answer_told, state_told, full_told, noted_is}
+use Rattle.cg_core.proofs.ReturningParts.{answer_told, state_told, full_told, noted_is, few_records}
 use Rattle.cg_core.proofs.Stepping.{recorded, stays}
-use Rattle.cg_core.proofs.TheLaws.{faithful_law, steps_law}
+use Rattle.cg_core.proofs.TheLaws.{steps_law}
 use Rattle.cg_core.proofs.machine.Core.begin.Goals as goal
 
 pub returns-then-is_some-clause-answer : goal.returns-then-is_some-clause-answer
@@ -35,9 +34,8 @@ pub overflow_add-number : goal.overflow_add-number
 overflow_add-number c =
     let counted : c.begun.result ≡ begins c.self.inside.history.0 = c.begun.ensures ∙ ap (λ p. begins p.0) c.in-Ok.ensures.ok in
     let records : begins c.self.inside.history.0 ≤ length c.self.inside.history.0 = begins_within c.self.inside.history.0 in
-    let used : slots c.self.inside.history.0 ≤ c.self.inside.limit = within _ _ _ c.self.invariant.sound c.self.invariant.reached faithful_law c.self.invariant.low in
-    let few : c.self.inside.limit ≤ 1048576 = c.self.invariant.high in
-    omega (arith, counted, records, used, few)
+    let few : length c.self.inside.history.0 < 4294967295 = few_records c.self.invariant in
+    omega (arith, counted, records, few)
 
 pub invariant_of-self-2 : goal.invariant_of-self-2
 invariant_of-self-2 c =

@@ -45,7 +45,7 @@ returns-in_default-clause-state c =
     (history_out c.self.invariant c.args.session.0 (sym c.in_default.ensures.value) (Do (command_of c.args.command)) (proper c.args.command) refl refl)
 
 pub settle-requires : goal.settle-requires
-settle-requires c = few c.self.invariant c.args.session.0 c.in-Some.txn.now (sym c.in-Some.ensures.value)
+settle-requires c = few c.self.invariant
 
 -- ---- it is unheard
 

@@ -35,7 +35,7 @@ returns-in-Err-clause-state c =
     (history_not_undone c.self.invariant c.args.session.0 c.in-Some.txn.now (sym c.in-Some.ensures.value) (c.in-Err.ensures.nothing.0 (ap Err c.in-Err.ensures.refusals)))
 
 pub push-requires-clause-few : goal.push-requires-clause-few
-push-requires-clause-few c = few_records c.self.invariant c.args.session.0 c.in-Some.txn.now (sym c.in-Some.ensures.value)
+push-requires-clause-few c = few_records c.self.invariant
 
 pub invariant_of-self-2 : goal.invariant_of-self-2
 invariant_of-self-2 c =
