@@ -1,5 +1,5 @@
 -- A schedule that is played line by line gives its output, and nothing else.
-use Rattle.std.proofs.Common.{◌≡◌, ℕ, ◌≤◌, List, [], ◌∷◌, ◌++◌, length, Some, None, Option, IfSome, refl, sym, ap, subst, ◌∙◌, inl, inr, arith, append_assoc, append-nil, Result, Ok, Err, IfOk, Bool, true, false, true≢false}
+use Rattle.std.proofs.Common.{◌≡◌, ℕ, ◌≤◌, List, [], ◌∷◌, ◌++◌, length, Some, None, Option, IfSome, refl, sym, ap, subst, ◌∙◌, inl, inr, arith, append_assoc, append-nil, Result, Ok, Err, true, false, true≢false}
 use Rattle.std.specs.Result.{is_err}
 use Rattle.std.specs.Io.KnownBytes.{Appends, Keeps}
 use Rattle.cg_name.specs.Refusal.{refusal_text}
@@ -131,14 +131,18 @@ plays_more s t u lines rest line done out p a = record {
 }
 
 -- the same of a source and a sink, where they tell their bytes: what was answered is written, but for what waits
-abbrev pub PlaysKnown : Replay → Option (List ℕ) → Option (List ℕ) → Option (List ℕ) → List ℕ → Replay → Option (List ℕ) → Type 0
-PlaysKnown s None taken taken' waiting t rest = Unit {0}
-PlaysKnown s (Some text) taken taken' waiting t None = ⊥
-PlaysKnown s (Some text) taken taken' waiting t (Some rest) = (done : List ℕ) × Plays s (lines_of text) done t (lines_of rest) × AppendsTo taken taken' done waiting
+abbrev PlaysWhereTold : Replay → Option (List ℕ) → Option (List ℕ) → Option (List ℕ) → List ℕ → Replay → Option (List ℕ) → Type 0
+PlaysWhereTold s None taken taken' waiting t rest = Unit {0}
+PlaysWhereTold s (Some text) taken taken' waiting t None = ⊥
+PlaysWhereTold s (Some text) taken taken' waiting t (Some rest) = (done : List ℕ) × Plays s (lines_of text) done t (lines_of rest) × AppendsTo taken taken' done waiting
+
+-- as a record, which tells of what it is said
+pub record PlaysKnown (s : Replay) (text taken taken' : Option (List ℕ)) (waiting : List ℕ) (t : Replay) (rest : Option (List ℕ)) : Type 0 where
+  pub told : PlaysWhereTold s text taken taken' waiting t rest
 
 pub plays_known_none : (s : Replay) (text taken : Option (List ℕ)) → PlaysKnown s text taken taken [] s text
-plays_known_none s None taken = tt
-plays_known_none s (Some text) taken = ([], plays_none s (lines_of text), ([], refl, Appends-nil taken taken (kept taken)))
+plays_known_none s None taken = record { told = tt }
+plays_known_none s (Some text) taken = record { told = ([], plays_none s (lines_of text), ([], refl, Appends-nil taken taken (kept taken))) }
   where
     kept : (o : Option (List ℕ)) → Keeps o o
     kept None = tt
@@ -147,26 +151,32 @@ plays_known_none s (Some text) taken = ([], plays_none s (lines_of text), ([], r
 -- one line more is answered, and some of what waits is written
 pub plays_known_more : (s t u : Replay) (text rest rest' a b c : Option (List ℕ)) (waiting waiting' : List ℕ) → PlaysKnown s text a b waiting t rest
     → IfSome rest (λ x. (answer : List ℕ) × AnswersFirst t x answer u rest' × AppendsTo b c (waiting ++ answer) waiting') → PlaysKnown s text a c waiting' u rest'
-plays_known_more s t u None rest rest' a b c waiting waiting' p h = tt
-plays_known_more s t u (Some text) None rest' a b c waiting waiting' p h = absurd p
+plays_known_more s t u None rest rest' a b c waiting waiting' p h = record { told = tt }
+plays_known_more s t u (Some text) None rest' a b c waiting waiting' p h = absurd p.told
 plays_known_more s t u (Some text) (Some rest) None a b c waiting waiting' p h = absurd h.1
-plays_known_more s t u (Some text) (Some rest) (Some rest') a b c waiting waiting' p h = (
-  p.0 ++ h.0,
-  plays_more s t u (lines_of text) (lines_of rest') h.1.0 p.0 h.0 (subst (λ ls. Plays s (lines_of text) p.0 t ls) h.1.1 p.1) h.1.2,
-  AppendsTo-longer a b c p.0 waiting h.0 waiting' p.2 h.2,
-)
+plays_known_more s t u (Some text) (Some rest) (Some rest') a b c waiting waiting' p h =
+    let q = p.told in
+    record {
+      told = (
+        q.0 ++ h.0,
+        plays_more s t u (lines_of text) (lines_of rest') h.1.0 q.0 h.0 (subst (λ ls. Plays s (lines_of text) q.0 t ls) h.1.1 q.1) h.1.2,
+        AppendsTo-longer a b c q.0 waiting h.0 waiting' q.2 h.2,
+      );
+    }
 
 -- some of what waits is written
 pub plays_known_on : (s t : Replay) (text rest a b c : Option (List ℕ)) (waiting waiting' : List ℕ) → PlaysKnown s text a b waiting t rest → AppendsTo b c waiting waiting' → PlaysKnown s text a c waiting' t rest
-plays_known_on s t None rest a b c waiting waiting' p h = tt
-plays_known_on s t (Some text) None a b c waiting waiting' p h = absurd p
-plays_known_on s t (Some text) (Some rest) a b c waiting waiting' p h = (p.0, p.1, AppendsTo-on a b c p.0 waiting waiting' p.2 h)
+plays_known_on s t None rest a b c waiting waiting' p h = record { told = tt }
+plays_known_on s t (Some text) None a b c waiting waiting' p h = absurd p.told
+plays_known_on s t (Some text) (Some rest) a b c waiting waiting' p h =
+    let q = p.told in record { told = (q.0, q.1, AppendsTo-on a b c q.0 waiting waiting' q.2 h) }
 
 -- the reader breaks: the lines that it went past are answered, and all of that is written
 pub answers_passed : (s t : Replay) (text rest left a b c : Option (List ℕ)) (waiting : List ℕ) → PlaysKnown s text a b waiting t rest → LosesOfLine rest left → Appends b c waiting → IfSome text (λ x. AnswersPassed s x left a c)
 answers_passed s t None rest left a b c waiting p l w = tt
-answers_passed s t (Some text) None left a b c waiting p l w = absurd p
-answers_passed s t (Some text) (Some rest) left a b c waiting p l w = (p.1.passed, rest, p.1.whole, l, p.0, t, p.1.answered, AppendsTo-whole a b c p.0 waiting p.2 w)
+answers_passed s t (Some text) None left a b c waiting p l w = absurd p.told
+answers_passed s t (Some text) (Some rest) left a b c waiting p l w =
+    let q = p.told in (q.1.passed, rest, q.1.whole, l, q.0, t, q.1.answered, AppendsTo-whole a b c q.0 waiting q.2 w)
 
 -- ---- what was written, seen from the whole
 
@@ -190,11 +200,12 @@ module _ (s : Replay) (text out done : List ℕ) (t : Replay) (rest : List (List
 -- some of what waits at most is written behind the rest
 pub front_waiting : (s t : Replay) (text rest a b c : Option (List ℕ)) (waiting : List ℕ) → PlaysKnown s text a b waiting t rest → AppendsFront b c waiting → FrontOf s text a c
 front_waiting s t None rest a b c waiting p w = tt
-front_waiting s t (Some text) None a b c waiting p w = absurd p
+front_waiting s t (Some text) None a b c waiting p w = absurd p.told
 front_waiting s t (Some text) (Some rest) a b c waiting p w = λ out o.
-    let all = others s text out p.0 t (lines_of rest) p.1 o in
-    subst (λ bytes. AppendsFront a c bytes) (sym (behind_done s text out p.0 t (lines_of rest) p.1 o))
-    (AppendsFront-longer a c p.0 (all.0 ++ ending_text o.last.core) (AppendsTo-front a b c p.0 waiting p.2 w))
+    let q = p.told in
+    let all = others s text out q.0 t (lines_of rest) q.1 o in
+    subst (λ bytes. AppendsFront a c bytes) (sym (behind_done s text out q.0 t (lines_of rest) q.1 o))
+    (AppendsFront-longer a c q.0 (all.0 ++ ending_text o.last.core) (AppendsTo-front a b c q.0 waiting q.2 w))
 
 -- behind the last line nothing is answered but the end
 module _ (s t : Replay) (text rest out : List ℕ) (done : List ℕ) (p : Plays s (lines_of text) done t (lines_of rest)) (e : rest ≡ []) (o : IsOutputFrom s text out) where
@@ -210,20 +221,22 @@ shown_at_end t u waiting shown same e = e ∙ (λ i. waiting ++ ending_text (sam
 
 pub front_end : (s t : Replay) (text rest a b c : Option (List ℕ)) (waiting : List ℕ) → PlaysKnown s text a b waiting t rest → IfSome rest (λ x. x ≡ []) → AppendsFront b c (waiting ++ ending_text t.core) → FrontOf s text a c
 front_end s t None rest a b c waiting p e w = tt
-front_end s t (Some text) None a b c waiting p e w = absurd p
+front_end s t (Some text) None a b c waiting p e w = absurd p.told
 front_end s t (Some text) (Some rest) a b c waiting p e w = λ out o.
-    subst (λ bytes. AppendsFront a c bytes) (sym (output_at_end s t text rest out p.0 p.1 e o))
-    (AppendsTo-front a b c (p.0 ++ ending_text t.core) (waiting ++ ending_text t.core) (AppendsTo-behind a b p.0 waiting (ending_text t.core) p.2) w)
+    let q = p.told in
+    subst (λ bytes. AppendsFront a c bytes) (sym (output_at_end s t text rest out q.0 q.1 e o))
+    (AppendsTo-front a b c (q.0 ++ ending_text t.core) (waiting ++ ending_text t.core) (AppendsTo-behind a b q.0 waiting (ending_text t.core) q.2) w)
 
 pub whole_end : (s t : Replay) (text rest a b c : Option (List ℕ)) (waiting : List ℕ) → PlaysKnown s text a b waiting t rest → IfSome rest (λ x. x ≡ []) → Appends b c (waiting ++ ending_text t.core)
     → IfSome text (λ x. (out : List ℕ) × IsOutputFrom s x out × Appends a c out)
 whole_end s t None rest a b c waiting p e w = tt
-whole_end s t (Some text) None a b c waiting p e w = absurd p
+whole_end s t (Some text) None a b c waiting p e w = absurd p.told
 whole_end s t (Some text) (Some rest) a b c waiting p e w =
-    let q : Plays s (lines_of text) p.0 t [] = subst (λ ls. Plays s (lines_of text) p.0 t ls) (ap lines_of e ∙ lines_of-nil) p.1 in (
-      p.0 ++ ending_text t.core,
-      record { answers = p.0 ++ []; last = t; answered = q.forth [] t (refl, refl); whole = ap (λ x. x ++ ending_text t.core) (sym (append-nil p.0)) },
-      AppendsTo-whole a b c (p.0 ++ ending_text t.core) (waiting ++ ending_text t.core) (AppendsTo-behind a b p.0 waiting (ending_text t.core) p.2) w,
+    let known = p.told in
+    let q : Plays s (lines_of text) known.0 t [] = subst (λ ls. Plays s (lines_of text) known.0 t ls) (ap lines_of e ∙ lines_of-nil) known.1 in (
+      known.0 ++ ending_text t.core,
+      record { answers = known.0 ++ []; last = t; answered = q.forth [] t (refl, refl); whole = ap (λ x. x ++ ending_text t.core) (sym (append-nil known.0)) },
+      AppendsTo-whole a b c (known.0 ++ ending_text t.core) (waiting ++ ending_text t.core) (AppendsTo-behind a b known.0 waiting (ending_text t.core) known.2) w,
     )
 
 pub front_nothing : (s : Replay) (text a : Option (List ℕ)) → FrontOf s text a a
