@@ -48,7 +48,7 @@ pub(crate) fn try_script<G: Gate>(
     ) {
         Ok(()) => finish(rt, alloc, passage, transaction, script, tries),
         Err(stop) => {
-            abort(rt, alloc, passage, transaction);
+            end(rt, alloc, passage, transaction, true);
             refused(stop.line, stop.refusal, tries)
         }
     }
@@ -132,16 +132,11 @@ fn finish<G: Gate>(
     ensures fits { IfSome result (λ end. Fits (vec_len script.now.requests) script.now.aborts end) }
 {
     let line = script.requests.len() as u32 + 1;
-    if script.aborts {
-        match abort(rt, alloc, passage, transaction) {
-            Answer::Aborted(_) => Some(ScriptEnd::Aborted { tries }),
-            other => refused(line, refusal_in(other), tries),
-        }
-    } else {
-        match commit(rt, alloc, passage, transaction) {
-            Answer::Committed(number) => Some(ScriptEnd::Committed { number, tries }),
-            other => refused(line, refusal_in(other), tries),
-        }
+    let answer = end(rt, alloc, passage, transaction, script.aborts);
+    match (script.aborts, answer) {
+        (true, Answer::Aborted(_)) => Some(ScriptEnd::Aborted { tries }),
+        (false, Answer::Committed(number)) => Some(ScriptEnd::Committed { number, tries }),
+        (_, other) => refused(line, refusal_in(other), tries),
     }
 }
 
@@ -153,28 +148,20 @@ fn refusal_in(answer: Answer) -> Refusal {
     }
 }
 
-// Commits.
-fn commit<G: Gate>(
+// Aborts, or commits.
+fn end<G: Gate>(
     rt: &impl Wait,
     alloc: Global,
     passage: &mut Passage<G>,
     transaction: Transaction,
+    aborts: bool,
 ) -> Answer {
     passage.enter();
-    let answer = transaction.commit(rt, alloc);
-    passage.leave();
-    answer
-}
-
-// Aborts.
-fn abort<G: Gate>(
-    rt: &impl Wait,
-    alloc: Global,
-    passage: &mut Passage<G>,
-    transaction: Transaction,
-) -> Answer {
-    passage.enter();
-    let answer = transaction.abort(rt, alloc);
+    let answer = if aborts {
+        transaction.abort(rt, alloc)
+    } else {
+        transaction.commit(rt, alloc)
+    };
     passage.leave();
     answer
 }

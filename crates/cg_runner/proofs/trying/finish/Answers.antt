@@ -7,9 +7,3 @@ returns-in_default g c = record {
   tries = c.refused.ensures.tries;
   fits = c.refused.ensures.fits (vec_len c.args.script.now.requests) c.args.script.now.aborts (omega arith);
 }
-
-pub returns-in_default-commit : goal.returns-in_default-commit
-returns-in_default-commit g c = record {
-  tries = c.refused-in_default-commit.ensures.tries;
-  fits = c.refused-in_default-commit.ensures.fits (vec_len c.args.script.now.requests) c.args.script.now.aborts (omega arith);
-}
