@@ -1,16 +1,16 @@
 //! What each accepted command changes, and the inverse of that.
-ghost use Rattle.std.specs.Prelude.{◌≡◌, ◌∷◌, [], Some, IfOk, OnOk, OnErr};
-ghost use Rattle.cg_inverse.specs.Meaning.{change_of, edit_left};
-ghost use Rattle.cg_model.specs.Change.{done};
+ghost use Rattle.std.specs.Prelude.{◌≡◌, ◌∷◌, [], IfOk, OnOk, OnErr};
+ghost use Rattle.cg_command.specs.Applied.{IsCarriedOut};
+ghost use Rattle.cg_inverse.specs.Meaning.{change_of, edit_left, HasRoomIn};
 ghost use Rattle.cg_model.specs.Command as model;
 ghost use Rattle.cg_model.specs.Command.{IsAccepted};
 ghost use Rattle.cg_model.specs.Effect.{effect};
 ghost use Rattle.cg_model.specs.Key.{put};
 ghost use Rattle.cg_model.specs.Room.{RoomFor};
-ghost use Rattle.cg_model.specs.System.{Accept, Done, Text};
 ghost use Rattle.cg_tree.specs.Edit.{RoomForEdit};
-ghost use Rattle.cg_tree.specs.Room.{has_entry, with_entry};
+ghost use Rattle.cg_tree.specs.Room.{has_entry};
 
+use crate::command::Outcome;
 use cg_cpus::CpuSet;
 use cg_inverse::{Change, Inverse};
 use cg_name::Path;
@@ -20,13 +20,13 @@ use std::alloc::{AllocError, Global};
 
 // Makes the group at the path, with the settings of a new one.
 #[tactic(auto, unfolding(cg_model::specs::Effect::effect))]
-pub(crate) fn create(path: &Path, alloc: Global, tree: &mut Tree) -> Result<Inverse, AllocError>
+pub(crate) fn create(
+    path: &Path,
+    alloc: Global,
+    tree: &mut Tree,
+) -> Result<(Outcome, Inverse), AllocError>
     requires { IsAccepted (effect (model.Create path.now) tree.old.tree) }
-    ensures effect { IfOk result (λ i. effect (model.Create path.now) tree.old.tree ≡ Accept Done i) }
-    ensures tree { IfOk result (λ i. tree.new.tree ≡ done i tree.old.tree) }
-    ensures room { IfOk result (λ i. RoomFor (has_entry tree.new) i) }
-    ensures entries { OnOk result (tree.new.entries ≡ with_entry (Some path.now) tree.old.entries) }
-    ensures err { OnErr result (tree.new ≡ tree.old) }
+    ensures { IsCarriedOut (model.Create path.now) tree.old result tree.new }
 {
     let edit = Edit::Group {
         path: path.copy(alloc)?,
@@ -42,31 +42,28 @@ pub(crate) fn create(path: &Path, alloc: Global, tree: &mut Tree) -> Result<Inve
     )?;
     tree.make_room(alloc, &edit)?;
     tree.put_edit(edit);
-    Ok(inverse)
+    Ok((Outcome::Done, inverse))
 }
 
 // Takes the group at the path away. Its entry stays.
 #[tactic(auto, unfolding(cg_model::specs::Effect::effect))]
-pub(crate) fn remove(path: &Path, alloc: Global, tree: &mut Tree) -> Result<Inverse, AllocError>
+pub(crate) fn remove(
+    path: &Path,
+    alloc: Global,
+    tree: &mut Tree,
+) -> Result<(Outcome, Inverse), AllocError>
     requires { IsAccepted (effect (model.Remove path.now) tree.old.tree) }
-    ensures effect { IfOk result (λ i. effect (model.Remove path.now) tree.old.tree ≡ Accept Done i) }
-    ensures tree { IfOk result (λ i. tree.new.tree ≡ done i tree.old.tree) }
-    ensures room { IfOk result (λ i. RoomFor (has_entry tree.new) i) }
-    ensures entries { tree.new.entries ≡ tree.old.entries }
-    ensures err { OnErr result (tree.new ≡ tree.old) }
+    ensures { IsCarriedOut (model.Remove path.now) tree.old result tree.new }
 {
     let before = tree.settings(path);
     // A tree tells what holds of it when it is asked for a group.
     let _ = tree.find(path);
-    change_one(
-        alloc,
-        Change::Group {
-            path: path.copy(alloc)?,
-            before,
-            left: None,
-        },
-        tree,
-    )
+    let change = Change::Group {
+        path: path.copy(alloc)?,
+        before,
+        left: None,
+    };
+    Ok((Outcome::Done, change_one(alloc, change, tree)?))
 }
 
 // Moves the process into the group.
@@ -76,17 +73,13 @@ pub(crate) fn migrate(
     path: &Path,
     alloc: Global,
     tree: &mut Tree,
-) -> Result<Inverse, AllocError>
+) -> Result<(Outcome, Inverse), AllocError>
     requires { IsAccepted (effect (model.Migrate pid path.now) tree.old.tree) }
-    ensures effect { IfOk result (λ i. effect (model.Migrate pid path.now) tree.old.tree ≡ Accept Done i) }
-    ensures tree { IfOk result (λ i. tree.new.tree ≡ done i tree.old.tree) }
-    ensures room { IfOk result (λ i. RoomFor (has_entry tree.new) i) }
-    ensures entries { tree.new.entries ≡ tree.old.entries }
-    ensures err { OnErr result (tree.new ≡ tree.old) }
+    ensures { IsCarriedOut (model.Migrate pid path.now) tree.old result tree.new }
 {
     let Some(before) = tree.location(alloc, pid)? else {
-        // Not reached: the process of an accepted command is there.
-        return Ok(Inverse::new(alloc));
+        // The process of an accepted command is there.
+        unreachable!()
     };
     // As above.
     let _ = tree.find(path);
@@ -95,7 +88,7 @@ pub(crate) fn migrate(
         before,
         left: path.copy(alloc)?,
     };
-    change_one(alloc, change, tree)
+    Ok((Outcome::Done, change_one(alloc, change, tree)?))
 }
 
 // Writes `cgroup.freeze`.
@@ -105,24 +98,20 @@ pub(crate) fn freeze(
     value: bool,
     alloc: Global,
     tree: &mut Tree,
-) -> Result<Inverse, AllocError>
+) -> Result<(Outcome, Inverse), AllocError>
     requires { IsAccepted (effect (model.Freeze path.now value) tree.old.tree) }
-    ensures effect { IfOk result (λ i. effect (model.Freeze path.now value) tree.old.tree ≡ Accept Done i) }
-    ensures tree { IfOk result (λ i. tree.new.tree ≡ done i tree.old.tree) }
-    ensures room { IfOk result (λ i. RoomFor (has_entry tree.new) i) }
-    ensures entries { tree.new.entries ≡ tree.old.entries }
-    ensures err { OnErr result (tree.new ≡ tree.old) }
+    ensures { IsCarriedOut (model.Freeze path.now value) tree.old result tree.new }
 {
     let Some(settings) = tree.settings(path) else {
-        // Not reached: the group of an accepted command is there.
-        return Ok(Inverse::new(alloc));
+        // The group of an accepted command is there.
+        unreachable!()
     };
     let change = Change::Freeze {
         path: path.copy(alloc)?,
         before: settings.freeze,
         left: value,
     };
-    change_one(alloc, change, tree)
+    Ok((Outcome::Done, change_one(alloc, change, tree)?))
 }
 
 // The inverse of one change.
@@ -134,11 +123,13 @@ fn one(alloc: Global, change: Change) -> Result<Inverse, AllocError>
     Ok(inverse)
 }
 
-// Makes the change, which needs no entry that isn't there, and gives its inverse.
+// Makes the change, for which and for undoing which the entries are there, and gives its inverse.
 fn change_one(alloc: Global, change: Change, tree: &mut Tree) -> Result<Inverse, AllocError>
-    requires { RoomForEdit tree.old (edit_left change) }
+    requires made { RoomForEdit tree.old (edit_left change) }
+    requires undone { HasRoomIn tree.old (change_of change) }
     ensures ok { IfOk result (λ i. i ≡ change_of change ∷ []) }
     ensures tree { OnOk result (tree.new.tree ≡ put (change_of change).key (change_of change).left tree.old.tree) }
+    ensures room { IfOk result (λ i. RoomFor (has_entry tree.new) i) }
     ensures entries { tree.new.entries ≡ tree.old.entries }
     ensures err { OnErr result (tree.new ≡ tree.old) }
 {
@@ -155,24 +146,20 @@ pub(crate) fn cpus(
     value: CpuSet,
     alloc: Global,
     tree: &mut Tree,
-) -> Result<Inverse, AllocError>
+) -> Result<(Outcome, Inverse), AllocError>
     requires { IsAccepted (effect (model.Cpus path.now value) tree.old.tree) }
-    ensures effect { IfOk result (λ i. effect (model.Cpus path.now value) tree.old.tree ≡ Accept Done i) }
-    ensures tree { IfOk result (λ i. tree.new.tree ≡ done i tree.old.tree) }
-    ensures room { IfOk result (λ i. RoomFor (has_entry tree.new) i) }
-    ensures entries { tree.new.entries ≡ tree.old.entries }
-    ensures err { OnErr result (tree.new ≡ tree.old) }
+    ensures { IsCarriedOut (model.Cpus path.now value) tree.old result tree.new }
 {
     let Some(settings) = tree.settings(path) else {
         // As above.
-        return Ok(Inverse::new(alloc));
+        unreachable!()
     };
     let change = Change::Cpus {
         path: path.copy(alloc)?,
         before: settings.cpus,
         left: value,
     };
-    change_one(alloc, change, tree)
+    Ok((Outcome::Done, change_one(alloc, change, tree)?))
 }
 
 // Writes `cgroup.max.descendants`.
@@ -182,24 +169,20 @@ pub(crate) fn max_descendants(
     limit: Limit,
     alloc: Global,
     tree: &mut Tree,
-) -> Result<Inverse, AllocError>
+) -> Result<(Outcome, Inverse), AllocError>
     requires { IsAccepted (effect (model.MaxDescendants path.now limit) tree.old.tree) }
-    ensures effect { IfOk result (λ i. effect (model.MaxDescendants path.now limit) tree.old.tree ≡ Accept Done i) }
-    ensures tree { IfOk result (λ i. tree.new.tree ≡ done i tree.old.tree) }
-    ensures room { IfOk result (λ i. RoomFor (has_entry tree.new) i) }
-    ensures entries { tree.new.entries ≡ tree.old.entries }
-    ensures err { OnErr result (tree.new ≡ tree.old) }
+    ensures { IsCarriedOut (model.MaxDescendants path.now limit) tree.old result tree.new }
 {
     let Some(settings) = tree.settings(path) else {
         // As above.
-        return Ok(Inverse::new(alloc));
+        unreachable!()
     };
     let change = Change::MaxDescendants {
         path: path.copy(alloc)?,
         before: settings.max_descendants,
         left: limit,
     };
-    change_one(alloc, change, tree)
+    Ok((Outcome::Done, change_one(alloc, change, tree)?))
 }
 
 // Writes `cgroup.max.depth`.
@@ -209,55 +192,51 @@ pub(crate) fn max_depth(
     limit: Limit,
     alloc: Global,
     tree: &mut Tree,
-) -> Result<Inverse, AllocError>
+) -> Result<(Outcome, Inverse), AllocError>
     requires { IsAccepted (effect (model.MaxDepth path.now limit) tree.old.tree) }
-    ensures effect { IfOk result (λ i. effect (model.MaxDepth path.now limit) tree.old.tree ≡ Accept Done i) }
-    ensures tree { IfOk result (λ i. tree.new.tree ≡ done i tree.old.tree) }
-    ensures room { IfOk result (λ i. RoomFor (has_entry tree.new) i) }
-    ensures entries { tree.new.entries ≡ tree.old.entries }
-    ensures err { OnErr result (tree.new ≡ tree.old) }
+    ensures { IsCarriedOut (model.MaxDepth path.now limit) tree.old result tree.new }
 {
     let Some(settings) = tree.settings(path) else {
         // As above.
-        return Ok(Inverse::new(alloc));
+        unreachable!()
     };
     let change = Change::MaxDepth {
         path: path.copy(alloc)?,
         before: settings.max_depth,
         left: limit,
     };
-    change_one(alloc, change, tree)
+    Ok((Outcome::Done, change_one(alloc, change, tree)?))
 }
 
 // Sets which CPUs are online.
 #[tactic(auto, unfolding(cg_model::specs::Effect::effect))]
-pub(crate) fn online(value: CpuSet, alloc: Global, tree: &mut Tree) -> Result<Inverse, AllocError>
-    ensures effect { IfOk result (λ i. effect (model.Online value) tree.old.tree ≡ Accept Done i) }
-    ensures tree { IfOk result (λ i. tree.new.tree ≡ done i tree.old.tree) }
-    ensures room { IfOk result (λ i. RoomFor (has_entry tree.new) i) }
-    ensures entries { tree.new.entries ≡ tree.old.entries }
-    ensures err { OnErr result (tree.new ≡ tree.old) }
+pub(crate) fn online(
+    value: CpuSet,
+    alloc: Global,
+    tree: &mut Tree,
+) -> Result<(Outcome, Inverse), AllocError>
+    ensures { IsCarriedOut (model.Online value) tree.old result tree.new }
 {
     let change = Change::Online {
         before: tree.online(),
         left: value,
     };
-    change_one(alloc, change, tree)
+    Ok((Outcome::Done, change_one(alloc, change, tree)?))
 }
 
-// The text of the file.
+// Tells the text of the file.
 #[tactic(auto, unfolding(cg_model::specs::Effect::effect))]
 pub(crate) fn show(
     path: &Path,
     file: FileName,
     alloc: Global,
     tree: &Tree,
-) -> Result<Vec<u8>, AllocError>
+) -> Result<(Outcome, Inverse), AllocError>
     requires { IsAccepted (effect (model.Show path.now file) tree.now.tree) }
-    ensures { IfOk result (λ text. effect (model.Show path.now file) tree.now.tree ≡ Accept (Text text.items) []) }
+    ensures { IsCarriedOut (model.Show path.now file) tree.now result tree.now }
 {
     match cg_derive::file(alloc, tree, path, file) {
-        Ok(text) => Ok(text),
+        Ok(text) => Ok((Outcome::Text(text), Inverse::new(alloc))),
         // Not reached but for memory: the file of an accepted command is there.
         Err(_) => Err(AllocError),
     }

@@ -1,7 +1,7 @@
 //! The ten commands (the kernel's cgroup-v2 page, "Organizing Processes and Threads", "Core Interface Files" and "Cpuset
 //! Interface Files").
 ghost use Rattle.std.specs.Prelude.{◌≡◌, IfOk, IfErr, OnErr, OnOk};
-ghost use Rattle.cg_command.specs.Applied.{entries_after, outcome_of, Applied};
+ghost use Rattle.cg_command.specs.Applied.{entries_after, outcome_of, IsCarriedOut};
 ghost use Rattle.cg_command.specs.Meaning.{command_of};
 ghost use Rattle.cg_model.specs.Change.{done, undone, Fits};
 ghost use Rattle.cg_model.specs.Command.{IsAccepted};
@@ -188,38 +188,19 @@ impl Command {
     // Changes the tree as the accepted command does.
     fn run(&self, alloc: Global, tree: &mut Tree) -> Result<(Outcome, Inverse), AllocError>
         requires { IsAccepted (effect (command_of self.now) tree.old.tree) }
-        ensures applied { IfOk result (λ r. Applied (command_of self.now) tree.old (outcome_of r.0) r.1 tree.new) }
-        ensures entries { OnOk result (tree.new.entries ≡ entries_after (command_of self.now) tree.old.entries) }
-        ensures err { OnErr result (tree.new ≡ tree.old) }
+        ensures { IsCarriedOut (command_of self.now) tree.old result tree.new }
     {
         match self {
-            Command::Create { path } => Ok((Outcome::Done, create(path, alloc, tree)?)),
-            Command::Remove { path } => Ok((Outcome::Done, remove(path, alloc, tree)?)),
-            Command::Migrate { pid, path } => {
-                Ok((Outcome::Done, migrate(*pid, path, alloc, tree)?))
-            }
-            Command::Subtree { path, ops } => {
-                Ok((Outcome::Done, subtree(path, *ops, alloc, tree)?))
-            }
-            Command::Freeze { path, value } => {
-                Ok((Outcome::Done, freeze(path, *value, alloc, tree)?))
-            }
-            Command::Cpus { path, cpus } => {
-                Ok((Outcome::Done, apply::cpus(path, *cpus, alloc, tree)?))
-            }
-            Command::Show { path, file } => {
-                Ok((
-                    Outcome::Text(show(path, *file, alloc, tree)?),
-                    Inverse::new(alloc),
-                ))
-            }
-            Command::Online { cpus } => Ok((Outcome::Done, online(cpus.cpus, alloc, tree)?)),
-            Command::MaxDescendants { path, limit } => {
-                Ok((Outcome::Done, max_descendants(path, *limit, alloc, tree)?))
-            }
-            Command::MaxDepth { path, limit } => {
-                Ok((Outcome::Done, max_depth(path, *limit, alloc, tree)?))
-            }
+            Command::Create { path } => create(path, alloc, tree),
+            Command::Remove { path } => remove(path, alloc, tree),
+            Command::Migrate { pid, path } => migrate(*pid, path, alloc, tree),
+            Command::Subtree { path, ops } => subtree(path, *ops, alloc, tree),
+            Command::Freeze { path, value } => freeze(path, *value, alloc, tree),
+            Command::Cpus { path, cpus } => apply::cpus(path, *cpus, alloc, tree),
+            Command::Show { path, file } => show(path, *file, alloc, tree),
+            Command::Online { cpus } => online(cpus.cpus, alloc, tree),
+            Command::MaxDescendants { path, limit } => max_descendants(path, *limit, alloc, tree),
+            Command::MaxDepth { path, limit } => max_depth(path, *limit, alloc, tree),
         }
     }
 }

@@ -1,18 +1,16 @@
 //! What a write to `cgroup.subtree_control` changes: the control of the group, and where the `cpuset` controller goes the
 //! CPUs that its children ask for.
-ghost use Rattle.std.specs.Prelude.{◌≡◌, ◌++◌, [], cond, IfOk, OnOk, OnErr, map};
+ghost use Rattle.std.specs.Prelude.{◌≡◌, ◌++◌, [], cond, IfOk, OnOk, map};
+ghost use Rattle.cg_command.specs.Applied.{IsCarriedOut};
 ghost use Rattle.cg_command.specs.Subtree.{all_edited, NeedNoEntry};
 ghost use Rattle.cg_inverse.specs.Meaning.{edit_left};
-ghost use Rattle.cg_model.specs.Change.{done};
 ghost use Rattle.cg_model.specs.Command as model;
 ghost use Rattle.cg_model.specs.Command.{IsAccepted};
 ghost use Rattle.cg_model.specs.Control.{controlled, emptied, loses_cpuset, planned};
 ghost use Rattle.cg_model.specs.Derived.{children};
 ghost use Rattle.cg_model.specs.Effect.{effect};
-ghost use Rattle.cg_model.specs.Room.{RoomFor};
-ghost use Rattle.cg_model.specs.System.{Accept, Done};
-ghost use Rattle.cg_tree.specs.Room.{has_entry};
 
+use crate::command::Outcome;
 use cg_cpus::CpuSet;
 use cg_inverse::{Change, Inverse};
 use cg_name::Path;
@@ -27,23 +25,19 @@ pub(crate) fn subtree(
     ops: ControlOps,
     alloc: Global,
     tree: &mut Tree,
-) -> Result<Inverse, AllocError>
+) -> Result<(Outcome, Inverse), AllocError>
     requires { IsAccepted (effect (model.Subtree path.now ops) tree.old.tree) }
-    ensures effect { IfOk result (λ i. effect (model.Subtree path.now ops) tree.old.tree ≡ Accept Done i) }
-    ensures tree { IfOk result (λ i. tree.new.tree ≡ done i tree.old.tree) }
-    ensures room { IfOk result (λ i. RoomFor (has_entry tree.new) i) }
-    ensures entries { tree.new.entries ≡ tree.old.entries }
-    ensures err { OnErr result (tree.new ≡ tree.old) }
+    ensures { IsCarriedOut (model.Subtree path.now ops) tree.old result tree.new }
 {
     let Some(settings) = tree.settings(path) else {
-        // Not reached: the group of an accepted command is there.
-        return Ok(Inverse::new(alloc));
+        // The group of an accepted command is there.
+        unreachable!()
     };
     let left = planned(settings.control, ops);
     let inverse = changes_of(path, settings.control, left, alloc, tree)?;
     let edits = edits_of(inverse.changes(), alloc)?;
     put_all(edits, tree);
-    Ok(inverse)
+    Ok((Outcome::Done, inverse))
 }
 
 // The changes of a write that leaves this set.

@@ -13,20 +13,22 @@ put_all-requires c =
     let parts = controlled_parts c.args.path.now c.in-Some.settings.control c.planned-left.result (children c.args.tree.now.tree c.args.path.now) in
     subst NeedNoEntry (sym c.in_ok-edits.ensures) (parts_need_none c.changes.result.now (subst AreParts (sym (c.changes.ensures ∙ c.in_ok-inverse.ensures)) parts))
 
-pub returns-clause-effect : goal.returns-clause-effect
-returns-clause-effect c =
-    subtree_does c.args.tree.now.tree c.args.path.now c.args.ops c.in-Some.settings (sym c.in-Some.ensures) c.requires
-    ∙ ap (λ t. Accept Done (controlled c.args.path.now c.in-Some.settings.control t (children c.args.tree.now.tree c.args.path.now))) (sym c.planned-left.ensures)
-    ∙ ap (Accept Done) (sym c.in_ok-inverse.ensures)
-
-pub returns-clause-tree : goal.returns-clause-tree
-returns-clause-tree c =
-    c.put_all.ensures.tree
-    ∙ ap (λ es. all_edited es c.args.tree.now.tree) c.in_ok-edits.ensures
-    ∙ edits_make_changes c.changes.result.now c.args.tree.now.tree
-    ∙ ap (λ cs. done cs c.args.tree.now.tree) c.changes.ensures
-
-pub returns-clause-room : goal.returns-clause-room
-returns-clause-room c =
-    let parts = controlled_parts c.args.path.now c.in-Some.settings.control c.planned-left.result (children c.args.tree.now.tree c.args.path.now) in
-    parts_have_room _ c.in_ok-inverse.inverse (subst AreParts (sym c.in_ok-inverse.ensures) parts)
+pub returns : goal.returns
+returns c = record {
+  ok = record {
+    effect =
+        subtree_does c.args.tree.now.tree c.args.path.now c.args.ops c.in-Some.settings (sym c.in-Some.ensures) c.requires
+        ∙ ap (λ t. Accept Done (controlled c.args.path.now c.in-Some.settings.control t (children c.args.tree.now.tree c.args.path.now))) (sym c.planned-left.ensures)
+        ∙ ap (Accept Done) (sym c.in_ok-inverse.ensures);
+    tree =
+        c.put_all.ensures.tree
+        ∙ ap (λ es. all_edited es c.args.tree.now.tree) c.in_ok-edits.ensures
+        ∙ edits_make_changes c.changes.result.now c.args.tree.now.tree
+        ∙ ap (λ cs. done cs c.args.tree.now.tree) c.changes.ensures;
+    room =
+        let parts = controlled_parts c.args.path.now c.in-Some.settings.control c.planned-left.result (children c.args.tree.now.tree c.args.path.now) in
+        parts_have_room _ c.in_ok-inverse.inverse (subst AreParts (sym c.in_ok-inverse.ensures) parts);
+    entries = c.put_all.ensures.entries;
+  };
+  err = tt;
+}
