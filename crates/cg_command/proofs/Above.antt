@@ -1,11 +1,11 @@
 -- The paths above a path, one by one.
-use Rattle.std.proofs.Common.{◌≡◌, ℕ, zero, suc, ◌+◌, ◌-◌, ◌<◌, ◌||◌, nat_le, Bool, true, cond, [], ◌∷◌, drop, length, take, None, refl, sym, ap, ◌∙◌, arith}
+use Rattle.std.proofs.Common.{◌≡◌, ℕ, zero, suc, ◌+◌, ◌-◌, ◌<◌, ◌||◌, nat_le, Bool, true, cond, [], ◌∷◌, drop, length, take, None, refl, ap, ◌∙◌, arith}
 use Rattle.std.proofs.lemmas.Bool.Decides.{nat_tests}
 use Rattle.std.proofs.lemmas.List.{length-take}
-use Rattle.std.specs.List.{list_any}
+use Rattle.std.specs.List.{list_any, range_with_len}
 use Rattle.cg_name.specs.Path.{Path, along}
 use Rattle.cg_model.specs.Derived.{descendants}
-use Rattle.cg_model.specs.Groups.{exceeds_depth, reaches_descendants}
+use Rattle.cg_model.specs.Groups.{any_above, exceeds_depth, reaches_descendants}
 use Rattle.cg_model.specs.Tree.{Tree, group}
 use Rattle.cg_tree.specs.Prefix.{prefix_group}
 
@@ -18,18 +18,16 @@ pub end_along : {A : Type 0} (f : Path → A) (p : Path) → drop (length p) (al
 end_along f [] = refl
 end_along f (m ∷ p) = end_along (λ q. f (m ∷ q)) p
 
--- the test passes at one of the paths above p that have n names or more
-abbrev pub from_depth : (Path → Bool) → Path → ℕ → Bool
-from_depth f p n = list_any (λ b. b) (drop n (along f p))
+tested_from : (f : Path → Bool) (p : Path) (test : ℕ → Bool) (k : ℕ) → ((i n : ℕ) → i ≡ k + n → n < length p → test i ≡ f (take n p)) → list_any test (range_with_len k (length p)) ≡ any_above f p
+tested_from f [] test k h = refl
+tested_from f (m ∷ p) test k h =
+    let first : test k ≡ f [] = h k 0 (omega arith) (omega arith) in
+    let others = tested_from (λ q. f (m ∷ q)) p test (k + 1) (λ i n e l. h i (suc n) (omega (arith, e)) (omega (arith, l))) in
+    (λ i. first i || others i)
 
--- it does where it passes at that of n names, or at a longer one
-pub next_depth : (f : Path → Bool) (p : Path) (n : ℕ) (b : Bool) → n < length p → b ≡ f (take n p) → b || from_depth f p (n + 1) ≡ from_depth f p n
-next_depth f p n b h e =
-    let one : n + 1 ≡ suc n = omega arith in
-    ap (λ x. x || from_depth f p (n + 1)) e ∙ ap (λ k. f (take n p) || from_depth f p k) one ∙ ap (list_any (λ b. b)) (sym (next_along f p n h))
-
-pub end_of_depths : (f : Path → Bool) (p : Path) (n : ℕ) → n ≡ length p → from_depth f p n ≡ list_any (λ b. b) []
-end_of_depths f p n e = ap (from_depth f p) e ∙ ap (list_any (λ b. b)) (end_along f p)
+-- what is tested of each number of names is tested of each path above
+pub tested_above : (f : Path → Bool) (p : Path) (test : ℕ → Bool) → ((n : ℕ) → n < length p → test n ≡ f (take n p)) → list_any test (range_with_len 0 (length p)) ≡ any_above f p
+tested_above f p test h = tested_from f p test 0 (λ i n e l. ap test (omega (arith, e)) ∙ h n l)
 
 pub within : (T : Tree) (p : Path) (n : ℕ) → n < length p → prefix_group T p n ≡ group T (take n p)
 within T p n h = let b : nat_le n (length p) ≡ true = grind (arith, nat_tests, h) in ap (λ t. cond t (group T (take n p)) None) b

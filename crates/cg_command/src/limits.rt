@@ -13,24 +13,14 @@ use cg_tree::Tree;
 pub(crate) fn too_many(path: &Path, tree: &Tree) -> bool
     ensures { result ≡ too_many tree.now.tree path.now }
 {
-    for above in 0..path.depth() {
-        if reaches_descendants(path, above, tree) {
-            return true;
-        }
-    }
-    false
+    (0..path.depth()).any(|above| reaches_descendants(path, above, tree))
 }
 
 /// Whether the path is deeper below some group than that group allows.
 pub(crate) fn too_deep(path: &Path, tree: &Tree) -> bool
     ensures { result ≡ too_deep tree.now.tree path.now }
 {
-    for above in 0..path.depth() {
-        if exceeds_depth(path, above, tree) {
-            return true;
-        }
-    }
-    false
+    (0..path.depth()).any(|above| exceeds_depth(path, above, tree))
 }
 
 // Whether the group at the first names has as many descendants as it may have.

@@ -1,29 +1,17 @@
--- The path of the next depth is asked.
-use Rattle.std.proofs.Common.{◌≡◌, ◌+◌, ◌-◌, ◌<◌, ◌||◌, Bool, length, sym, subst, ap, ◌∙◌, arith}
+-- Each path above is asked.
+use Rattle.std.proofs.Common.{◌∙◌, ◌-◌, ℕ, Bool, length, refl, arith, rules}
+use Rattle.std.proofs.lemmas.Iterator.{YieldsList-from_range}
+use Rattle.std.proofs.lemmas.Iterator.Search.{any_from_yields_List}
 use Rattle.cg_model.specs.Groups.{exceeds_depth}
 use Rattle.cg_model.specs.Tree.{group}
-use Rattle.cg_name.specs.Path.{Path}
-use Rattle.cg_command.proofs.Above.{from_depth, next_depth, end_of_depths, asked_of_depth}
+use Rattle.cg_tree.specs.Prefix.{prefix_group}
+use Rattle.cg_command.proofs.Above.{tested_above, asked_of_depth}
 use Rattle.cg_command.proofs.limits.too_deep.Goals as goal
-
-pub returns-then-exceeds_depth : goal.returns-then-exceeds_depth
-returns-then-exceeds_depth c =
-    let f : Path → Bool = (λ a. exceeds_depth (group c.args.tree.now.tree a) (length c.args.path.now - length a)) in
-    let low : c.loop-above.above < length c.args.path.now = subst (λ n. c.loop-above.above < n) c.depth-above-end.ensures.value c.loop-above-test.true in
-    ap (λ b. b || from_depth f c.args.path.now (c.loop-above.above + 1)) (sym c.if-exceeds_depth.true)
-    ∙ next_depth f c.args.path.now c.loop-above.above c.exceeds_depth.result low (c.exceeds_depth.ensures ∙ asked_of_depth c.args.tree.now.tree c.args.path.now c.loop-above.above low)
-    ∙ c.loop-above.invariant
-
-pub loop-above-preserved : goal.loop-above-preserved
-loop-above-preserved c =
-    let f : Path → Bool = (λ a. exceeds_depth (group c.args.tree.now.tree a) (length c.args.path.now - length a)) in
-    let low : c.loop-above.above < length c.args.path.now = subst (λ n. c.loop-above.above < n) c.depth-above-end.ensures.value c.loop-above-test.true in
-    ap (λ b. b || from_depth f c.args.path.now (c.loop-above.above + 1)) (sym c.if-exceeds_depth.false)
-    ∙ next_depth f c.args.path.now c.loop-above.above c.exceeds_depth.result low (c.exceeds_depth.ensures ∙ asked_of_depth c.args.tree.now.tree c.args.path.now c.loop-above.above low)
-    ∙ c.loop-above.invariant
 
 pub returns : goal.returns
 returns c =
-    let f : Path → Bool = (λ a. exceeds_depth (group c.args.tree.now.tree a) (length c.args.path.now - length a)) in
-    let whole : c.loop-above.above ≡ length c.args.path.now = omega (arith, c.loop-above-test.false, c.loop-above.auto.above-end, c.depth-above-end.ensures.value) in
-    sym (end_of_depths f c.args.path.now c.loop-above.above whole) ∙ c.loop-above.invariant
+    let T = c.args.tree.now.tree in
+    let p = c.args.path.now in
+    let test : ℕ → Bool = (λ n. exceeds_depth (prefix_group T p n) (length p - n)) in
+    any_from_yields_List test _ _ c.any.result c.any.ensures.ran (YieldsList-from_range 0 c.depth.result (length p) refl (omega (arith, c.depth.ensures.value))) (search rules)
+    ∙ tested_above (λ a. exceeds_depth (group T a) (length p - length a)) p test (asked_of_depth T p)

@@ -1,30 +1,18 @@
--- The path of the next depth is asked.
-use Rattle.std.proofs.Common.{◌≡◌, ◌+◌, ◌<◌, ◌||◌, Bool, length, sym, subst, ap, ◌∙◌, arith}
+-- Each path above is asked.
+use Rattle.std.proofs.Common.{◌∙◌, ℕ, Bool, length, take, refl, arith, rules}
+use Rattle.std.proofs.lemmas.Iterator.{YieldsList-from_range}
+use Rattle.std.proofs.lemmas.Iterator.Search.{any_from_yields_List}
 use Rattle.cg_model.specs.Derived.{descendants}
 use Rattle.cg_model.specs.Groups.{reaches_descendants}
 use Rattle.cg_model.specs.Tree.{group}
-use Rattle.cg_name.specs.Path.{Path}
-use Rattle.cg_command.proofs.Above.{from_depth, next_depth, end_of_depths, asked_of_descendants}
+use Rattle.cg_tree.specs.Prefix.{prefix_group}
+use Rattle.cg_command.proofs.Above.{tested_above, asked_of_descendants}
 use Rattle.cg_command.proofs.limits.too_many.Goals as goal
-
-pub returns-then-reaches_descendants : goal.returns-then-reaches_descendants
-returns-then-reaches_descendants c =
-    let f : Path → Bool = (λ a. reaches_descendants (group c.args.tree.now.tree a) (descendants c.args.tree.now.tree a)) in
-    let low : c.loop-above.above < length c.args.path.now = subst (λ n. c.loop-above.above < n) c.depth-above-end.ensures.value c.loop-above-test.true in
-    ap (λ b. b || from_depth f c.args.path.now (c.loop-above.above + 1)) (sym c.if-reaches_descendants.true)
-    ∙ next_depth f c.args.path.now c.loop-above.above c.reaches_descendants.result low (c.reaches_descendants.ensures ∙ asked_of_descendants c.args.tree.now.tree c.args.path.now c.loop-above.above low)
-    ∙ c.loop-above.invariant
-
-pub loop-above-preserved : goal.loop-above-preserved
-loop-above-preserved c =
-    let f : Path → Bool = (λ a. reaches_descendants (group c.args.tree.now.tree a) (descendants c.args.tree.now.tree a)) in
-    let low : c.loop-above.above < length c.args.path.now = subst (λ n. c.loop-above.above < n) c.depth-above-end.ensures.value c.loop-above-test.true in
-    ap (λ b. b || from_depth f c.args.path.now (c.loop-above.above + 1)) (sym c.if-reaches_descendants.false)
-    ∙ next_depth f c.args.path.now c.loop-above.above c.reaches_descendants.result low (c.reaches_descendants.ensures ∙ asked_of_descendants c.args.tree.now.tree c.args.path.now c.loop-above.above low)
-    ∙ c.loop-above.invariant
 
 pub returns : goal.returns
 returns c =
-    let f : Path → Bool = (λ a. reaches_descendants (group c.args.tree.now.tree a) (descendants c.args.tree.now.tree a)) in
-    let whole : c.loop-above.above ≡ length c.args.path.now = omega (arith, c.loop-above-test.false, c.loop-above.auto.above-end, c.depth-above-end.ensures.value) in
-    sym (end_of_depths f c.args.path.now c.loop-above.above whole) ∙ c.loop-above.invariant
+    let T = c.args.tree.now.tree in
+    let p = c.args.path.now in
+    let test : ℕ → Bool = (λ n. reaches_descendants (prefix_group T p n) (descendants T (take n p))) in
+    any_from_yields_List test _ _ c.any.result c.any.ensures.ran (YieldsList-from_range 0 c.depth.result (length p) refl (omega (arith, c.depth.ensures.value))) (search rules)
+    ∙ tested_above (λ a. reaches_descendants (group T a) (descendants T a)) p test (asked_of_descendants T p)
