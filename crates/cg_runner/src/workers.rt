@@ -40,6 +40,7 @@ pub(crate) fn results_of<G: Gate + Sync, R: Threads + Wait + Sync>(
         MOST_WORKERS,
         &|_, session: &mut Session| { work(rt, alloc, gate, desk, session, jobs, sender) },
     );
+    // The sender goes here, so that whoever takes the results comes to their end.
     Ok(results)
 }
 
