@@ -1,3 +1,4 @@
 pub mod CommandText
 pub mod Spaced
 pub mod Laws
+pub mod Read

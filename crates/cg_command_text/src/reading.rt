@@ -14,6 +14,7 @@ ghost use Rattle.cg_text.specs.declared.control_ops.ControlOps as control_ops;
 ghost use Rattle.cg_model.specs.Command as model;
 ghost use Rattle.cg_command.specs.Meaning.{command_of};
 ghost use Rattle.cg_command_text.specs.CommandText.{SpellsCommand, SpellsCpuWords};
+ghost use Rattle.cg_command_text.specs.Read.{ReadsCommand};
 
 use cg_command::{Command, OnlineCpus};
 use cg_cpus::CpuSet;
@@ -48,9 +49,7 @@ pub fn read_command(alloc: Global, words: &[&str]) -> Result<Command, Refusal>
 
 // What stands behind `create`.
 fn read_create(alloc: Global, words: &[&str]) -> Result<Command, Refusal>
-    ensures value { IfOk result (λ c. SpellsCommand (codes "create" ∷ map (λ w. w.now) words.now) (command_of c)) }
-    ensures syntax { IsErrOf result Refusal.Syntax → (c : model.Command) → SpellsCommand (codes "create" ∷ map (λ w. w.now) words.now) c → ⊥ }
-    ensures refusals { IfErr result IsSyntaxOrMemory }
+    ensures { ReadsCommand (codes "create" ∷ map (λ w. w.now) words.now) result }
 {
     match words {
         [path] => Ok(Command::Create {
@@ -62,9 +61,7 @@ fn read_create(alloc: Global, words: &[&str]) -> Result<Command, Refusal>
 
 // What stands behind `remove`.
 fn read_remove(alloc: Global, words: &[&str]) -> Result<Command, Refusal>
-    ensures value { IfOk result (λ c. SpellsCommand (codes "remove" ∷ map (λ w. w.now) words.now) (command_of c)) }
-    ensures syntax { IsErrOf result Refusal.Syntax → (c : model.Command) → SpellsCommand (codes "remove" ∷ map (λ w. w.now) words.now) c → ⊥ }
-    ensures refusals { IfErr result IsSyntaxOrMemory }
+    ensures { ReadsCommand (codes "remove" ∷ map (λ w. w.now) words.now) result }
 {
     match words {
         [path] => Ok(Command::Remove {
@@ -76,9 +73,7 @@ fn read_remove(alloc: Global, words: &[&str]) -> Result<Command, Refusal>
 
 // What stands behind `migrate`.
 fn read_migrate(alloc: Global, words: &[&str]) -> Result<Command, Refusal>
-    ensures value { IfOk result (λ c. SpellsCommand (codes "migrate" ∷ map (λ w. w.now) words.now) (command_of c)) }
-    ensures syntax { IsErrOf result Refusal.Syntax → (c : model.Command) → SpellsCommand (codes "migrate" ∷ map (λ w. w.now) words.now) c → ⊥ }
-    ensures refusals { IfErr result IsSyntaxOrMemory }
+    ensures { ReadsCommand (codes "migrate" ∷ map (λ w. w.now) words.now) result }
 {
     match words {
         [pid, path] => Ok(Command::Migrate {
@@ -91,9 +86,7 @@ fn read_migrate(alloc: Global, words: &[&str]) -> Result<Command, Refusal>
 
 // What stands behind `subtree`.
 fn read_subtree(alloc: Global, words: &[&str]) -> Result<Command, Refusal>
-    ensures value { IfOk result (λ c. SpellsCommand (codes "subtree" ∷ map (λ w. w.now) words.now) (command_of c)) }
-    ensures syntax { IsErrOf result Refusal.Syntax → (c : model.Command) → SpellsCommand (codes "subtree" ∷ map (λ w. w.now) words.now) c → ⊥ }
-    ensures refusals { IfErr result IsSyntaxOrMemory }
+    ensures { ReadsCommand (codes "subtree" ∷ map (λ w. w.now) words.now) result }
 {
     match words {
         [path, ops @ ..] => Ok(Command::Subtree {
@@ -106,9 +99,7 @@ fn read_subtree(alloc: Global, words: &[&str]) -> Result<Command, Refusal>
 
 // What stands behind `freeze`.
 fn read_freeze(alloc: Global, words: &[&str]) -> Result<Command, Refusal>
-    ensures value { IfOk result (λ c. SpellsCommand (codes "freeze" ∷ map (λ w. w.now) words.now) (command_of c)) }
-    ensures syntax { IsErrOf result Refusal.Syntax → (c : model.Command) → SpellsCommand (codes "freeze" ∷ map (λ w. w.now) words.now) c → ⊥ }
-    ensures refusals { IfErr result IsSyntaxOrMemory }
+    ensures { ReadsCommand (codes "freeze" ∷ map (λ w. w.now) words.now) result }
 {
     match words {
         [path, value] => Ok(Command::Freeze {
@@ -121,9 +112,7 @@ fn read_freeze(alloc: Global, words: &[&str]) -> Result<Command, Refusal>
 
 // What stands behind `cpus`.
 fn read_cpus(alloc: Global, words: &[&str]) -> Result<Command, Refusal>
-    ensures value { IfOk result (λ c. SpellsCommand (codes "cpus" ∷ map (λ w. w.now) words.now) (command_of c)) }
-    ensures syntax { IsErrOf result Refusal.Syntax → (c : model.Command) → SpellsCommand (codes "cpus" ∷ map (λ w. w.now) words.now) c → ⊥ }
-    ensures refusals { IfErr result IsSyntaxOrMemory }
+    ensures { ReadsCommand (codes "cpus" ∷ map (λ w. w.now) words.now) result }
 {
     match words {
         [path, list @ ..] => Ok(Command::Cpus {
@@ -136,9 +125,7 @@ fn read_cpus(alloc: Global, words: &[&str]) -> Result<Command, Refusal>
 
 // What stands behind `show`.
 fn read_show(alloc: Global, words: &[&str]) -> Result<Command, Refusal>
-    ensures value { IfOk result (λ c. SpellsCommand (codes "show" ∷ map (λ w. w.now) words.now) (command_of c)) }
-    ensures syntax { IsErrOf result Refusal.Syntax → (c : model.Command) → SpellsCommand (codes "show" ∷ map (λ w. w.now) words.now) c → ⊥ }
-    ensures refusals { IfErr result IsSyntaxOrMemory }
+    ensures { ReadsCommand (codes "show" ∷ map (λ w. w.now) words.now) result }
 {
     match words {
         [path, file] => Ok(Command::Show {
@@ -151,8 +138,7 @@ fn read_show(alloc: Global, words: &[&str]) -> Result<Command, Refusal>
 
 // What stands behind `online`.
 fn read_online(words: &[&str]) -> Result<Command, Refusal>
-    ensures value { IfOk result (λ c. SpellsCommand (codes "online" ∷ map (λ w. w.now) words.now) (command_of c)) }
-    ensures syntax { IsErrOf result Refusal.Syntax → (c : model.Command) → SpellsCommand (codes "online" ∷ map (λ w. w.now) words.now) c → ⊥ }
+    ensures read { ReadsCommand (codes "online" ∷ map (λ w. w.now) words.now) result }
     ensures refusals { IfErr result (λ e. e ≡ Syntax) }
 {
     match words {
@@ -165,9 +151,7 @@ fn read_online(words: &[&str]) -> Result<Command, Refusal>
 
 // What stands behind `maxdescendants`.
 fn read_max_descendants(alloc: Global, words: &[&str]) -> Result<Command, Refusal>
-    ensures value { IfOk result (λ c. SpellsCommand (codes "maxdescendants" ∷ map (λ w. w.now) words.now) (command_of c)) }
-    ensures syntax { IsErrOf result Refusal.Syntax → (c : model.Command) → SpellsCommand (codes "maxdescendants" ∷ map (λ w. w.now) words.now) c → ⊥ }
-    ensures refusals { IfErr result IsSyntaxOrMemory }
+    ensures { ReadsCommand (codes "maxdescendants" ∷ map (λ w. w.now) words.now) result }
 {
     match words {
         [path, limit] => Ok(Command::MaxDescendants {
@@ -180,9 +164,7 @@ fn read_max_descendants(alloc: Global, words: &[&str]) -> Result<Command, Refusa
 
 // What stands behind `maxdepth`.
 fn read_max_depth(alloc: Global, words: &[&str]) -> Result<Command, Refusal>
-    ensures value { IfOk result (λ c. SpellsCommand (codes "maxdepth" ∷ map (λ w. w.now) words.now) (command_of c)) }
-    ensures syntax { IsErrOf result Refusal.Syntax → (c : model.Command) → SpellsCommand (codes "maxdepth" ∷ map (λ w. w.now) words.now) c → ⊥ }
-    ensures refusals { IfErr result IsSyntaxOrMemory }
+    ensures { ReadsCommand (codes "maxdepth" ∷ map (λ w. w.now) words.now) result }
 {
     match words {
         [path, limit] => Ok(Command::MaxDepth {

@@ -1,9 +1,13 @@
-use Rattle.std.proofs.Common.{◌∷◌, ap}
+use Rattle.std.proofs.Common.{◌∷◌, ap, rules}
 use Rattle.std.specs.Prelude.{codes}
 use Rattle.cg_command_text.proofs.WordsOfSlices.{two_words}
 use Rattle.cg_command_text.proofs.reading.read_max_depth.Goals as goal
 
-pub returns-in_ok-read-in-len2-clause-value : goal.returns-in_ok-read-in-len2-clause-value
-returns-in_ok-read-in-len2-clause-value c =
+pub returns-in_ok-read-in-len2 : goal.returns-in_ok-read-in-len2
+returns-in_ok-read-in-len2 c =
     let words = ap (λ ws. codes "maxdepth" ∷ ws) (two_words c.args.words.now c.in-len2.len_at_least c.in-len2.len_below) in
-    (_, _, words, c.in_ok-read-in-len2.ensures.value, c.in_ok-read_limit-in-len2.ensures.value)
+    record {
+      value = (_, _, words, c.in_ok-read-in-len2.ensures.value, c.in_ok-read_limit-in-len2.ensures.value);
+      syntax = search rules;
+      refusals = tt;
+    }
