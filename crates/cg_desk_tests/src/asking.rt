@@ -5,6 +5,36 @@ use std::alloc::{AllocError, Global};
 use std::str;
 use std::sync::Wait;
 
+// Asks for a savepoint with this name.
+fn save(
+    rt: &impl Wait,
+    alloc: Global,
+    transaction: &mut Transaction,
+    name: &str,
+) -> Result<Answer, Refusal> {
+    Ok(transaction.save(rt, alloc, SaveName::read(name)?))
+}
+
+// Asks to go back to the savepoint with this name.
+fn back(
+    rt: &impl Wait,
+    alloc: Global,
+    transaction: &mut Transaction,
+    name: &str,
+) -> Result<Answer, Refusal> {
+    Ok(transaction.back(rt, alloc, SaveName::read(name)?))
+}
+
+// Asks for the command that these words are.
+fn run(
+    rt: &impl Wait,
+    alloc: Global,
+    transaction: &mut Transaction,
+    words: &[&str],
+) -> Result<Answer, Refusal> {
+    Ok(transaction.run(rt, alloc, read_command(alloc, words)?))
+}
+
 // Asks for what the words say, which leaves the transaction open.
 pub(crate) fn ask(
     rt: &impl Wait,
@@ -13,10 +43,10 @@ pub(crate) fn ask(
     words: &[&str],
 ) -> Result<Answer, Refusal> {
     match words {
-        ["save", name] => Ok(transaction.save(rt, alloc, SaveName::read(name)?)),
-        ["back", name] => Ok(transaction.back(rt, alloc, SaveName::read(name)?)),
+        ["save", name] => save(rt, alloc, transaction, name),
+        ["back", name] => back(rt, alloc, transaction, name),
         ["undo"] => Ok(transaction.undo(rt, alloc)),
-        _ => Ok(transaction.run(rt, alloc, read_command(alloc, words)?)),
+        _ => run(rt, alloc, transaction, words),
     }
 }
 

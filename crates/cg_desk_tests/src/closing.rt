@@ -8,7 +8,7 @@ use std::sync::Wait;
 static ROWS: [&[&str]; 1] = [&["create", "/a"]];
 
 // Appends why a desk wasn't closed, and the numbers of the sessions that came back.
-pub(crate) fn write_fault(fault: &CloseFault, out: &mut String) -> Result<(), AllocError> {
+fn write_fault(fault: &CloseFault, out: &mut String) -> Result<(), AllocError> {
     let refusal = fault.refusal;
     write!(out, "{refusal}, back come")?;
     for session in &fault.sessions {
@@ -18,11 +18,38 @@ pub(crate) fn write_fault(fault: &CloseFault, out: &mut String) -> Result<(), Al
     out.push_str("\n")
 }
 
-// Appends what a closed desk's machine has.
-pub(crate) fn write_core(alloc: Global, core: &Core, out: &mut String) -> Result<(), AllocError> {
+// The line of what a closed desk's machine has. It takes the machine, so that no body owns that beside a desk that came back.
+fn line_of(alloc: Global, core: Core) -> Result<String, AllocError> {
     let records = core.history().len();
-    let is_on_world = is_world(alloc, core.opening())?;
-    writeln!(out, "closed, records {records}, on the world {is_on_world}")
+    let is_on_world = is_world(alloc, core.opening());
+    drop(core);
+    let is_on_world = is_on_world?;
+    format!(in alloc; "closed, records {records}, on the world {is_on_world}\n")
+}
+
+// Appends how a close ended.
+fn write_closed(
+    closed: &Result<Result<String, AllocError>, CloseFault>,
+    out: &mut String,
+) -> Result<(), AllocError> {
+    match closed {
+        Ok(Ok(line)) => out.push_str(line.as_str()),
+        Ok(Err(_)) => out.push_str("no memory\n"),
+        Err(fault) => write_fault(fault, out),
+    }
+}
+
+// Closes a desk, and appends how that ended; gives what came back.
+pub(crate) fn close(
+    alloc: Global,
+    opened: Opened,
+    out: &mut String,
+) -> Result<Option<CloseFault>, AllocError> {
+    let closed = opened.close(alloc).map(|core| line_of(alloc, core));
+    let written = write_closed(&closed, out);
+    let back = closed.err();
+    written?;
+    Ok(back)
 }
 
 // Closes a desk that came back, and appends how that ended.
@@ -32,10 +59,8 @@ pub(crate) fn close_again(
     out: &mut String,
 ) -> Result<(), AllocError> {
     let CloseFault { desk, sessions, .. } = fault;
-    match desk.close(alloc, sessions) {
-        Ok(core) => write_core(alloc, &core, out),
-        Err(fault) => write_fault(&fault, out),
-    }
+    drop(close(alloc, Opened { desk, sessions }, out)?);
+    Ok(())
 }
 
 // The same with one session more.
@@ -56,12 +81,9 @@ fn close_twice(
     more: Session,
     out: &mut String,
 ) -> Result<(), AllocError> {
-    match opened.close(alloc) {
-        Ok(core) => write_core(alloc, &core, out),
-        Err(fault) => {
-            write_fault(&fault, out)?;
-            close_with(alloc, fault, more, out)
-        }
+    match close(alloc, opened, out)? {
+        Some(fault) => close_with(alloc, fault, more, out),
+        None => Ok(()),
     }
 }
 
@@ -102,18 +124,11 @@ closed, records 3, on the world true
     );
 }
 
-// Closes a desk, appends why it came back, and gives the last session that came back.
-fn last_back(
-    alloc: Global,
-    opened: Opened,
-    out: &mut String,
-) -> Result<Option<Session>, AllocError> {
-    match opened.close(alloc) {
-        Ok(_) => Ok(None),
-        Err(mut fault) => {
-            write_fault(&fault, out)?;
-            Ok(fault.sessions.pop())
-        }
+// The last session of what came back.
+fn last_of(back: Option<CloseFault>) -> Option<Session> {
+    match back {
+        Some(mut fault) => fault.sessions.pop(),
+        None => None,
     }
 }
 
@@ -126,7 +141,7 @@ fn stray(
 ) -> Result<Option<Session>, Refusal> {
     let mut opened = Opened::open(rt, alloc, 2)?;
     commit_at(rt, alloc, desk, &mut opened.sessions, 1)?;
-    Ok(last_back(alloc, opened, out)?)
+    Ok(last_of(close(alloc, opened, out)?))
 }
 
 // Closes a desk that handed out one session, at which that session made a transaction: without it, and then with it.

@@ -207,16 +207,33 @@ fn tree_of(alloc: Global, core: &Core) -> Result<Vec<u8>, AllocError> {
     Ok(text)
 }
 
-// Whether two machines have one tree.
-fn is_same_tree(alloc: Global, core: &Core, other: &Core) -> Result<bool, AllocError> {
-    let tree = tree_of(alloc, core)?;
-    Ok(tree.as_slice() == tree_of(alloc, other)?.as_slice())
+// A machine on the world that the desk was opened on.
+fn fresh(alloc: Global) -> Result<Core, Refusal> {
+    Ok(Core::open(alloc, world(alloc)?, LIMIT)?)
+}
+
+// Whether the machine, which is fresh, answers as these records, and has a tree with this text then.
+fn agrees_with(
+    alloc: Global,
+    records: &[Record],
+    tree: &[u8],
+    fresh: &mut Core,
+) -> Result<bool, AllocError> {
+    Ok(is_replayed(alloc, records, fresh)? && tree_of(alloc, fresh)?.as_slice() == tree)
+}
+
+// The same of a machine of its own.
+fn is_replay(alloc: Global, records: &[Record], tree: &[u8]) -> Result<bool, Refusal> {
+    let mut fresh = fresh(alloc)?;
+    let agrees = agrees_with(alloc, records, tree, &mut fresh);
+    drop(fresh);
+    Ok(agrees?)
 }
 
 // Whether the history, replayed on a fresh machine, has the same answers and gives the same tree.
 fn agrees_with_replay(alloc: Global, core: &Core) -> Result<bool, Refusal> {
-    let mut fresh = Core::open(alloc, world(alloc)?, LIMIT)?;
-    Ok(is_replayed(alloc, core.history(), &mut fresh)? && is_same_tree(alloc, core, &fresh)?)
+    let tree = tree_of(alloc, core)?;
+    is_replay(alloc, core.history(), tree.as_slice())
 }
 
 // How many commits a history has.
@@ -227,20 +244,28 @@ fn commits_in(records: &[Record]) -> usize {
         .count()
 }
 
-// How many transactions the sessions committed, and whether a replay agrees with them.
+// How many transactions a machine's history says were committed, and whether a replay agrees with it.
+fn report_of(alloc: Global, core: &Core) -> Result<(usize, bool), Refusal> {
+    let agrees = agrees_with_replay(alloc, core)?;
+    Ok((commits_in(core.history()), agrees))
+}
+
+// The machine of a desk at which all sessions made their transactions.
+fn closed<R: Threads + Wait + Clock + Sync>(rt: &R, alloc: Global) -> Result<Core, Refusal> {
+    let mut opened = Opened::open(rt, alloc, THREADS)?;
+    work_all(rt, alloc, &opened.desk, opened.sessions.as_mut_slice());
+    opened.close(alloc).map_err(|fault| fault.refusal)
+}
+
+// What that machine's history says.
 fn crowd<R: Threads + Wait + Clock + Sync>(
     rt: &R,
     alloc: Global,
 ) -> Result<(usize, bool), Refusal> {
-    let mut opened = Opened::open(rt, alloc, THREADS)?;
-    work_all(rt, alloc, &opened.desk, opened.sessions.as_mut_slice());
-    match opened.close(alloc) {
-        Ok(core) => Ok((
-            commits_in(core.history()),
-            agrees_with_replay(alloc, &core)?,
-        )),
-        Err(fault) => Err(fault.refusal),
-    }
+    let core = closed(rt, alloc)?;
+    let report = report_of(alloc, &core);
+    drop(core);
+    report
 }
 
 #[test]

@@ -1,7 +1,7 @@
 //! An example: a desk that two threads use.
 use cg_command_text::read_command;
 use cg_desk::{Answer, CloseFault, Core, Desk, Refusal, Session, World};
-use std::alloc::Global;
+use std::alloc::{AllocError, Global};
 use std::sync::Wait;
 use std::thread;
 use std::thread::Threads;
@@ -24,16 +24,19 @@ fn make_group(
     Ok(())
 }
 
+// The text of the machine's tree.
+fn text_of(alloc: Global, core: &Core) -> Result<Vec<u8>, AllocError> {
+    let mut text = Vec::new(alloc);
+    core.tree().write(&mut text)?;
+    Ok(text)
+}
+
 // The text of the tree of a desk that was closed.
 fn tree_of(alloc: Global, closed: Result<Core, CloseFault>) -> Result<Vec<u8>, Refusal> {
-    match closed {
-        Ok(core) => {
-            let mut text = Vec::new(alloc);
-            core.tree().write(&mut text)?;
-            Ok(text)
-        }
-        Err(fault) => Err(fault.refusal),
-    }
+    let core = closed.map_err(|fault| fault.refusal)?;
+    let text = text_of(alloc, &core);
+    drop(core);
+    Ok(text?)
 }
 
 // Two threads make a group each in the tree of a world; the text of the tree then.

@@ -1,8 +1,8 @@
 //! Two sessions of one desk in two threads.
 use crate::asking::commit_all;
-use crate::closing::{close_again, write_core, write_fault};
+use crate::closing::{close, close_again};
 use crate::opening::Opened;
-use cg_desk::{Desk, Refusal, Session};
+use cg_desk::{CloseFault, Desk, Refusal, Session};
 use std::alloc::{AllocError, Global};
 use std::sync::Wait;
 use std::thread::Threads;
@@ -74,6 +74,17 @@ fn replace_last(sessions: &mut Vec<Session>, session: Session) -> Session {
     }
 }
 
+// Closes a desk that came back with this session in place of its last.
+fn close_with_own(
+    alloc: Global,
+    mut fault: CloseFault,
+    own: Session,
+    out: &mut String,
+) -> Result<(), AllocError> {
+    replace_last(&mut fault.sessions, own);
+    close_again(alloc, fault, out)
+}
+
 // Closes a desk with another session in place of its last, and then with its own; appends how each ended.
 fn close_swapped(
     alloc: Global,
@@ -82,13 +93,9 @@ fn close_swapped(
     out: &mut String,
 ) -> Result<(), AllocError> {
     let own = replace_last(&mut opened.sessions, foreign);
-    match opened.close(alloc) {
-        Ok(core) => write_core(alloc, &core, out),
-        Err(mut fault) => {
-            write_fault(&fault, out)?;
-            replace_last(&mut fault.sessions, own);
-            close_again(alloc, fault, out)
-        }
+    match close(alloc, opened, out)? {
+        Some(fault) => close_with_own(alloc, fault, own, out),
+        None => Ok(()),
     }
 }
 

@@ -6,7 +6,9 @@ use std::alloc::Global;
 // What undo in a transaction is answered on a fresh machine.
 fn undo(alloc: Global) -> Result<Answer, Refusal> {
     let mut core = Core::open(alloc, world(alloc)?, 8)?;
-    Ok(step_for(alloc, &mut core, SessionId(1), TxnNumber(7), Request::Undo))
+    let answer = step_for(alloc, &mut core, SessionId(1), TxnNumber(7), Request::Undo);
+    drop(core);
+    Ok(answer)
 }
 
 #[test]
