@@ -3,10 +3,11 @@ ghost use Rattle.std.specs.Prelude.{◌≤◌, IfOk, vec_len};
 
 use crate::gates::Counting;
 use crate::opening::few;
-use crate::replaying::agrees_with_replay;
+use crate::replaying::is_replay;
+use crate::running::refusal_of;
+use crate::telling::tree_of;
 use cg_runner::{
-    Answer, Record, Refusal, RunFault, RunReport, Script, ScriptEnd, World, read_script,
-    run_scripts,
+    Answer, Core, Record, Refusal, RunReport, Script, ScriptEnd, World, read_script, run_scripts,
 };
 use std::alloc::{AllocError, Global};
 use std::sync::Wait;
@@ -104,6 +105,13 @@ fn commits_in(records: &[Record]) -> usize {
         .count()
 }
 
+// Whether the history, replayed on a fresh machine on that world, has the same answers and gives the same tree.
+fn agrees_with_replay(alloc: Global, core: &Core) -> Result<bool, Refusal> {
+    let tree = tree_of(alloc, core)?;
+    let opening = world(alloc)?;
+    Ok(is_replay(alloc, core.history(), tree.as_slice(), opening)?)
+}
+
 // What is wrong with the report, and with what the gate was told.
 fn fault_of(alloc: Global, gate: &Counting, report: &RunReport) -> Result<&'static str, Refusal> {
     let ends = report.ends.as_slice();
@@ -116,7 +124,7 @@ fn fault_of(alloc: Global, gate: &Counting, report: &RunReport) -> Result<&'stat
     if committed(ends) != commits_in(report.core.history()) {
         return Ok("other commits");
     }
-    if !agrees_with_replay(alloc, &report.core, world(alloc)?)? {
+    if !agrees_with_replay(alloc, &report.core)? {
         return Ok("another replay");
     }
     Ok("nothing")
@@ -127,18 +135,29 @@ fn run<R: Threads + Wait + Sync>(
     rt: &R,
     alloc: Global,
     gate: &Counting,
-) -> Result<Result<RunReport, RunFault>, Refusal> {
+) -> Result<RunReport, Refusal> {
     let scripts = scripts(alloc)?;
-    Ok(run_scripts(rt, alloc, gate, world(alloc)?, scripts, 64, TRIES))
+    run_scripts(rt, alloc, gate, world(alloc)?, scripts, 64, TRIES).map_err(|fault| refusal_of(
+        fault,
+    ))
 }
 
 // What is wrong with that.
+fn run_fault<R: Threads + Wait + Sync>(
+    rt: &R,
+    alloc: Global,
+    gate: &Counting,
+) -> Result<&'static str, Refusal> {
+    let report = run(rt, alloc, gate)?;
+    let fault = fault_of(alloc, gate, &report);
+    drop(report);
+    fault
+}
+
+// The same with a gate of its own.
 fn crowd<R: Threads + Wait + Sync>(rt: &R, alloc: Global) -> Result<&'static str, Refusal> {
     let gate = Counting::new();
-    match run(rt, alloc, &gate)? {
-        Ok(report) => fault_of(alloc, &gate, &report),
-        Err(_) => Ok("no report"),
-    }
+    run_fault(rt, alloc, &gate)
 }
 
 #[test]

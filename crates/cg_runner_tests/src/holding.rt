@@ -1,17 +1,27 @@
 //! Two scripts in two threads, and a gate that holds their calls.
-ghost use Rattle.std.specs.Prelude.{◌≤◌};
-
 use crate::gates::{Holding, Rule, Told};
-use crate::opening::{scripts, world};
-use crate::telling::write_report;
-use cg_runner::{Refusal, RunFault, RunReport, run_scripts};
+use crate::running::write_run;
+use cg_runner::Refusal;
 use std::alloc::{AllocError, Global};
 use std::sync::Wait;
 use std::sync::atomic::Ordering;
 use std::thread::Threads;
 
+/// Two scripts that two workers run, and how that has to end.
+struct Case {
+    name: &'static str,
+    rules: &'static [Rule],
+    texts: &'static [&'static str],
+    // Whether a script that met the other is begun anew, once.
+    is_begun_anew: bool,
+    // How the scripts end: any of these.
+    ends: &'static [&'static str],
+    // What the tree has beside its root then, and what the gate was told.
+    rest: &'static str,
+}
+
 // The second call of each comes behind the first of the other.
-static ABREAST: [Rule; 2] = [
+const ABREAST: [Rule; 2] = [
     Rule {
         script: 1,
         call: 2,
@@ -25,7 +35,7 @@ static ABREAST: [Rule; 2] = [
 ];
 
 // The second script's second call comes between the second and the third of the first, and its fourth behind them.
-static CROSSED: [Rule; 3] = [
+const CROSSED: [Rule; 3] = [
     Rule {
         script: 2,
         call: 2,
@@ -43,24 +53,58 @@ static CROSSED: [Rule; 3] = [
     },
 ];
 
-static CREATE_A_AND_B: [&str; 2] = ["create /a", "create /b"];
-
-static CREATE_A_AND_BELOW: [&str; 2] = ["create /a", "create /a/b"];
-
-// What a run of these scripts by two workers gives.
-fn run<R: Threads + Wait + Sync>(
-    rt: &R,
-    alloc: Global,
-    gate: &Holding,
-    texts: &[&str],
-    tries: u32,
-) -> Result<Result<RunReport, RunFault>, Refusal>
-    requires low { 1 ≤ tries }
-    requires high { tries ≤ 1000 }
-{
-    let scripts = scripts(alloc, texts)?;
-    Ok(run_scripts(rt, alloc, gate, world(alloc)?, scripts, 2, tries))
-}
+static CASES: [Case; 3] = [
+    Case {
+        name: "two transactions are open at once",
+        rules: &ABREAST,
+        texts: &["create /a", "create /b"],
+        is_begun_anew: false,
+        ends: &[
+            "committed 1 tries 1\ncommitted 2 tries 1\n",
+            "committed 2 tries 1\ncommitted 1 tries 1\n",
+        ],
+        rest: "group /a - 0 -
+group /b - 0 -
+proc 10 /
+proc 11 /
+end
+calls 3, ended 1 behind call 3, tries 1
+calls 3, ended 1 behind call 3, tries 1
+late false
+",
+    },
+    Case {
+        name: "a script gives up behind its last try",
+        rules: &CROSSED,
+        texts: &["create /a", "create /a/b"],
+        is_begun_anew: false,
+        ends: &["committed 1 tries 1\ngaveup tries 1\n"],
+        rest: "group /a - 0 -
+proc 10 /
+proc 11 /
+end
+calls 3, ended 1 behind call 3, tries 1
+calls 3, ended 1 behind call 3, tries 1
+late false
+",
+    },
+    Case {
+        name: "a script is begun anew where another was in its way",
+        rules: &CROSSED,
+        texts: &["create /a", "create /a/b"],
+        is_begun_anew: true,
+        ends: &["committed 1 tries 1\ncommitted 2 tries 2\n"],
+        rest: "group /a - 0 -
+group /a/b - 0 -
+proc 10 /
+proc 11 /
+end
+calls 3, ended 1 behind call 3, tries 1
+calls 6, ended 1 behind call 6, tries 2
+late false
+",
+    },
+];
 
 // Appends what the gate was told of a script.
 fn write_told(told: &Told, out: &mut String) -> Result<(), AllocError> {
@@ -82,116 +126,43 @@ fn write_gate(gate: &Holding, out: &mut String) -> Result<(), AllocError> {
     writeln!(out, "late {is_late}")
 }
 
-// The text of how such a run ends.
-fn text_of<R: Threads + Wait + Sync>(
+// Appends how the case ends.
+fn write_case<R: Threads + Wait + Sync>(
     rt: &R,
     alloc: Global,
-    rules: &'static [Rule],
-    texts: &[&str],
-    tries: u32,
-) -> Result<String, Refusal>
-    requires low { 1 ≤ tries }
-    requires high { tries ≤ 1000 }
-{
-    let gate = Holding::new(rules);
-    let mut out = String::new(alloc);
-    match run(rt, alloc, &gate, texts, tries)? {
-        Ok(report) => write_report(alloc, &report, &mut out)?,
-        Err(fault) => writeln!(out, "{fault}")?,
+    case: &Case,
+    out: &mut String,
+) -> Result<(), Refusal> {
+    let gate = Holding::new(case.rules);
+    let tries = if case.is_begun_anew { 2 } else { 1 };
+    write_run(rt, alloc, &gate, case.texts, 2, tries, out)?;
+    Ok(write_gate(&gate, out)?)
+}
+
+// Whether the case ends so.
+fn ends_so(case: &Case, text: &str) -> bool {
+    case.ends
+        .iter()
+        .any(|ends| text.strip_prefix(*ends) == Some(case.rest))
+}
+
+// The first case that ends otherwise than it has to.
+fn first_wrong<R: Threads + Wait + Sync>(
+    rt: &R,
+    alloc: Global,
+    cases: &'static [Case],
+) -> Result<Option<&'static str>, Refusal> {
+    for case in cases {
+        let mut out = String::new(alloc);
+        write_case(rt, alloc, case, &mut out)?;
+        if !ends_so(case, out.as_str()) {
+            return Ok(Some(case.name));
+        }
     }
-    write_gate(&gate, &mut out)?;
-    Ok(out)
+    Ok(None)
 }
-
-// Whether the run ends so.
-fn ends_so<R: Threads + Wait + Sync>(
-    rt: &R,
-    alloc: Global,
-    rules: &'static [Rule],
-    texts: &[&str],
-    tries: u32,
-    wants: &[&str],
-) -> Result<bool, Refusal>
-    requires low { 1 ≤ tries }
-    requires high { tries ≤ 1000 }
-{
-    let text = text_of(rt, alloc, rules, texts, tries)?;
-    Ok(wants.iter().any(|want| *want == text.as_str()))
-}
-
-static BOTH: [&str; 2] = [
-    "committed 1 tries 1
-committed 2 tries 1
-group /a - 0 -
-group /b - 0 -
-proc 10 /
-proc 11 /
-end
-calls 3, ended 1 behind call 3, tries 1
-calls 3, ended 1 behind call 3, tries 1
-late false
-",
-    "committed 2 tries 1
-committed 1 tries 1
-group /a - 0 -
-group /b - 0 -
-proc 10 /
-proc 11 /
-end
-calls 3, ended 1 behind call 3, tries 1
-calls 3, ended 1 behind call 3, tries 1
-late false
-",
-];
 
 #[test]
-fn two_transactions_are_open_at_once(rt: HostRuntime) {
-    let ends_so = ends_so(&rt, rt.alloc(), &ABREAST, &CREATE_A_AND_B, 1, &BOTH);
-    assert!(rt; ends_so == Ok(true));
-}
-
-static GAVE_UP: [&str; 1] = [
-    "committed 1 tries 1
-gaveup tries 1
-group /a - 0 -
-proc 10 /
-proc 11 /
-end
-calls 3, ended 1 behind call 3, tries 1
-calls 3, ended 1 behind call 3, tries 1
-late false
-",
-];
-
-#[test]
-fn a_script_gives_up_behind_its_last_try(rt: HostRuntime) {
-    let ends_so = ends_so(&rt, rt.alloc(), &CROSSED, &CREATE_A_AND_BELOW, 1, &GAVE_UP);
-    assert!(rt; ends_so == Ok(true));
-}
-
-static BEGUN_ANEW: [&str; 1] = [
-    "committed 1 tries 1
-committed 2 tries 2
-group /a - 0 -
-group /a/b - 0 -
-proc 10 /
-proc 11 /
-end
-calls 3, ended 1 behind call 3, tries 1
-calls 6, ended 1 behind call 6, tries 2
-late false
-",
-];
-
-#[test]
-fn a_script_is_begun_anew_where_another_was_in_its_way(rt: HostRuntime) {
-    let ends_so = ends_so(
-        &rt,
-        rt.alloc(),
-        &CROSSED,
-        &CREATE_A_AND_BELOW,
-        2,
-        &BEGUN_ANEW,
-    );
-    assert!(rt; ends_so == Ok(true));
+fn two_scripts_run_at_once(rt: HostRuntime) {
+    assert!(rt; first_wrong(&rt, rt.alloc(), &CASES) == Ok(None));
 }

@@ -14,4 +14,6 @@ mod replaying;
 #[cfg(test)]
 mod rows;
 #[cfg(test)]
+mod running;
+#[cfg(test)]
 mod telling;

@@ -32,18 +32,25 @@ fn is_replayed(alloc: Global, records: &[Record], fresh: &mut Core) -> Result<bo
     Ok(fresh.history().len() == records.len())
 }
 
-// Whether two machines have one tree.
-fn is_same_tree(alloc: Global, core: &Core, other: &Core) -> Result<bool, AllocError> {
-    let tree = tree_of(alloc, core)?;
-    Ok(tree.as_slice() == tree_of(alloc, other)?.as_slice())
+// Whether the machine, which is fresh, answers as these records, and has a tree with this text then.
+fn agrees_with(
+    alloc: Global,
+    records: &[Record],
+    tree: &[u8],
+    fresh: &mut Core,
+) -> Result<bool, AllocError> {
+    Ok(is_replayed(alloc, records, fresh)? && tree_of(alloc, fresh)?.as_slice() == tree)
 }
 
-// Whether the machine's history, replayed on a fresh machine, has the same answers and gives the same tree.
-pub(crate) fn agrees_with_replay(
+// The same of a machine of its own on this world.
+pub(crate) fn is_replay(
     alloc: Global,
-    core: &Core,
+    records: &[Record],
+    tree: &[u8],
     opening: World,
 ) -> Result<bool, AllocError> {
     let mut fresh = Core::open(alloc, opening, 1_048_576)?;
-    Ok(is_replayed(alloc, core.history(), &mut fresh)? && is_same_tree(alloc, core, &fresh)?)
+    let agrees = agrees_with(alloc, records, tree, &mut fresh);
+    drop(fresh);
+    agrees
 }

@@ -1,9 +1,8 @@
 //! Runs of one worker.
 use crate::gates::Open;
-use crate::opening::{scripts, world};
-use crate::telling::write_report;
-use cg_runner::{Refusal, RunFault, RunReport, run_scripts};
-use std::alloc::{AllocError, Global};
+use crate::running::write_run;
+use cg_runner::Refusal;
+use std::alloc::Global;
 use std::sync::Wait;
 use std::thread::Threads;
 
@@ -75,29 +74,6 @@ end
     ),
 ];
 
-// What a run of these scripts gives.
-fn run<R: Threads + Wait + Sync>(
-    rt: &R,
-    alloc: Global,
-    texts: &[&str],
-) -> Result<Result<RunReport, RunFault>, Refusal> {
-    let scripts = scripts(alloc, texts)?;
-    Ok(run_scripts(rt, alloc, &Open, world(alloc)?, scripts, 1, 3))
-}
-
-// Appends how a run of these scripts ends.
-fn write_run<R: Threads + Wait + Sync>(
-    rt: &R,
-    alloc: Global,
-    texts: &[&str],
-    out: &mut String,
-) -> Result<(), Refusal> {
-    match run(rt, alloc, texts)? {
-        Ok(report) => Ok(write_report(alloc, &report, out)?),
-        Err(fault) => Ok(writeln!(out, "{fault}")?),
-    }
-}
-
 // The first scripts whose run ends otherwise than it has to.
 fn first_wrong<R: Threads + Wait + Sync>(
     rt: &R,
@@ -106,7 +82,7 @@ fn first_wrong<R: Threads + Wait + Sync>(
 ) -> Result<Option<&'static [&'static str]>, Refusal> {
     for (texts, want) in rows {
         let mut out = String::new(alloc);
-        write_run(rt, alloc, texts, &mut out)?;
+        write_run(rt, alloc, &Open, texts, 1, 3, &mut out)?;
         if out.as_str() != *want {
             return Ok(Some(texts));
         }

@@ -1,0 +1,58 @@
+//! Runs of scripts, and how they end as text.
+ghost use Rattle.std.specs.Prelude.{◌≤◌};
+
+use crate::opening::{scripts, world};
+use crate::telling::write_report;
+use cg_runner::{Gate, Refusal, RunFault, RunReport, run_scripts};
+use std::alloc::Global;
+use std::sync::Wait;
+use std::thread::Threads;
+
+// The refusal that says the same as the fault.
+pub(crate) fn refusal_of(fault: RunFault) -> Refusal {
+    match fault {
+        RunFault::Memory => Refusal::Memory,
+        RunFault::Disagree => Refusal::Disagree,
+    }
+}
+
+// What a run of these scripts gives.
+fn run<G: Gate + Sync, R: Threads + Wait + Sync>(
+    rt: &R,
+    alloc: Global,
+    gate: &G,
+    texts: &[&str],
+    workers: u32,
+    tries: u32,
+) -> Result<RunReport, Refusal>
+    requires a_worker { 1 ≤ workers }
+    requires few_workers { workers ≤ 64 }
+    requires a_try { 1 ≤ tries }
+    requires few_tries { tries ≤ 1000 }
+{
+    let scripts = scripts(alloc, texts)?;
+    run_scripts(rt, alloc, gate, world(alloc)?, scripts, workers, tries).map_err(|fault| refusal_of(
+        fault,
+    ))
+}
+
+// Appends how such a run ends.
+pub(crate) fn write_run<G: Gate + Sync, R: Threads + Wait + Sync>(
+    rt: &R,
+    alloc: Global,
+    gate: &G,
+    texts: &[&str],
+    workers: u32,
+    tries: u32,
+    out: &mut String,
+) -> Result<(), Refusal>
+    requires a_worker { 1 ≤ workers }
+    requires few_workers { workers ≤ 64 }
+    requires a_try { 1 ≤ tries }
+    requires few_tries { tries ≤ 1000 }
+{
+    let report = run(rt, alloc, gate, texts, workers, tries)?;
+    let written = write_report(alloc, &report, out);
+    drop(report);
+    Ok(written?)
+}
