@@ -1,32 +1,12 @@
 //! The text of a history, and what it is answered when it is played again.
-use cg_command::Command;
-use cg_core::{Core, Request, SessionId};
+use crate::opening::{create, step, world};
+use cg_core::{Core, Request};
 use cg_lines::{FromRead, FromWrite, LineReader};
-use cg_name::{Path, Refusal};
+use cg_name::Refusal;
 use cg_script::{replay, write_history};
-use cg_world::World;
 use std::alloc::Global;
 
-const OPENING: &str = "world 1\ncontrollers cpu\nonline 0\ngroup / - 0 -\nproc 10 /\nend\n";
-
-// That world.
-fn world(alloc: Global) -> Result<World, Refusal> {
-    World::read(alloc, OPENING.as_bytes())
-}
-
-// Asks for it. What is answered is seen by the history.
-fn step(alloc: Global, core: &mut Core, request: Request) {
-    let _ = core.step(alloc, SessionId(1), request);
-}
-
-// Asks for the group `/a`.
-fn create(alloc: Global, core: &mut Core) -> Result<(), Refusal> {
-    let path = Path::read(alloc, "/a")?;
-    step(alloc, core, Request::Do(Command::Create { path }));
-    Ok(())
-}
-
-// Asks for two transactions that make it, of which the first one commits.
+// Asks for two transactions that make the group `/a`, of which the first one commits.
 fn ask(alloc: Global, core: &mut Core) -> Result<(), Refusal> {
     step(alloc, core, Request::Begin);
     create(alloc, core)?;

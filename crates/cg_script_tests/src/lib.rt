@@ -9,6 +9,8 @@ mod histories;
 #[cfg(test)]
 mod machine;
 #[cfg(test)]
+mod opening;
+#[cfg(test)]
 mod printed;
 #[cfg(test)]
 mod requests;

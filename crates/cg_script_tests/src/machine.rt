@@ -1,23 +1,13 @@
 //! The worlds that a machine gives: of its tree, and the one that it was opened on.
-use cg_command::Command;
-use cg_core::{Core, Request, SessionId};
-use cg_name::{Path, Refusal};
-use cg_world::World;
+use crate::opening::{create, step, world};
+use cg_core::{Core, Request};
+use cg_name::Refusal;
 use std::alloc::{AllocError, Global};
 
-const OPENING: &str = "world 1\ncontrollers cpu\nonline 0\ngroup / - 0 -\nproc 10 /\nend\n";
-
-// That world.
-fn world(alloc: Global) -> Result<World, Refusal> {
-    World::read(alloc, OPENING.as_bytes())
-}
-
-// Makes the group `/a` in a transaction. What is answered is seen by the tree.
+// Makes the group `/a` in a transaction.
 fn make_a(alloc: Global, core: &mut Core) -> Result<(), Refusal> {
-    let path = Path::read(alloc, "/a")?;
-    let _ = core.step(alloc, SessionId(1), Request::Begin);
-    let _ = core.step(alloc, SessionId(1), Request::Do(Command::Create { path }));
-    Ok(())
+    step(alloc, core, Request::Begin);
+    create(alloc, core)
 }
 
 // A machine on that world, on which the group `/a` was made.
