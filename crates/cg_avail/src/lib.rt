@@ -12,7 +12,7 @@ use cg_text::{ControlOps, Controllers};
 /// enabled, the operations, what its children have enabled, whether it has processes of its own, and whether it is
 /// the root. To enable what is enabled, or disable what isn't, is accepted and changes nothing.
 ///
-/// `Unavailable` with the first controller in the profile's order that is to be enabled and is neither enabled nor
+/// `Unavailable` with the first controller in the kernel's order that is to be enabled and is neither enabled nor
 /// available; else `InUse` with the first that is to be disabled, is enabled, and is enabled by a child too; else
 /// `HasProcesses` where the group isn't the root, has processes of its own, and controllers would be left.
 pub fn plan(

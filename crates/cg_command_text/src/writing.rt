@@ -16,7 +16,7 @@ use itoa::Buffer;
 use std::alloc::AllocError;
 
 /// Appends the command's words, with single spaces: the path bare where it can be, the PID without leading zeros, a
-/// word for each controller of the operations in the profile's order, a list of CPUs in its one form, and no word for
+/// word for each controller of the operations in the kernel's order, a list of CPUs in its one form, and no word for
 /// the empty list or for no operation. An error, where there is no memory, leaves `out` as it was.
 pub fn write_command(command: &Command, out: &mut Vec<u8>) -> Result<(), AllocError>
     ensures ok { OnOk result (out.new.items ≡ out.old.items ++ command_text (command_of command.now)) }

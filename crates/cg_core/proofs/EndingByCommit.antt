@@ -58,25 +58,25 @@ module _ {O : Tree} {b : ℕ} {h : History cgroups} {n : ℕ} {R : TreeWithRoom}
       let within : commits h ≤ length h = commits_within h in
       omega (arith, few, within)
 
-  -- the place of the commit, where so many have committed
+  -- the number of the commit, where so many have committed
   module _ {g : ℕ} (counted : g ≡ commits h) where
-    next_place : Committed (g + 1) ≡ Committed (commits h + 1)
-    next_place = ap (λ g. Committed (g + 1)) counted
+    next_number : Committed (g + 1) ≡ Committed (commits h + 1)
+    next_number = ap (λ g. Committed (g + 1)) counted
 
     -- the answer is that of the history
     pub commit_answers : {v : CoreState} → state O b h ≡ v → Committed (g + 1) ≡ cores.reply v s Commit
-    commit_answers is = answer_is core s x here Commit (Committed (commits h + 1)) tt refl refl refl next_place is
+    commit_answers is = answer_is core s x here Commit (Committed (commits h + 1)) tt refl refl refl next_number is
 
     module _ {k m : ℕ} (is_number : k ≡ x.number) (is_length : m ≡ length x.items) {p e : History cgroups × ℕ} (pushed : p ≡ (with_end h s k Commit (Committed (g + 1)), n - 1)) (released : e ≡ (p.0, p.1 - m)) where
       -- so is the state after it
       pub commit_state : {v : CoreState} → state O b h ≡ v → state O b e.0 ≡ after v s Commit
-      commit_state is = state_left core s x here Commit (Committed (commits h + 1)) tt refl refl refl is_number is_length next_place pushed released is
+      commit_state is = state_left core s x here Commit (Committed (commits h + 1)) tt refl refl refl is_number is_length next_number pushed released is
 
       -- and so are its parts
       pub commit_leaves : {R' : TreeWithRoom} {H' : Holdings} {xs' : List (ℕ × Stack)} → AllLetGo x.number (reverse x.items) R H R' H' → xs' ≡ sessions.without s xs → IsCoreOf O b e.0 e.1 R' H' xs'
       commit_leaves {R'} {H'} let_go removed =
           subst (IsCoreOf O b e.0 e.1 R' H') (sym removed)
-          (parts_left core s x here Commit (Committed (commits h + 1)) tt refl refl refl is_number is_length next_place pushed released
+          (parts_left core s x here Commit (Committed (commits h + 1)) tt refl refl refl is_number is_length next_number pushed released
           (tree_of cgroups O h) refl R' H'
           (held_after_all_let_go O (numbers (opens h)) (λ u. live u h) (tree_of cgroups O h) x.number (is_open core s x here) drainable core.holds R' H'
           (subst (λ l. AllLetGo x.number (reverse l) R H R' H') (items_are core s x here) let_go)))

@@ -43,15 +43,15 @@ impl Core {
         };
         let number = txn.number();
         let items = txn.len();
-        let place = self.history.committed() + 1;
+        let commit_number = self.history.committed() + 1;
         cg_rollback::commit(&mut self.tree, &mut self.locks, txn);
         self.history.push(Record {
             session,
             txn: number,
             request: Request::Commit,
-            answer: Answer::Committed(place),
+            answer: Answer::Committed(commit_number),
         });
         self.history.release(items);
-        Answer::Committed(place)
+        Answer::Committed(commit_number)
     }
 }

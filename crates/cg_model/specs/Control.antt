@@ -21,11 +21,11 @@ use Rattle.cg_model.specs.Command.{Effect}
 abbrev pub planned : Controllers → ControlOps → Controllers
 planned s ops = such_that (λ c. (has s c || has ops.plus c) && not (has ops.minus c))
 
--- those to be enabled that are neither enabled nor available, in the profile's order (Enabling and Disabling)
+-- those to be enabled that are neither enabled nor available, in the kernel's order (Enabling and Disabling)
 abbrev pub not_available : Controllers → Controllers → ControlOps → List Controller
 not_available a s ops = filter (λ c. has ops.plus c && not (has s c) && not (has a c)) all_controllers
 
--- those to be disabled that are enabled and that a child uses, in the profile's order (Top-down Constraint)
+-- those to be disabled that are enabled and that a child uses, in the kernel's order (Top-down Constraint)
 abbrev pub in_use : Controllers → ControlOps → Controllers → List Controller
 in_use s ops used = filter (λ c. has ops.minus c && has s c && has used c) all_controllers
 

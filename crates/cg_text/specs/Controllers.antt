@@ -20,7 +20,7 @@ has s Misc = s.misc
 abbrev pub such_that : (Controller → Bool) → Controllers
 such_that f = record { cpuset = f Cpuset; cpu = f Cpu; io = f Io; memory = f Memory; hugetlb = f Hugetlb; pids = f Pids; rdma = f Rdma; misc = f Misc }
 
--- in the profile's order
+-- in the kernel's order
 abbrev pub all_controllers : List Controller
 all_controllers = Cpuset ∷ Cpu ∷ Io ∷ Memory ∷ Hugetlb ∷ Pids ∷ Rdma ∷ Misc ∷ []
 
@@ -49,7 +49,7 @@ without_controller Pids s = record s { pids = false }
 without_controller Rdma s = record s { rdma = false }
 without_controller Misc s = record s { misc = false }
 
--- the controllers of a set, in the profile's order
+-- the controllers of a set, in the kernel's order
 abbrev pub members : Controllers → List Controller
 members s = filter (has s) all_controllers
 

@@ -20,11 +20,11 @@ abbrev pub words_text : List (List ℕ) → List ℕ
 words_text [] = []
 words_text (w ∷ ws) = line_text (join_with_byte 32 (w ∷ ws))
 
--- the names of a set's controllers, in the profile's order, with a byte between them
+-- the names of a set's controllers, in the kernel's order, with a byte between them
 abbrev pub names_text : ℕ → Controllers → List ℕ
 names_text separator s = join_with_byte separator (map controller_word (members s))
 
--- a set of controllers, in the profile's order
+-- a set of controllers, in the kernel's order
 abbrev pub controllers_text : Controllers → List ℕ
 controllers_text s = words_text (map controller_word (members s))
 
@@ -53,7 +53,7 @@ limit_word (UpTo most) = decimal most.number
 abbrev pub limit_text : Limit → List ℕ
 limit_text l = line_text (limit_word l)
 
--- a word of an operation for each named controller, in the profile's order: a plus or a minus, and the name
+-- a word of an operation for each named controller, in the kernel's order: a plus or a minus, and the name
 abbrev pub op_words : ControlOps → List (List ℕ)
 op_words ops = map (λ c. cond (has ops.plus c) 43 45 ∷ controller_word c) (filter (λ c. has ops.plus c || has ops.minus c) all_controllers)
 

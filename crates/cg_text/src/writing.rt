@@ -17,7 +17,7 @@ use cg_name::{Controller, or_truncate};
 use itoa::Buffer;
 use std::alloc::AllocError;
 
-/// Appends the names of the set's controllers, in the profile's order, with the separator between them, and tells whether
+/// Appends the names of the set's controllers, in the kernel's order, with the separator between them, and tells whether
 /// there is one. An error, where there is no memory, leaves `out` as it was.
 pub fn write_names(set: Controllers, separator: u8, out: &mut Vec<u8>) -> Result<bool, AllocError>
     ensures ok { OnOk result (out.new.items ≡ out.old.items ++ names_text separator set) }
@@ -30,7 +30,7 @@ pub fn write_names(set: Controllers, separator: u8, out: &mut Vec<u8>) -> Result
 }
 
 /// Appends what `cgroup.controllers` and `cgroup.subtree_control` show: the names of the set's controllers in the
-/// profile's order, with single spaces between them and a newline; nothing for no controller. An error, where there is no
+/// kernel's order, with single spaces between them and a newline; nothing for no controller. An error, where there is no
 /// memory, leaves `out` as it was.
 pub fn write_controllers(set: Controllers, out: &mut Vec<u8>) -> Result<(), AllocError>
     ensures ok { OnOk result (out.new.items ≡ out.old.items ++ controllers_text set) }
@@ -41,7 +41,7 @@ pub fn write_controllers(set: Controllers, out: &mut Vec<u8>) -> Result<(), Allo
     or_truncate(written, start, out)
 }
 
-/// Appends what is written to `cgroup.subtree_control`: a word for each controller of the operations, in the profile's
+/// Appends what is written to `cgroup.subtree_control`: a word for each controller of the operations, in the kernel's
 /// order, a `+` where it is enabled and else a `-`, and its name; with single spaces between the words, and no
 /// newline. An error, where there is no memory, leaves `out` as it was.
 pub fn write_ops(ops: ControlOps, out: &mut Vec<u8>) -> Result<(), AllocError>

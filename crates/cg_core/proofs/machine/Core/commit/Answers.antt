@@ -29,16 +29,16 @@ pub release-requires : goal.release-requires
 release-requires c = slots_for_items c.self.invariant c.args.session.0 c.in-Some.txn (sym c.in-Some.ensures.value) c.len-items.ensures c.push.ensures
 
 pub invariant_of-self-2 : goal.invariant_of-self-2
-invariant_of-self-2 c = commit_leaves c.self.invariant c.args.session.0 c.in-Some.txn (sym c.in-Some.ensures.value) c.committed-place.ensures c.number-number.ensures c.len-items.ensures c.push.ensures c.release.ensures c.commit.ensures.let_go c.remove.ensures.removed
+invariant_of-self-2 c = commit_leaves c.self.invariant c.args.session.0 c.in-Some.txn (sym c.in-Some.ensures.value) c.committed-commit_number.ensures c.number-number.ensures c.len-items.ensures c.push.ensures c.release.ensures c.commit.ensures.let_go c.remove.ensures.removed
 
 pub returns-clause-answer : goal.returns-clause-answer
-returns-clause-answer c = commit_answers c.self.invariant c.args.session.0 c.in-Some.txn (sym c.in-Some.ensures.value) c.committed-place.ensures c.self.view_is
+returns-clause-answer c = commit_answers c.self.invariant c.args.session.0 c.in-Some.txn (sym c.in-Some.ensures.value) c.committed-commit_number.ensures c.self.view_is
 
 pub returns-clause-state : goal.returns-clause-state
-returns-clause-state c = commit_state c.self.invariant c.args.session.0 c.in-Some.txn (sym c.in-Some.ensures.value) c.committed-place.ensures c.number-number.ensures c.len-items.ensures c.push.ensures c.release.ensures c.self.view_is
+returns-clause-state c = commit_state c.self.invariant c.args.session.0 c.in-Some.txn (sym c.in-Some.ensures.value) c.committed-commit_number.ensures c.number-number.ensures c.len-items.ensures c.push.ensures c.release.ensures c.self.view_is
 
-pub overflow_add-place : goal.overflow_add-place
-overflow_add-place c =
+pub overflow_add-commit_number : goal.overflow_add-commit_number
+overflow_add-commit_number c =
     let few : commits c.self.inside.history.0 < 4294967295 = few_commits c.self.invariant c.args.session.0 c.in-Some.txn (sym c.in-Some.ensures.value) in
-    let count : c.committed-place.result ≡ commits c.self.inside.history.0 = c.committed-place.ensures in
+    let count : c.committed-commit_number.result ≡ commits c.self.inside.history.0 = c.committed-commit_number.ensures in
     omega (arith, few, count)
