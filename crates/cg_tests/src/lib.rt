@@ -3,26 +3,16 @@
 #![tactic(auto)]
 
 #[cfg(test)]
-mod commands;
+mod desk;
 #[cfg(test)]
-mod derived;
+mod libraries;
 #[cfg(test)]
-mod devices;
+mod machine;
 #[cfg(test)]
-mod files;
-#[cfg(test)]
-mod lock_lists;
-#[cfg(test)]
-mod locks;
-#[cfg(test)]
-mod path_maps;
-#[cfg(test)]
-mod paths;
-#[cfg(test)]
-mod plain_locks;
+mod opening;
 #[cfg(test)]
 mod printed;
 #[cfg(test)]
-mod transactions;
+mod replaying;
 #[cfg(test)]
-mod trees;
+mod runner;

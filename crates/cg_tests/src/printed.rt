@@ -1,5 +1,6 @@
-//! The printed texts of refusals, and of words that are read.
+//! The printed texts of refusals and faults, and of words that are read.
 use cg_name::{Controller, Refusal, TxnNumber};
+use cg_script::ScriptFault;
 use std::alloc::AllocError;
 
 // Whether this was printed.
@@ -55,4 +56,19 @@ fn words_are_read_and_printed(rt: HostRuntime) {
     assert!(rt; controller == Ok(Controller::Hugetlb));
     let printed = format!(in rt.alloc(); "{}|{:>6}|", Controller::Hugetlb, Controller::Io);
     assert!(rt; is_printed(&printed, "hugetlb|    io|"));
+}
+
+const FAULTS: [(ScriptFault, &str); 4] = [
+    (ScriptFault::Syntax, "the text is not in its grammar"),
+    (ScriptFault::Memory, "memory ran out"),
+    (ScriptFault::ReadFault, "the reader failed"),
+    (ScriptFault::WriteFault, "the writer failed"),
+];
+
+#[test]
+fn faults_are_printed(rt: HostRuntime) {
+    for (fault, text) in &FAULTS {
+        let printed = format!(in rt.alloc(); "{fault}");
+        assert!(rt; is_printed(&printed, text), "{text}");
+    }
 }

@@ -1,0 +1,53 @@
+//! Desks that were just opened.
+use crate::opening::{LARGER, MOST_SLOTS, world};
+use cg_desk::{CloseFault, Core, Desk, Refusal, Session, World};
+use std::alloc::{AllocError, Global};
+use std::sync::Wait;
+
+/// Whether the world is the one that the desks here are opened on.
+pub(crate) fn is_opening(alloc: Global, world: &World) -> Result<bool, AllocError> {
+    let mut text = Vec::new(alloc);
+    world.write(&mut text)?;
+    Ok(text.as_slice() == LARGER.as_bytes())
+}
+
+/// A desk on that world, with a history as long as can be.
+pub(crate) fn open(alloc: Global) -> Result<Desk, Refusal> {
+    Ok(Desk::open(alloc, world(alloc, LARGER)?, MOST_SLOTS)?)
+}
+
+/// A desk, and the sessions that it is to be closed with.
+#[derive(Drop)]
+pub(crate) struct Opened {
+    pub(crate) desk: Desk,
+    pub(crate) sessions: Vec<Session>,
+}
+
+// The next so many sessions of a desk.
+fn hand_out(
+    rt: &impl Wait,
+    alloc: Global,
+    desk: &Desk,
+    count: u32,
+) -> Result<Vec<Session>, Refusal> {
+    let mut sessions = Vec::new(alloc);
+    for _ in 0..count {
+        sessions.push(desk.session(rt, alloc)?)?;
+    }
+    Ok(sessions)
+}
+
+impl Opened {
+    /// A desk on the world, and so many sessions that it handed out.
+    pub(crate) fn open(rt: &impl Wait, alloc: Global, count: u32) -> Result<Opened, Refusal> {
+        let desk = open(alloc)?;
+        let sessions = hand_out(rt, alloc, &desk, count)?;
+        Ok(Opened { desk, sessions })
+    }
+
+    /// The desk is closed with the sessions.
+    pub(crate) fn close(self, alloc: Global) -> Result<Core, CloseFault> {
+        let Opened { desk, sessions } = self;
+        desk.close(alloc, sessions)
+    }
+}

@@ -1,0 +1,13 @@
+//! The libraries below the machine.
+mod asked;
+mod commands;
+mod derived;
+mod devices;
+mod files;
+mod lock_lists;
+mod locks;
+mod path_maps;
+mod paths;
+mod plain_locks;
+mod transactions;
+mod trees;

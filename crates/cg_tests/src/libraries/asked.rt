@@ -1,0 +1,61 @@
+//! Commands that are asked for.
+use cg_command::{Command, OnlineCpus};
+use cg_cpus::CpuSet;
+use cg_name::{FileName, Path, Refusal};
+use cg_text::{Limit, read_ops};
+use std::alloc::Global;
+
+/// A command without its path. Where any value is answered alike, it has none.
+#[derive(Clone, Copy)]
+pub(crate) enum Asked {
+    Create,
+    Remove,
+    Migrate(u32),
+    Subtree(&'static str),
+    Freeze,
+    Cpus,
+    Show(FileName),
+    Online,
+    MaxDescendants,
+    MaxDepth,
+}
+
+// A write of these operations.
+fn subtree(path: Path, text: &str) -> Result<Command, Refusal> {
+    let ops = read_ops(text)?;
+    Ok(Command::Subtree { path, ops })
+}
+
+// A write of these CPUs.
+fn cpus(path: Path, text: &str) -> Result<Command, Refusal> {
+    let cpus = CpuSet::read(text)?;
+    Ok(Command::Cpus { path, cpus })
+}
+
+// That these CPUs are online.
+fn online(text: &str) -> Result<Command, Refusal> {
+    let cpus = OnlineCpus::try_from(CpuSet::read(text)?)?;
+    Ok(Command::Online { cpus })
+}
+
+// The command at the path.
+fn command_at(asked: Asked, path: Path) -> Result<Command, Refusal> {
+    let limit = Limit::Max;
+    match asked {
+        Asked::Create => Ok(Command::Create { path }),
+        Asked::Remove => Ok(Command::Remove { path }),
+        Asked::Migrate(pid) => Ok(Command::Migrate { pid, path }),
+        Asked::Subtree(text) => subtree(path, text),
+        Asked::Freeze => Ok(Command::Freeze { path, value: true }),
+        Asked::Cpus => cpus(path, "0-1"),
+        Asked::Show(file) => Ok(Command::Show { path, file }),
+        Asked::Online => online("0-1"),
+        Asked::MaxDescendants => Ok(Command::MaxDescendants { path, limit }),
+        Asked::MaxDepth => Ok(Command::MaxDepth { path, limit }),
+    }
+}
+
+/// The command at the path that a word spells.
+pub(crate) fn command(alloc: Global, asked: Asked, word: &str) -> Result<Command, Refusal> {
+    command_at(asked, Path::read(alloc, word)?)
+}

@@ -1,0 +1,149 @@
+//! The tree that commands change: made of a world, given back as one, and edited.
+use crate::opening::{LARGER, tree};
+use cg_derive::parent_settings;
+use cg_name::{Path, Refusal};
+use cg_text::{Settings, write_procs};
+use cg_tree::{Edit, Tree};
+use std::alloc::{AllocError, Global};
+
+// Appends the text of the world that the tree of a world gives back.
+fn write_back(alloc: Global, out: &mut Vec<u8>) -> Result<(), Refusal> {
+    tree(alloc, LARGER)?.to_world(alloc)?.write(out)?;
+    Ok(())
+}
+
+#[test]
+fn a_tree_gives_its_world_back(rt: HostRuntime) {
+    let mut out = Vec::new(rt.alloc());
+    assert!(rt; write_back(rt.alloc(), &mut out) == Ok(()));
+    assert!(rt; out.as_slice() == LARGER.as_bytes());
+}
+
+// Makes the group at the path that a word spells, where its parent is there.
+fn make_group(alloc: Global, tree: &mut Tree, word: &str) -> Result<(), Refusal> {
+    let path = Path::read(alloc, word)?;
+    if parent_settings(tree, &path).is_none() {
+        return Err(Refusal::NoGroup);
+    }
+    let settings = Some(Settings::fresh());
+    let edit = Edit::Group { path, settings };
+    tree.make_room(alloc, &edit)?;
+    tree.put_edit(edit);
+    Ok(())
+}
+
+// Moves the process into the group at the path that a word spells, which has an entry.
+fn move_process(alloc: Global, tree: &mut Tree, pid: u32, word: &str) -> Result<(), Refusal> {
+    let path = Path::read(alloc, word)?;
+    let edit = Edit::Place { pid, path };
+    if !tree.has_room(&edit) {
+        return Err(Refusal::NoGroup);
+    }
+    tree.put_edit(edit);
+    Ok(())
+}
+
+// Two groups, one in the other, and a process in the lower one.
+fn edit_tree(alloc: Global, tree: &mut Tree) -> Result<(), Refusal> {
+    make_group(alloc, tree, "/a")?;
+    make_group(alloc, tree, "/a/b")?;
+    move_process(alloc, tree, 11, "/a/b")
+}
+
+// Appends the path of the group of a process, if there is one with this PID, and a newline.
+fn write_location(
+    alloc: Global,
+    tree: &Tree,
+    pid: u32,
+    out: &mut Vec<u8>,
+) -> Result<(), AllocError> {
+    if let Some(path) = tree.location(alloc, pid)? {
+        path.write(out)?;
+    }
+    out.push(b'\n')?;
+    Ok(())
+}
+
+// Appends the paths of the children of the group at the path.
+fn write_children(tree: &Tree, path: &Path, out: &mut Vec<u8>) -> Result<(), AllocError> {
+    for (child, _) in tree.children(path) {
+        child.write(out)?;
+    }
+    Ok(())
+}
+
+// Appends the name of the first of them.
+fn write_first_child(tree: &Tree, path: &Path, out: &mut Vec<u8>) -> Result<(), AllocError> {
+    if let Some((name, _)) = tree.child_at(path, 0) {
+        out.extend_from_slice(name.as_bytes())?;
+    }
+    Ok(())
+}
+
+// Appends both, and a `2` where two groups are below that one, and a newline.
+fn write_below(tree: &Tree, path: &Path, out: &mut Vec<u8>) -> Result<(), AllocError> {
+    write_children(tree, path, out)?;
+    write_first_child(tree, path, out)?;
+    if tree.descendants(path, 0) == 2 {
+        out.push(b'2')?;
+    }
+    out.push(b'\n')?;
+    Ok(())
+}
+
+// Appends the PIDs, one on a line.
+fn write_pids(tree: &Tree, out: &mut Vec<u8>) -> Result<(), AllocError> {
+    for pid in tree.pids() {
+        write_procs(&[pid], out)?;
+    }
+    Ok(())
+}
+
+// Appends where two processes are, and one that isn't there.
+fn write_locations(alloc: Global, tree: &Tree, out: &mut Vec<u8>) -> Result<(), AllocError> {
+    write_location(alloc, tree, 10, out)?;
+    write_location(alloc, tree, 11, out)?;
+    write_location(alloc, tree, 99, out)
+}
+
+// Appends what the tree shows: that, its groups and its PIDs.
+fn write_tree(alloc: Global, tree: &Tree, out: &mut Vec<u8>) -> Result<(), AllocError> {
+    write_locations(alloc, tree, out)?;
+    write_below(tree, &Path::root(alloc), out)?;
+    write_pids(tree, out)
+}
+
+// Appends that of the tree, and of the tree once it was edited.
+fn write_edited(alloc: Global, tree: &mut Tree, out: &mut Vec<u8>) -> Result<(), Refusal> {
+    write_tree(alloc, tree, out)?;
+    edit_tree(alloc, tree)?;
+    write_tree(alloc, tree, out)?;
+    Ok(())
+}
+
+// Appends those of the tree of that world.
+fn write_trees(alloc: Global, out: &mut Vec<u8>) -> Result<(), Refusal> {
+    let mut tree = tree(alloc, LARGER)?;
+    write_edited(alloc, &mut tree, out)
+}
+
+const SHOWN: &str = "/
+/
+
+
+10
+11
+/
+/a/b
+
+/aa2
+10
+11
+";
+
+#[test]
+fn a_tree_is_edited(rt: HostRuntime) {
+    let mut out = Vec::new(rt.alloc());
+    assert!(rt; write_trees(rt.alloc(), &mut out) == Ok(()));
+    assert!(rt; out.as_slice() == SHOWN.as_bytes());
+}

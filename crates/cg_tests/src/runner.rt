@@ -1,0 +1,7 @@
+//! Runs of scripts by workers.
+mod crowd;
+mod gates;
+mod holding;
+mod rows;
+mod running;
+mod telling;

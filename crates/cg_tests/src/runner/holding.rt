@@ -1,0 +1,168 @@
+//! Two scripts in two threads, and a gate that holds their calls.
+use crate::runner::gates::{Holding, Rule, Told};
+use crate::runner::running::write_run;
+use cg_name::Refusal;
+use std::alloc::{AllocError, Global};
+use std::sync::Wait;
+use std::sync::atomic::Ordering;
+use std::thread::Threads;
+
+/// Two scripts that two workers run, and how that has to end.
+struct Case {
+    name: &'static str,
+    rules: &'static [Rule],
+    texts: &'static [&'static str],
+    // Whether a script that met the other is begun anew, once.
+    is_begun_anew: bool,
+    // How the scripts end: any of these.
+    ends: &'static [&'static str],
+    // What the tree has beside its root then, and what the gate was told.
+    rest: &'static str,
+}
+
+// The second call of each comes behind the first of the other.
+const ABREAST: [Rule; 2] = [
+    Rule {
+        script: 1,
+        call: 2,
+        behind: 1,
+    },
+    Rule {
+        script: 2,
+        call: 2,
+        behind: 1,
+    },
+];
+
+// The second script's second call comes between the second and the third of the first, and its fourth behind them.
+const CROSSED: [Rule; 3] = [
+    Rule {
+        script: 2,
+        call: 2,
+        behind: 2,
+    },
+    Rule {
+        script: 1,
+        call: 3,
+        behind: 2,
+    },
+    Rule {
+        script: 2,
+        call: 4,
+        behind: 3,
+    },
+];
+
+static CASES: [Case; 3] = [
+    Case {
+        name: "two transactions are open at once",
+        rules: &ABREAST,
+        texts: &["create /a", "create /b"],
+        is_begun_anew: false,
+        ends: &[
+            "committed 1 tries 1\ncommitted 2 tries 1\n",
+            "committed 2 tries 1\ncommitted 1 tries 1\n",
+        ],
+        rest: "group /a - 0 -
+group /b - 0 -
+proc 10 /
+proc 11 /
+end
+calls 3, ended 1 behind call 3, tries 1
+calls 3, ended 1 behind call 3, tries 1
+late false
+",
+    },
+    Case {
+        name: "a script gives up behind its last try",
+        rules: &CROSSED,
+        texts: &["create /a", "create /a/b"],
+        is_begun_anew: false,
+        ends: &["committed 1 tries 1\ngaveup tries 1\n"],
+        rest: "group /a - 0 -
+proc 10 /
+proc 11 /
+end
+calls 3, ended 1 behind call 3, tries 1
+calls 3, ended 1 behind call 3, tries 1
+late false
+",
+    },
+    Case {
+        name: "a script is begun anew where another was in its way",
+        rules: &CROSSED,
+        texts: &["create /a", "create /a/b"],
+        is_begun_anew: true,
+        ends: &["committed 1 tries 1\ncommitted 2 tries 2\n"],
+        rest: "group /a - 0 -
+group /a/b - 0 -
+proc 10 /
+proc 11 /
+end
+calls 3, ended 1 behind call 3, tries 1
+calls 6, ended 1 behind call 6, tries 2
+late false
+",
+    },
+];
+
+// Appends what the gate was told of a script.
+fn write_told(told: &Told, out: &mut String) -> Result<(), AllocError> {
+    let answered = told.answered.load(Ordering::SeqCst);
+    let endings = told.endings.load(Ordering::SeqCst);
+    let last = told.last.load(Ordering::SeqCst);
+    let tries = told.tries.load(Ordering::SeqCst);
+    writeln!(
+        out,
+        "calls {answered}, ended {endings} behind call {last}, tries {tries}"
+    )
+}
+
+// Appends what the gate was told of either script, and whether a call was held too long.
+fn write_gate(gate: &Holding, out: &mut String) -> Result<(), AllocError> {
+    write_told(&gate.first, out)?;
+    write_told(&gate.second, out)?;
+    let is_late = gate.is_late.load(Ordering::SeqCst);
+    writeln!(out, "late {is_late}")
+}
+
+// Appends how the case ends.
+fn write_case<R: Threads + Wait + Sync>(
+    rt: &R,
+    alloc: Global,
+    case: &Case,
+    out: &mut String,
+) -> Result<(), Refusal> {
+    let gate = Holding::new(case.rules);
+    let tries = if case.is_begun_anew { 2 } else { 1 };
+    write_run(rt, alloc, &gate, case.texts, 2, tries, out)?;
+    Ok(write_gate(&gate, out)?)
+}
+
+// Whether the case ends so.
+fn ends_so(case: &Case, text: &str) -> bool {
+    case.ends
+        .iter()
+        .any(|ends| text.strip_prefix(*ends) == Some(case.rest))
+}
+
+// The first case that ends otherwise than it has to.
+fn first_wrong<R: Threads + Wait + Sync>(
+    rt: &R,
+    alloc: Global,
+    cases: &'static [Case],
+) -> Result<Option<&'static str>, Refusal> {
+    for case in cases {
+        let mut out = String::new(alloc);
+        write_case(rt, alloc, case, &mut out)?;
+        if !ends_so(case, out.as_str()) {
+            return Ok(Some(case.name));
+        }
+    }
+    Ok(None)
+}
+
+#[test]
+fn two_scripts_run_at_once(rt: HostRuntime) {
+    assert!(rt; first_wrong(&rt, rt.alloc(), &CASES) == Ok(None));
+}
