@@ -1,7 +1,8 @@
 //! Gates.
 use cg_runner::Gate;
-use std::hint;
-use std::sync::atomic::{AtomicBool, AtomicU32, Ordering};
+use std::sync::atomic::{AtomicU32, Ordering};
+use std::sync::{Condvar, Mutex, Wait};
+use std::time::{Clock, Duration};
 
 /// Holds no call.
 #[derive(Drop)]
@@ -40,8 +41,8 @@ impl Gate for Counting {
     }
 }
 
-// For how many turns a call is held at most.
-const TURNS: u32 = 1_000_000_000;
+// For how long a call is held at most, in milliseconds.
+const PATIENCE: u64 = 10_000;
 
 /// A call of a script that is held until another script's call was answered.
 pub(crate) struct Rule {
@@ -52,71 +53,106 @@ pub(crate) struct Rule {
 }
 
 /// What a gate was told of a script.
-#[derive(Drop)]
+#[derive(Clone, Copy)]
 pub(crate) struct Told {
     // Which call was answered last.
-    pub(crate) answered: AtomicU32,
+    pub(crate) answered: u32,
     // How often it has ended, and which call had been answered last then.
-    pub(crate) endings: AtomicU32,
-    pub(crate) last: AtomicU32,
+    pub(crate) endings: u32,
+    pub(crate) last: u32,
     // How often it was begun.
-    pub(crate) tries: AtomicU32,
+    pub(crate) tries: u32,
 }
 
 impl Told {
     fn new() -> Told {
         Told {
-            answered: AtomicU32::new(0),
-            endings: AtomicU32::new(0),
-            last: AtomicU32::new(0),
-            tries: AtomicU32::new(0),
+            answered: 0,
+            endings: 0,
+            last: 0,
+            tries: 0,
         }
+    }
+}
+
+/// What a gate was told of two scripts.
+#[derive(Clone, Copy)]
+pub(crate) struct Both {
+    pub(crate) first: Told,
+    pub(crate) second: Told,
+    // Whether a call was held too long.
+    pub(crate) is_late: bool,
+}
+
+impl Both {
+    fn new() -> Both {
+        Both {
+            first: Told::new(),
+            second: Told::new(),
+            is_late: false,
+        }
+    }
+
+    // What was told of a script.
+    fn of(&mut self, script: u32) -> &mut Told {
+        if script == 1 {
+            &mut self.first
+        } else {
+            &mut self.second
+        }
+    }
+
+    fn answer(&mut self, script: u32, call: u32) {
+        self.of(script).answered = call;
+    }
+
+    fn end(&mut self, script: u32, tries: u32) {
+        let told = self.of(script);
+        told.endings = told.endings.saturating_add(1);
+        told.last = told.answered;
+        told.tries = tries;
     }
 }
 
 /// A gate for two scripts, which holds some calls of each until a call of the other was answered.
 #[derive(Drop)]
-pub(crate) struct Holding {
-    pub(crate) rules: &'static [Rule],
-    pub(crate) first: Told,
-    pub(crate) second: Told,
-    // Whether a call was held too long.
-    pub(crate) is_late: AtomicBool,
+pub(crate) struct Holding<'a, R> {
+    rt: &'a R,
+    rules: &'static [Rule],
+    both: Mutex<Both>,
+    answered: Condvar,
 }
 
-impl Holding {
-    pub(crate) fn new(rules: &'static [Rule]) -> Holding {
+impl<'a, R: Wait + Clock> Holding<'a, R> {
+    pub(crate) fn new(rt: &'a R, rules: &'static [Rule]) -> Holding<'a, R> {
         Holding {
+            rt,
             rules,
-            first: Told::new(),
-            second: Told::new(),
-            is_late: AtomicBool::new(false),
+            both: Mutex::new(Both::new()),
+            answered: Condvar::new(),
         }
     }
 
-    // What was told of a script.
-    fn told(&self, script: u32) -> &Told {
-        if script == 1 {
-            &self.first
-        } else {
-            &self.second
-        }
+    /// What it was told so far.
+    pub(crate) fn told(&self) -> Both {
+        *self.both.lock(self.rt)
     }
 
     // Waits until that call of the script was answered.
     fn hold(&self, script: u32, call: u32) {
-        let told = self.told(script);
-        for _ in 0..TURNS {
-            if told.answered.load(Ordering::SeqCst) >= call {
-                return;
-            }
-            hint::spin_loop();
+        let (mut both, waited) = self.answered.wait_timeout_while(
+            self.rt,
+            self.both.lock(self.rt),
+            Duration::from_millis(PATIENCE),
+            |both| both.of(script).answered < call,
+        );
+        if waited.timed_out() {
+            both.is_late = true;
         }
-        self.is_late.store(true, Ordering::SeqCst);
     }
 }
 
-impl Gate for Holding {
+impl<R: Wait + Clock> Gate for Holding<'_, R> {
     fn before(&self, script: u32, call: u32) {
         for rule in self.rules {
             if rule.script == script && rule.call == call {
@@ -126,14 +162,11 @@ impl Gate for Holding {
     }
 
     fn after(&self, script: u32, call: u32) {
-        self.told(script).answered.store(call, Ordering::SeqCst);
+        self.both.lock(self.rt).answer(script, call);
+        self.answered.notify_all();
     }
 
     fn ended(&self, script: u32, tries: u32) {
-        let told = self.told(script);
-        told.endings.fetch_add(1, Ordering::SeqCst);
-        told.last
-            .store(told.answered.load(Ordering::SeqCst), Ordering::SeqCst);
-        told.tries.store(tries, Ordering::SeqCst);
+        self.both.lock(self.rt).end(script, tries);
     }
 }

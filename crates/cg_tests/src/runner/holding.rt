@@ -1,11 +1,11 @@
 //! Two scripts in two threads, and a gate that holds their calls.
-use crate::runner::gates::{Holding, Rule, Told};
+use crate::runner::gates::{Both, Holding, Rule, Told};
 use crate::runner::running::write_run;
 use cg_name::Refusal;
 use std::alloc::{AllocError, Global};
 use std::sync::Wait;
-use std::sync::atomic::Ordering;
 use std::thread::Threads;
+use std::time::Clock;
 
 /// Two scripts that two workers run, and how that has to end.
 struct Case {
@@ -106,37 +106,37 @@ late false
     },
 ];
 
-// Appends what the gate was told of a script.
-fn write_told(told: &Told, out: &mut String) -> Result<(), AllocError> {
-    let answered = told.answered.load(Ordering::SeqCst);
-    let endings = told.endings.load(Ordering::SeqCst);
-    let last = told.last.load(Ordering::SeqCst);
-    let tries = told.tries.load(Ordering::SeqCst);
+// Appends what a gate was told of a script.
+fn write_told(told: Told, out: &mut String) -> Result<(), AllocError> {
+    let answered = told.answered;
+    let endings = told.endings;
+    let last = told.last;
+    let tries = told.tries;
     writeln!(
         out,
         "calls {answered}, ended {endings} behind call {last}, tries {tries}"
     )
 }
 
-// Appends what the gate was told of either script, and whether a call was held too long.
-fn write_gate(gate: &Holding, out: &mut String) -> Result<(), AllocError> {
-    write_told(&gate.first, out)?;
-    write_told(&gate.second, out)?;
-    let is_late = gate.is_late.load(Ordering::SeqCst);
+// Appends what a gate was told of either script, and whether a call was held too long.
+fn write_both(both: Both, out: &mut String) -> Result<(), AllocError> {
+    write_told(both.first, out)?;
+    write_told(both.second, out)?;
+    let is_late = both.is_late;
     writeln!(out, "late {is_late}")
 }
 
 // Appends how the case ends.
-fn write_case<R: Threads + Wait + Sync>(
+fn write_case<R: Threads + Wait + Clock + Sync>(
     rt: &R,
     alloc: Global,
     case: &Case,
     out: &mut String,
 ) -> Result<(), Refusal> {
-    let gate = Holding::new(case.rules);
+    let gate = Holding::new(rt, case.rules);
     let tries = if case.is_begun_anew { 2 } else { 1 };
     write_run(rt, alloc, &gate, case.texts, 2, tries, out)?;
-    Ok(write_gate(&gate, out)?)
+    Ok(write_both(gate.told(), out)?)
 }
 
 // Whether the case ends so.
@@ -147,7 +147,7 @@ fn ends_so(case: &Case, text: &str) -> bool {
 }
 
 // The first case that ends otherwise than it has to.
-fn first_wrong<R: Threads + Wait + Sync>(
+fn first_wrong<R: Threads + Wait + Clock + Sync>(
     rt: &R,
     alloc: Global,
     cases: &'static [Case],
