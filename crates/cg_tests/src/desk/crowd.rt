@@ -12,7 +12,7 @@ use std::time::{Clock, Duration};
 
 const THREADS: u32 = 8;
 
-const TRANSACTIONS: u32 = 200;
+const TRANSACTIONS: u32 = 25;
 
 const TRIES: u32 = 1_000;
 
@@ -197,6 +197,6 @@ fn crowd<R: Threads + Wait + Clock + Sync>(
 }
 
 #[test]
-fn eight_threads_make_200_transactions_each_and_a_replay_agrees(rt: HostRuntime) {
-    assert!(rt; crowd(&rt, rt.alloc()) == Ok((1_600, true)));
+fn eight_threads_make_25_transactions_each_and_a_replay_agrees(rt: HostRuntime) {
+    assert!(rt; crowd(&rt, rt.alloc()) == Ok((200, true)));
 }

@@ -92,24 +92,3 @@ static NO_SCRIPTS: [&str; 8] = [
 fn what_is_no_script_is_refused(rt: HostRuntime) {
     assert!(rt; first_script(rt.alloc(), &NO_SCRIPTS) == None);
 }
-
-// A text of so many requests.
-fn long_text(alloc: Global, count: usize) -> Result<Vec<u8>, AllocError> {
-    let mut text = Vec::new(alloc);
-    for _ in 0..count {
-        text.extend_from_slice(b"undo\n")?;
-    }
-    Ok(text)
-}
-
-// Whether a script of so many requests is refused for its grammar.
-fn is_too_long(alloc: Global, count: usize) -> Result<bool, AllocError> {
-    let text = long_text(alloc, count)?;
-    Ok(is_refused(alloc, text.as_slice()))
-}
-
-#[test]
-fn a_script_has_65536_requests_at_most(rt: HostRuntime) {
-    assert!(rt; is_too_long(rt.alloc(), 65_536) == Ok(false));
-    assert!(rt; is_too_long(rt.alloc(), 65_537) == Ok(true));
-}

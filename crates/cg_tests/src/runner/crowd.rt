@@ -1,4 +1,4 @@
-//! As many scripts and workers as there can be.
+//! More scripts than workers.
 ghost use Rattle.std.specs.Prelude.{◌≤◌, IfOk, vec_len};
 
 use crate::opening::world;
@@ -14,11 +14,11 @@ use std::sync::Wait;
 use std::sync::atomic::Ordering;
 use std::thread::Threads;
 
-const GROUPS: usize = 64;
+const GROUPS: usize = 16;
 
-const SCRIPTS: usize = 4_096;
+const SCRIPTS: usize = 256;
 
-const WORKERS: u32 = 64;
+const WORKERS: u32 = 8;
 
 const TRIES: u32 = 8;
 
@@ -41,7 +41,7 @@ fn shared(alloc: Global) -> Result<World, Refusal> {
 // The script at this place: each group has a script after another, one with a group of its own in there, the next with a
 // group that others make and take away as well.
 fn script(alloc: Global, place: usize) -> Result<Script, Refusal> {
-    let group = place / 64;
+    let group = place / 16;
     let mut text = String::new(alloc);
     if place % 2 == 0 {
         writeln!(text, "create /g{group}/n{place}")?;
@@ -148,6 +148,6 @@ fn crowd<R: Threads + Wait + Sync>(rt: &R, alloc: Global) -> Result<&'static str
 }
 
 #[test]
-fn workers_run_4096_scripts_and_a_replay_agrees(rt: HostRuntime) {
+fn workers_run_256_scripts_and_a_replay_agrees(rt: HostRuntime) {
     assert!(rt; crowd(&rt, rt.alloc()) == Ok("nothing"));
 }
