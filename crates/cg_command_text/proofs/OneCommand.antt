@@ -14,7 +14,7 @@ use Rattle.cg_text.proofs.Files.{one_file}
 use Rattle.cg_text.proofs.Limits.{one_limit}
 use Rattle.cg_text.proofs.Operations.{one_result}
 use Rattle.cg_model.specs.Command.{Command, Create, Remove, Migrate, Subtree, Freeze, Cpus, Show, Online, MaxDescendants, MaxDepth}
-use Rattle.cg_world.proofs.Spelled.{one_flag}
+use Rattle.cg_world_text.proofs.Spelled.{one_flag}
 use Rattle.cg_command_text.specs.CommandText.{SpellsCommand, SpellsCpuWords}
 use Rattle.cg_command_text.specs.Laws.{OneCommand}
 use Rattle.cg_command_text.proofs.Keywords.{which}

@@ -5,7 +5,7 @@ use Rattle.cg_cpus.specs.CpuList.{SpellsCpus, trimmed}
 use Rattle.cg_cpus.proofs.Grammar.{spelled_below}
 use Rattle.cg_model.specs.Command.{Create, Remove, Migrate, Subtree, Freeze, Cpus, Show, Online, MaxDescendants, MaxDepth}
 use Rattle.cg_text.specs.Words.{Word}
-use Rattle.cg_world.specs.Statement.{AreCpusUpTo}
+use Rattle.cg_world.specs.Representable.{AreCpusUpTo}
 use Rattle.cg_command_text.specs.CommandText.{SpellsCpuWords}
 use Rattle.cg_command_text.specs.Laws.{SpelledCanBeAsked}
 

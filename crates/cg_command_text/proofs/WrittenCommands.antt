@@ -21,13 +21,12 @@ use Rattle.cg_text.specs.Words.{Word, line_of}
 use Rattle.cg_text.specs.declared.control_ops.ControlOps.{ControlOps}
 use Rattle.cg_text.proofs.Canonical.{words_spelled}
 use Rattle.cg_model.specs.Command.{Command, Create, Remove, Migrate, Subtree, Freeze, Cpus, Show, Online, MaxDescendants, MaxDepth}
-use Rattle.cg_world.specs.Statement.{AreCpusUpTo}
-use Rattle.cg_world.specs.World.{IsPid}
-use Rattle.cg_world.proofs.PlainWords.{IsPlainWord, plain_fit, decimal_plain}
-use Rattle.cg_world.proofs.RoundTrip.{spells_flag, spells_pid, filter_few, word_short, flag_short}
-use Rattle.cg_world.proofs.WrittenCpus.{cpus_short, cpus_plain}
-use Rattle.cg_world.proofs.WrittenLimits.{limit_plain, limit_short, spells_limit}
-use Rattle.cg_world.proofs.WrittenWords.{word_plain, flag_plain}
+use Rattle.cg_world.specs.Representable.{AreCpusUpTo, IsPid}
+use Rattle.cg_world_text.proofs.PlainWords.{IsPlainWord, plain_fit, decimal_plain}
+use Rattle.cg_world_text.proofs.RoundTrip.{spells_flag, spells_pid, filter_few, word_short, flag_short}
+use Rattle.cg_world_text.proofs.WrittenCpus.{cpus_short, cpus_plain}
+use Rattle.cg_world_text.proofs.WrittenLimits.{limit_plain, limit_short, spells_limit}
+use Rattle.cg_world_text.proofs.WrittenWords.{word_plain, flag_plain}
 use Rattle.cg_command_text.specs.CommandText.{SpellsCommand, SpellsCpuWords, command_words, cpu_words}
 use Rattle.cg_command_text.specs.Laws.{IsWritten, WrittenCommandsAreSpelled}
 use Rattle.cg_command_text.specs.Spaced.{spaced}

@@ -9,8 +9,7 @@ use Rattle.cg_text.specs.FileText.{flag_word, limit_word, op_words}
 use Rattle.cg_text.specs.Reading.{SpellsFlag, SpellsLimit, SpellsOpsAfter, SpellsPid, no_ops}
 use Rattle.cg_text.specs.Words.{Word, line_of}
 use Rattle.cg_model.specs.Command.{Command, Create, Remove, Migrate, Subtree, Freeze, Cpus, Show, Online, MaxDescendants, MaxDepth}
-use Rattle.cg_world.specs.Statement.{AreCpusUpTo}
-use Rattle.cg_world.specs.World.{IsPid}
+use Rattle.cg_world.specs.Representable.{AreCpusUpTo, IsPid}
 
 -- no word for no CPU, or a list as one word
 abbrev pub SpellsCpuWords : List Word → FiniteSet → Type 0

@@ -21,6 +21,7 @@ use crate::status::Status;
 use cg_lines::{LineReader, Sink, Source, write_all};
 use cg_runner::{Core, Gate, RunReport, run_scripts};
 use cg_script::{ScriptFault, read_world, write_history};
+use cg_world_text::WriteWorld;
 use std::alloc::Global;
 use std::sync::Wait;
 use std::thread::Threads;

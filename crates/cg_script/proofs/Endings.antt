@@ -19,7 +19,7 @@ use Rattle.cg_core_laws.proofs.ControlGroups.SteppingOn.{steps_by_history}
 use Rattle.cg_core_laws.proofs.Interleaving.AbortsAtTheEnd.{ends_all}
 use Rattle.cg_core.specs.State.{CoreState, machine, reply, after}
 use Rattle.cg_history.specs.SessionMap.{oldest}
-use Rattle.cg_world.specs.World.{world_text}
+use Rattle.cg_world_text.specs.World.{world_text}
 use Rattle.cg_script.specs.Player.{IsReached}
 use Rattle.cg_script.specs.Replay.{answer_line, ending_sessions, abort_lines, aborted_by, tree_now, ending_by, ending_text}
 

@@ -5,7 +5,7 @@ use Rattle.cg_model.specs.Cgroups.{cgroups}
 use Rattle.cg_model.specs.History.{Request, Answer}
 use Rattle.cg_model.specs.Machine.{opened}
 use Rattle.cg_model.specs.Output.{output}
-use Rattle.cg_world.specs.World.{world_text}
+use Rattle.cg_world_text.specs.World.{world_text}
 use Rattle.cg_script.specs.Answer.{answer_text}
 use Rattle.cg_script.specs.HistoryText.{history_text, renumbered, turns_of, HistoriesAreReplayed}
 use Rattle.cg_script.specs.MachineOutput.{Turn, Skip, Ask, Fail, IsTurn, AreTurns, answer_lines, asked, written}

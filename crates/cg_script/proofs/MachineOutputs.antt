@@ -14,7 +14,7 @@ use Rattle.cg_core_laws.specs.MachineOf.{StepsOn}
 use Rattle.cg_core_laws.specs.Serial.{AreProper}
 use Rattle.cg_core_laws.proofs.ControlGroups.SteppingOn.{reached_at_first, steps_by_history}
 use Rattle.cg_core.specs.State.{CoreState, machine, after}
-use Rattle.cg_world.specs.World.{world_text}
+use Rattle.cg_world_text.specs.World.{world_text}
 use Rattle.cg_script.specs.Answer.{answer_text}
 use Rattle.cg_script.specs.MachineOutput.{Turn, Skip, Ask, Fail, AreTurns, asked, answer_lines, written, OutputsAreTheMachines}
 use Rattle.cg_script.specs.Player.{IsReached}

@@ -8,14 +8,14 @@ use Rattle.std.proofs.lemmas.Grind.{flat_map-append}
 use Rattle.cg_model.specs.Tree.{Tree}
 use Rattle.cg_model.specs.Sound.{Sound}
 use Rattle.cg_text.specs.Words.{Line, Word, IsLine, Says, SayAll, lines_of}
-use Rattle.cg_world.specs.declared.stage.Stage.{Stage}
-use Rattle.cg_world.specs.Reader.{EndsWorld, HasTaken, SomeEnds, SpellTree}
-use Rattle.cg_world.specs.World.{SpellsWorld}
+use Rattle.cg_world_text.specs.declared.stage.Stage.{Stage}
+use Rattle.cg_world_text.specs.Reader.{EndsWorld, HasTaken, SomeEnds, SpellTree}
+use Rattle.cg_world_text.specs.World.{SpellsWorld}
 use Rattle.cg_lines.specs.Lines.{HasNoNewline, BeginsWithLine, TakesKnownLine}
 use Rattle.cg_lines.specs.declared.lines.LineKind.TheVariants.{End, TooLong, Text, Last}
 use Rattle.cg_script.specs.WorldPart.{joined, BeginsWithWorld, ReadsWorld, HasNoWorld}
 use Rattle.cg_script.specs.WorldLines.{EndsAt, IsPart, IsPartBehind, SpoilEnd, SpoilWorld}
-use Rattle.cg_world.proofs.Taken.{some_last}
+use Rattle.cg_world_text.proofs.Taken.{some_last}
 use Rattle.cg_lines.proofs.LinesLaw.{lines_of-begins}
 use Rattle.cg_lines.proofs.LinesLemmas.{Consumes-append}
 

@@ -11,7 +11,7 @@ use Rattle.cg_model.specs.Machine.{opened}
 use Rattle.cg_model.specs.Output.{output}
 use Rattle.cg_model.specs.Sound.{Sound}
 use Rattle.cg_model.specs.Tree.{Tree}
-use Rattle.cg_world.specs.World.{world_text}
+use Rattle.cg_world_text.specs.World.{world_text}
 use Rattle.cg_script.specs.Answer.{answer_text}
 use Rattle.cg_script.specs.MachineOutput.{Turn, Ask, Skip, AreTurns, answer_lines, asked}
 use Rattle.cg_script.specs.Replay.{IsOutput, newline}

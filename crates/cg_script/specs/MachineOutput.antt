@@ -11,7 +11,7 @@ use Rattle.cg_model.specs.History.{Request, Answer}
 use Rattle.cg_model.specs.Machine.{opened}
 use Rattle.cg_model.specs.Output.{output}
 use Rattle.cg_core_laws.specs.Serial.{AreProper}
-use Rattle.cg_world.specs.World.{world_text}
+use Rattle.cg_world_text.specs.World.{world_text}
 use Rattle.cg_script.specs.Answer.{answer_text}
 use Rattle.cg_script.specs.Request.{SpellsLine}
 use Rattle.cg_script.specs.Replay.{newline, session_number, with_name, IsOneTooMany, IsOutput}

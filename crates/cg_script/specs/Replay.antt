@@ -12,7 +12,7 @@ use Rattle.cg_model.specs.History.{Request, Abort, History}
 use Rattle.cg_model.specs.Opens.{opens}
 use Rattle.cg_model.specs.Run.{tree_of}
 use Rattle.cg_core.specs.State.{CoreState, reply, after}
-use Rattle.cg_world.specs.World.{world_text}
+use Rattle.cg_world_text.specs.World.{world_text}
 use Rattle.cg_script.specs.Answer.{answer_text}
 use Rattle.cg_lines.specs.Lines.{LosesOfLine}
 use Rattle.cg_script.specs.Request.{SpellsLine}

@@ -5,7 +5,7 @@ use Rattle.cg_model.specs.History.{History, Request}
 use Rattle.cg_model.specs.Run.{tree_of}
 use Rattle.cg_model.specs.Tree.{Tree}
 use Rattle.cg_history.specs.Meaning.{request_of}
-use Rattle.cg_world.specs.World.{world_text}
+use Rattle.cg_world_text.specs.World.{world_text}
 use Rattle.cg_script.specs.Script.{SpellsScript}
 use Rattle.cg_script.specs.declared.script.Script.{Script}
 

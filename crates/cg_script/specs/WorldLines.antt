@@ -4,8 +4,8 @@ use Rattle.std.specs.List.{AllByRecursion}
 use Rattle.std.specs.Io.KnownBytes.{Consumes}
 use Rattle.cg_text.specs.Words.{Line}
 use Rattle.cg_model.specs.Tree.{Tree}
-use Rattle.cg_world.specs.declared.stage.Stage.{Stage}
-use Rattle.cg_world.specs.Reader.{EndsWorld, HasTaken, SpellTree}
+use Rattle.cg_world_text.specs.declared.stage.Stage.{Stage}
+use Rattle.cg_world_text.specs.Reader.{EndsWorld, HasTaken, SpellTree}
 use Rattle.cg_lines.specs.Lines.{HasNoNewline}
 use Rattle.cg_script.specs.WorldPart.{joined}
 

@@ -2,8 +2,8 @@
 use Rattle.std.specs.Prelude.{◌≡◌, ◌⊎◌, ℕ, List, [], ◌∷◌, ◌++◌, Option, Some, None}
 use Rattle.std.specs.List.{AllByRecursion, flat_map}
 use Rattle.cg_model.specs.Tree.{Tree}
-use Rattle.cg_world.specs.Reader.{EndsWorld}
-use Rattle.cg_world.specs.World.{SpellsWorld}
+use Rattle.cg_world_text.specs.Reader.{EndsWorld}
+use Rattle.cg_world_text.specs.World.{SpellsWorld}
 use Rattle.cg_lines.specs.Lines.{HasNoNewline}
 
 -- lines as a text, each with its newline

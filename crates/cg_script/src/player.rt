@@ -5,7 +5,7 @@ ghost use Rattle.std.specs.Option.{option_map};
 ghost use Rattle.cg_name.specs.Refusal.{refusal_text};
 ghost use Rattle.cg_history.specs.Meaning.{answer_of, request_of};
 ghost use Rattle.cg_model.specs.Opens.{opens};
-ghost use Rattle.cg_world.specs.World.{world_text};
+ghost use Rattle.cg_world_text.specs.World.{world_text};
 ghost use Rattle.cg_script.specs.Answer.{answer_text};
 ghost use Rattle.cg_script.specs.Replay.{Answers, Asked, ending_text, opened, newline, session_number, tree_now, with_name};
 
@@ -15,6 +15,7 @@ use crate::session::SessionName;
 use cg_core::{Answer, Core, Request, SessionId};
 use cg_name::{Refusal, or_truncate};
 use cg_world::World;
+use cg_world_text::WriteWorld;
 use indexmap::IndexSet;
 use std::alloc::{AllocError, Global};
 use std::marker::Model;

@@ -4,7 +4,7 @@ ghost use Rattle.std.specs.Result.{IsErrOf};
 ghost use Rattle.cg_text.specs.Words.{Line};
 ghost use Rattle.cg_model.specs.Sound.{Sound};
 ghost use Rattle.cg_model.specs.Tree.{Tree};
-ghost use Rattle.cg_world.specs.Reader.{HasTaken, SomeEnds, SpellTree};
+ghost use Rattle.cg_world_text.specs.Reader.{HasTaken, SomeEnds, SpellTree};
 ghost use Rattle.cg_lines.specs.Lines.{pending, bytes_to_come, CanBreak};
 ghost use Rattle.cg_script.specs.WorldPart.{HasNoWorld, ReadsWorld};
 ghost use Rattle.cg_script.specs.WorldLines.{IsPart, IsPartBehind, SpoilEnd, SpoilWorld};
@@ -13,7 +13,8 @@ ghost use Rattle.cg_script.specs.declared.fault.ScriptFault.TheVariants as fault
 use crate::fault::ScriptFault;
 use cg_lines::{LineKind, LineReader, Source};
 use cg_name::Refusal;
-use cg_world::{LONGEST_WORLD, World, WorldReader};
+use cg_world::World;
+use cg_world_text::{LONGEST_WORLD, WorldReader};
 use std::alloc::Global;
 
 /// The world that the text through the first line `end` spells, that line's newline included where there is one; the

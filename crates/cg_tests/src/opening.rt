@@ -2,6 +2,7 @@
 use cg_desk::World;
 use cg_name::Refusal;
 use cg_tree::Tree;
+use cg_world_text::ReadWorld;
 use std::alloc::Global;
 
 /// One controller, one CPU and one process.

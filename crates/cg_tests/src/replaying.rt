@@ -1,6 +1,7 @@
 //! The text of a machine's tree, and a second run of its history on a fresh machine.
 use crate::opening::MOST_SLOTS;
 use cg_desk::{Answer, Core, Record, World};
+use cg_world_text::WriteWorld;
 use std::alloc::{AllocError, Global};
 
 /// The text of the machine's tree.

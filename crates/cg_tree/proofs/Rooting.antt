@@ -12,8 +12,7 @@ use Rattle.cg_model.specs.Key.{replaced}
 use Rattle.cg_model.specs.Room.{MaySweep}
 use Rattle.cg_model.specs.Sound.{Sound}
 use Rattle.cg_model.specs.Tree.{Tree, group, place_of, parent_group}
-use Rattle.cg_world.specs.Statement.{AreCpusUpTo}
-use Rattle.cg_world.specs.World.{IsPid, IsRepresentable}
+use Rattle.cg_world.specs.Representable.{AreCpusUpTo, IsPid, IsRepresentable}
 use Rattle.cg_tree.specs.Room.{TreeWithRoom, has_entry, may_have_entry, IsRooted, MaySweepIfDead}
 use Rattle.cg_tree.proofs.Prefixes.{from_parents, above_child}
 use Rattle.cg_tree.proofs.Presence.{is_some-domain}

@@ -5,7 +5,7 @@ use Rattle.cg_maps.specs.FiniteMap.{FiniteMap, get, set_at}
 use Rattle.cg_name.specs.Path.{Path, path_cmp, is_root, is_above}
 use Rattle.cg_model.specs.Room.{MaySweep}
 use Rattle.cg_model.specs.Tree.{Tree, group, place_of, parent_group}
-use Rattle.cg_world.specs.World.{IsPid, IsRepresentable}
+use Rattle.cg_world.specs.Representable.{IsPid, IsRepresentable}
 
 pub record TreeWithRoom : Type 0 where
   pub tree : Tree

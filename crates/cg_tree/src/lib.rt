@@ -7,12 +7,13 @@ mod edit;
 mod entry;
 mod groups;
 mod pids;
+mod present_groups;
 mod right_below;
 mod tree;
 mod worlds;
-mod writing;
 
 pub use children::Children;
 pub use edit::Edit;
 pub use pids::Pids;
+pub use present_groups::PresentGroups;
 pub use tree::Tree;

@@ -10,7 +10,7 @@ ghost use Rattle.cg_tree.specs.Edit.{edited, needed_entry, RoomForEdit};
 ghost use Rattle.cg_tree.specs.Present.{present};
 ghost use Rattle.cg_tree.specs.Prefix.{prefix_group};
 ghost use Rattle.cg_tree.specs.Room.{has_entry, may_have_entry, with_entry, without_dead, IsRooted, MaySweepIfDead};
-ghost use Rattle.cg_world.specs.Statement.{AreCpusUpTo};
+ghost use Rattle.cg_world.specs.Representable.{AreCpusUpTo};
 
 use crate::edit::Edit;
 use crate::groups::Groups;
@@ -187,8 +187,8 @@ impl Tree {
         &self.groups
     }
 
-    // The groups of the processes, by PID.
-    pub(crate) fn places(&self) -> &BTreeMap<u32, Path>
+    /// The paths of the groups of the processes, by PID.
+    pub fn places(&self) -> &BTreeMap<u32, Path>
         ensures { from_entries nat_cmp result.now.entries ≡ self.now.tree.places }
     {
         &self.places

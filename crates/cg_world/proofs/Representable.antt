@@ -10,9 +10,8 @@ use Rattle.cg_name.specs.Order.{path_cmp_total, path_cmp_exact}
 use Rattle.cg_text.specs.declared.controllers.Controllers.{Controllers}
 use Rattle.cg_text.specs.declared.settings.Settings.{Settings}
 use Rattle.cg_model.specs.Tree.{Tree}
-use Rattle.cg_world.specs.Stage.{bare_tree, with_group, with_process}
-use Rattle.cg_world.specs.Statement.{AreCpusUpTo}
-use Rattle.cg_world.specs.World.{IsPid, IsRepresentable}
+use Rattle.cg_world.specs.Making.{bare_tree, with_group, with_process}
+use Rattle.cg_world.specs.Representable.{AreCpusUpTo, IsPid, IsRepresentable}
 
 -- what holds of all that a map has holds with one entry more
 module _ {K X : Type 0} {R : K → K → Ordering} (o : IsTotalOrder R) (same : IsAntisymmetric R) (P : K → X → Type 0) where

@@ -1,10 +1,4 @@
-pub mod Laws
-pub mod Parts
+pub mod Making
 pub mod Plain
-pub mod Reader
+pub mod Representable
 pub mod Soundness
-pub mod Stage
-pub mod Statement
-pub mod Version
-pub mod World
-pub mod Writing

@@ -5,7 +5,7 @@ ghost use Rattle.std.specs.Ordering.{nat_cmp};
 ghost use Rattle.cg_maps.specs.FiniteMap.{set_at, empty, from_entries};
 ghost use Rattle.cg_name.specs.Path.{path_cmp};
 ghost use Rattle.cg_model.specs.Tree.{Tree, group, place_of};
-ghost use Rattle.cg_world.specs.World.{IsPid, IsRepresentable};
+ghost use Rattle.cg_world.specs.Representable.{IsPid, IsRepresentable};
 
 use cg_cpus::CpuSet;
 use cg_name::Path;
@@ -32,7 +32,7 @@ impl Model for PlainTree {
     ghost coded = { tree_code };
 
     ghost use Rattle.cg_world.specs.Plain.{tree_of};
-    ghost use Rattle.cg_world.specs.World.{IsRepresentable};
+    ghost use Rattle.cg_world.specs.Representable.{IsRepresentable};
 
     ghost view = { tree_of };
 
@@ -135,15 +135,15 @@ impl PlainTree {
         (self.controllers, self.online, self.groups, self.places)
     }
 
-    // The groups, by path.
-    pub(crate) fn groups(&self) -> &BTreeMap<Path, Settings>
+    /// The settings of the groups, by path.
+    pub fn groups(&self) -> &BTreeMap<Path, Settings>
         ensures { from_entries path_cmp result.now.entries ≡ self.now.groups }
     {
         &self.groups
     }
 
-    // The groups of the processes, by PID.
-    pub(crate) fn places(&self) -> &BTreeMap<u32, Path>
+    /// The paths of the groups of the processes, by PID.
+    pub fn places(&self) -> &BTreeMap<u32, Path>
         ensures { from_entries nat_cmp result.now.entries ≡ self.now.places }
     {
         &self.places

@@ -4,7 +4,7 @@ ghost use Rattle.std.specs.Option.{option_copied, option_map};
 ghost use Rattle.cg_maps.specs.FiniteMap.{entries};
 ghost use Rattle.cg_model.specs.Sound.{Sound};
 ghost use Rattle.cg_model.specs.Tree.{group, place_of};
-ghost use Rattle.cg_world.specs.World.{IsRepresentable};
+ghost use Rattle.cg_world.specs.Representable.{IsRepresentable};
 
 use crate::plain::PlainTree;
 use cg_cpus::CpuSet;

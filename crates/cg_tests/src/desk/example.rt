@@ -2,6 +2,7 @@
 use crate::replaying::text_of;
 use cg_command_text::read_command;
 use cg_desk::{Answer, CloseFault, Core, Desk, Refusal, Session, World};
+use cg_world_text::ReadWorld;
 use std::alloc::Global;
 use std::sync::Wait;
 use std::thread;

@@ -1,6 +1,7 @@
 //! Desks that were just opened.
 use crate::opening::{LARGER, MOST_SLOTS, world};
 use cg_desk::{CloseFault, Core, Desk, Refusal, Session, World};
+use cg_world_text::WriteWorld;
 use std::alloc::{AllocError, Global};
 use std::sync::Wait;
 

@@ -4,6 +4,7 @@ use cg_derive::parent_settings;
 use cg_name::{Path, Refusal};
 use cg_text::{Settings, write_procs};
 use cg_tree::{Edit, Tree};
+use cg_world_text::WriteWorld;
 use std::alloc::{AllocError, Global};
 
 // Appends the text of the world that the tree of a world gives back.

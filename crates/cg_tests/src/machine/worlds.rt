@@ -3,6 +3,7 @@ use crate::machine::asking::{create, step};
 use crate::opening::{SMALL, world};
 use cg_desk::{Core, Request};
 use cg_name::Refusal;
+use cg_world_text::WriteWorld;
 use std::alloc::{AllocError, Global};
 
 // Makes the group `/a` in a transaction.

@@ -1,6 +1,6 @@
 use Rattle.std.proofs.Common.{sym, subst}
 use Rattle.std.specs.Prelude.{codes}
-use Rattle.cg_world.proofs.Spelled.{keyed}
+use Rattle.cg_world_text.proofs.Spelled.{keyed}
 use Rattle.cg_command_text.specs.CommandText.{SpellsCommand}
 use Rattle.cg_command_text.proofs.reading.read_command.Goals as goal
 

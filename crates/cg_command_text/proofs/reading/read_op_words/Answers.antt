@@ -1,6 +1,6 @@
 -- The words are taken from the front.
 use Rattle.std.proofs.Common.{arith}
-use Rattle.cg_world.proofs.Adding.{next_word, at_err}
+use Rattle.cg_world_text.proofs.Adding.{next_word, at_err}
 use Rattle.cg_command_text.proofs.OpWords.{no_round}
 use Rattle.cg_command_text.proofs.reading.read_op_words.Goals as goal
 

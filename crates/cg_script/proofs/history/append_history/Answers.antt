@@ -6,7 +6,7 @@ use Rattle.std.proofs.lemmas.Grind.{flat_map-append}
 use Rattle.cg_history.specs.Meaning.{record_of}
 use Rattle.cg_history.specs.declared.record.Record as code
 use Rattle.cg_name.proofs.Growing.{first, refused}
-use Rattle.cg_world.proofs.Adding.{next_taken}
+use Rattle.cg_world_text.proofs.Adding.{next_taken}
 use Rattle.cg_script.specs.HistoryText.{record_text}
 use Rattle.cg_script.proofs.HistoryTurns.{map_next}
 use Rattle.cg_script.proofs.history.append_history.Goals as goal

@@ -7,7 +7,7 @@ use Rattle.std.proofs.lemmas.Iterator.Splits.{YieldsList-from_slice_split}
 use Rattle.std.proofs.lemmas.Iterator.Consumers.{YieldsList-at, YieldsList-turn, YieldsList-end}
 use Rattle.std.proofs.lemmas.Result.{err_from_is_err_and}
 use Rattle.cg_text.specs.Words.{is_newline}
-use Rattle.cg_world.proofs.Adding.{next_taken}
+use Rattle.cg_world_text.proofs.Adding.{next_taken}
 use Rattle.cg_script.specs.Script.{SayRequests}
 use Rattle.cg_script.specs.ScriptLines.{asked_by}
 use Rattle.cg_script.proofs.Scripts.{spells, spoiled}

@@ -2,7 +2,7 @@ use Rattle.std.proofs.Common.{◌≡◌, ℕ, ◌++◌, refl, sym, ap, subst, �
 use Rattle.cg_model.specs.History.{Abort}
 use Rattle.cg_model.specs.Opens.{opens}
 use Rattle.cg_core.specs.State.{CoreState}
-use Rattle.cg_world.specs.World.{world_text}
+use Rattle.cg_world_text.specs.World.{world_text}
 use Rattle.cg_script.specs.Answer.{answer_text}
 use Rattle.cg_script.specs.Replay.{Replay, answer_line, ending_text, newline, tree_now}
 use Rattle.cg_script.proofs.Endings.{IsAborted, aborted, ending_last, none_open, on_false}

@@ -1,7 +1,7 @@
 use Rattle.std.proofs.Common.{[], ◌∷◌, ◌++◌, append-nil, subst, sym, ◌∙◌, true≢false}
 use Rattle.std.proofs.lemmas.Result.{err_from_is_err_and}
-use Rattle.cg_world.specs.Reader.{SpellTree}
-use Rattle.cg_world.proofs.Taken.{some_last}
+use Rattle.cg_world_text.specs.Reader.{SpellTree}
+use Rattle.cg_world_text.proofs.Taken.{some_last}
 use Rattle.cg_script.proofs.world_reader.Part.take_last.Goals as goal
 
 pub returns-in_err-part-clause-syntax : goal.returns-in_err-part-clause-syntax

@@ -3,7 +3,7 @@ use Rattle.cg_maps.specs.FiniteMap.{set_at}
 use Rattle.cg_maps.proofs.TreeMaps.{view-insert}
 use Rattle.cg_name.specs.Order.{path_cmp_total, path_cmp_exact}
 use Rattle.cg_world.specs.Plain.{tree_of}
-use Rattle.cg_world.specs.World.{IsRepresentable}
+use Rattle.cg_world.specs.Representable.{IsRepresentable}
 use Rattle.cg_world.proofs.Representable.{group_representable, up_to_last}
 use Rattle.cg_world.proofs.Trees.{with_groups}
 use Rattle.cg_world.proofs.plain.PlainTree.set_group.Goals as goal

@@ -4,7 +4,7 @@ use Rattle.std.specs.FinMap.{nat_cmp-IsAntisymmetric}
 use Rattle.cg_maps.specs.FiniteMap.{set_at}
 use Rattle.cg_maps.proofs.TreeMaps.{view-insert}
 use Rattle.cg_world.specs.Plain.{tree_of}
-use Rattle.cg_world.specs.World.{IsRepresentable}
+use Rattle.cg_world.specs.Representable.{IsRepresentable}
 use Rattle.cg_world.proofs.Representable.{process_representable}
 use Rattle.cg_world.proofs.Trees.{with_places}
 use Rattle.cg_world.proofs.plain.PlainTree.set_place.Goals as goal

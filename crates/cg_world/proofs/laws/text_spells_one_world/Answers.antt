@@ -1,7 +1,0 @@
-use Rattle.std.specs.List.{slice_split}
-use Rattle.cg_text.specs.Words.{is_newline}
-use Rattle.cg_world.proofs.Lines.{leads, one_spelled}
-use Rattle.cg_world.proofs.laws.text_spells_one_world.Goals as goal
-
-pub returns : goal.returns
-returns c = λ text T U h k. one_spelled (slice_split is_newline text) T U (leads text T h) (leads text U k)

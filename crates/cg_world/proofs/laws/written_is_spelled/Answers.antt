@@ -1,5 +1,0 @@
-use Rattle.cg_world.proofs.RoundTrip.{written_spelled}
-use Rattle.cg_world.proofs.laws.written_is_spelled.Goals as goal
-
-pub returns : goal.returns
-returns c = written_spelled
