@@ -3,7 +3,8 @@ ghost use Rattle.std.specs.Prelude.{◌≡◌, ◌<◌, ◌≤◌, List, ℕ, tr
 ghost use Rattle.cg_locks.specs.Holders.{held_above, held_at, is_among, number_of, IsAlike, IsLeastOther, IsOneMore, IsOneMoreAbove, IsSame};
 
 use crate::holders::{Holders, lesser};
-use cg_name::{Path, PathMap, TxnNumber};
+use cg_name::{Path, TxnNumber};
+use cg_path_map::PathMap;
 use std::alloc::{AllocError, Global};
 
 // How often the transaction holds what is at the path.

@@ -4,7 +4,8 @@ ghost use Rattle.cg_locks.specs.Holders.{held_above, held_at, held_below, number
 
 use crate::holders::{Holders, lesser};
 use crate::path_holders::{add, add_above, count, least_above, least_at, remove, remove_above};
-use cg_name::{Path, PathMap, TxnNumber};
+use cg_name::{Path, TxnNumber};
+use cg_path_map::PathMap;
 use std::alloc::{AllocError, Global};
 use std::marker::Model;
 

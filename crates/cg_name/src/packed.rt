@@ -41,8 +41,8 @@ pub(crate) fn first_name(bytes: &[u8]) -> &[u8]
     bytes
 }
 
-// Whether the path of one text begins with the path of another.
-pub(crate) fn begins_with(bytes: &[u8], other: &[u8]) -> bool
+/// Whether the path of the second text begins with that of the first. Both are texts that `as_bytes` gives.
+pub fn begins_with(bytes: &[u8], other: &[u8]) -> bool
     requires own { BeginsName bytes.now }
     requires others { BeginsName other.now }
     ensures { result ≡ is_prefix (names_in bytes.now) (names_in other.now) }

@@ -29,8 +29,8 @@ impl<'a> Model for PathRef<'a> {
 }
 
 impl<'a> PathRef<'a> {
-    // The path of this text.
-    pub(crate) fn new(bytes: &'a [u8]) -> PathRef<'a>
+    /// The path of this text, which is one that `as_bytes` gives.
+    pub fn new(bytes: &'a [u8]) -> PathRef<'a>
         requires { IsPacked bytes.now }
         ensures { result ≡ names_in bytes.now }
     {

@@ -10,7 +10,7 @@ use Rattle.std.proofs.lemmas.Bool.{eqb-true, eq-eqb}
 use Rattle.std.proofs.lemmas.Bool.Decides.{nat_tests}
 use Rattle.cg_maps.specs.FiniteMap.{FiniteMap, entries, get}
 use Rattle.cg_maps.proofs.Maps.{each_entry}
-use Rattle.cg_name.specs.Behind.{is_behind}
+use Rattle.cg_path_map.specs.Behind.{is_behind}
 use Rattle.cg_name.specs.Name.{same_name}
 use Rattle.cg_name.specs.Order.{path_cmp_total, path_cmp_exact}
 use Rattle.cg_name.specs.Path.{Path, path_cmp, is_prefix}

@@ -5,7 +5,8 @@ ghost use Rattle.cg_model.specs.Derived.{children, descendants};
 use crate::children::Children;
 use crate::entry::Entry;
 use crate::tree::Tree;
-use cg_name::{Path, Subtree};
+use cg_name::Path;
+use cg_path_map::Subtree;
 use cg_text::Settings;
 
 impl Tree {

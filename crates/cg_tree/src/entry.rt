@@ -1,5 +1,5 @@
 // The entries of a tree's map of groups.
-use cg_name::Behind;
+use cg_path_map::Behind;
 use cg_text::Settings;
 
 // What the map has at a path.

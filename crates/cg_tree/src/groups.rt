@@ -7,7 +7,8 @@ ghost use Rattle.cg_tree.specs.Seen.{seen};
 
 use crate::entry::Entry;
 use crate::right_below::RightBelow;
-use cg_name::{Behind, Entries, Path, PathMap, Subtree};
+use cg_name::Path;
+use cg_path_map::{Behind, Entries, PathMap, Subtree};
 use cg_text::Settings;
 use std::alloc::{AllocError, Global};
 use std::marker::Model;

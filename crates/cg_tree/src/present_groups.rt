@@ -6,7 +6,8 @@ ghost use Rattle.cg_tree.specs.Entries.{held};
 
 use crate::entry::Entry;
 use crate::tree::Tree;
-use cg_name::{Entries, PathRef};
+use cg_name::PathRef;
+use cg_path_map::Entries;
 use cg_text::Settings;
 use std::marker::Model;
 

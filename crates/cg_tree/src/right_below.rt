@@ -6,7 +6,8 @@ ghost use Rattle.cg_name.specs.Path.{is_prefix};
 ghost use Rattle.cg_tree.specs.Entries.{of_depth, AreOwn};
 
 use crate::entry::Entry;
-use cg_name::{Behind, PathMap, PathRef, Subtree};
+use cg_name::PathRef;
+use cg_path_map::{Behind, PathMap, Subtree};
 use std::marker::Model;
 
 // The entries right below a path that are still to come, in the order of their paths.

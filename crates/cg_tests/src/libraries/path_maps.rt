@@ -1,5 +1,6 @@
 //! Maps by paths, and the paths that they lend.
-use cg_name::{Path, PathMap, Refusal};
+use cg_name::{Path, Refusal};
+use cg_path_map::PathMap;
 use std::alloc::{AllocError, Global};
 
 // In no order, one of them twice, so that the last counts.

@@ -1,0 +1,4 @@
+pub mod BehindOrder
+pub mod PathEntries
+mod Texts
+pub mod Together

@@ -1,0 +1,10 @@
+use Rattle.std.proofs.Common.{◌∙◌}
+use Rattle.cg_maps.specs.FiniteMap.{get}
+use Rattle.cg_path_map.proofs.PathEntries.{get-by_paths}
+use Rattle.cg_path_map.proofs.path_map.PathMap.get_prefix.Goals as goal
+
+pub returns : goal.returns
+returns g c =
+    c.get.ensures.value
+    ∙ get-by_paths (λ k. k.items) c.prefix_text.result.now c.prefix_text.ensures.packed.start c.self.inside.entries.entries c.self.invariant.packed
+    ∙ (λ i. get (c.self.view_is i) (c.prefix_text.ensures.value i))

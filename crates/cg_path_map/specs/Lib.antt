@@ -1,0 +1,4 @@
+pub mod PathEntries
+pub mod Behind
+pub mod PathMapLends
+pub mod SubtreeView
