@@ -16,6 +16,7 @@ from .kit import KEPT, rt
 HEAD = re.compile(r"( *)(?:pub(?:\([^)]*\))? )?(?:const |unsafe )*fn (\w+)")
 # An error of a proof file that names what an edit took away, or that rests on another one, says little of a contract.
 NAMES = r"has no field|is not in scope|has no `|was not admitted|which (was|were) rejected"
+VERDICT = r"\nlogic=not-proved.*\n?\Z"
 CALLS = r"(?:no proof: |not proved; )(?:it [^;\n]*, which (?:is|are) not proved(?:; )?)+"
 
 
@@ -59,6 +60,16 @@ class Edit:
     @property
     def name(self):
         return os.path.basename(self.file)
+
+
+@dataclass(frozen=True)
+class Round:
+    """What a check of many edits at once says: whether it counts, for each edit what it says against the very function that this
+    one changes, or nothing; and the edits for which it got to no proof."""
+
+    counts: bool
+    refused: dict
+    unread: list
 
 
 def without_generics(text):
@@ -175,31 +186,44 @@ def is_explained(said, goals, together):
     """Whether the check got to a verdict, and each function that it didn't prove is one of these or calls such a one."""
     calls = {name for name in re.findall(rf"^fn (\S+): {CALLS}$", said, re.M)}
     strange = [it for it in goals if it not in calls and not any(edit.function.is_named(it) for edit in together)]
-    return not strange and said.rstrip("\n").rpartition("\n")[2].startswith("logic=not-proved")
+    return not strange and bool(re.search(VERDICT, said))
+
+
+def lines_of(edit, texts):
+    """The lines of the function that the edit changes, in these texts."""
+    text, it = texts[edit.path], edit.function
+    where = [at for at in functions_of(edit.path, text) if (at.module, at.type, at.trait, at.name) == (it.module, it.type, it.trait, it.name)]
+    lines = [range(text.count("\n", 0, at.start) + 1, text.count("\n", 0, at.end) + 2) for at in where]
+    return lines[0] if len(lines) == 1 else range(0)
 
 
 def notes_of(said, texts, edit):
     """What the check says of goals in the very lines of the function that the edit changes."""
-    text, it = texts[edit.path], edit.function
-    where = [at for at in functions_of(edit.path, text) if (at.module, at.type, at.trait, at.name) == (it.module, it.type, it.trait, it.name)]
-    lines = [range(text.count("\n", 0, at.start) + 1, text.count("\n", 0, at.end) + 2) for at in where]
     for line, why in re.findall(rf"^note: {re.escape(edit.path)}:(\d+):\d+: (it is not proved that .*)", said, re.M):
-        if len(lines) == 1 and int(line) in lines[0]:
+        if int(line) in lines_of(edit, texts):
             yield why
 
 
-def refused_in(crate, together, jobs):
-    """For each edit of a round what the check says against the very function that it changes, or nothing."""
+def unread_in(said, texts, together):
+    """The edits in whose functions the compiler finds an error before anything is proved. It goes on to no proof then."""
+    if re.search(VERDICT, said):
+        return []
+    found = [(path, int(line)) for path, line in re.findall(r"^(?:\./)?(src/\S+?):(\d+):\d+: error", said, re.M)]
+    return [it for it in together if any(path == it.path and line in lines_of(it, texts) for path, line in found)]
+
+
+def try_round(crate, together, jobs):
+    """Checks the crate with these edits, of one function each."""
     texts = texts_of(crate, together)
     ran = check(crate, texts, jobs)
     goals = goals_of(ran.stdout)
     if ran.returncode != 1 or not is_explained(ran.stdout, goals, together):
-        return {it.name: "" for it in together}
-    found = {}
+        return Round(False, {it.name: "" for it in together}, unread_in(ran.stdout, texts, together))
+    refused = {}
     for edit in together:
         own = [why for name, why in goals.items() if why and edit.function.is_named(name)]
-        found[edit.name] = next(iter([*own, *notes_of(ran.stdout, texts, edit)]), "")
-    return found
+        refused[edit.name] = next(iter([*own, *notes_of(ran.stdout, texts, edit)]), "")
+    return Round(True, refused, [])
 
 
 def alone(crate, edit):
@@ -213,22 +237,35 @@ def alone(crate, edit):
 def try_together(crate, edits, harmless, jobs):
     """Tries edits of one function each, as many at once as there are functions, the harmless ones beside them. Returns for each
     whether all is well and a line, and the edits that no check named."""
-    told, left, named = [], [], {}
+    told, left, said, harmless = [], [], {}, [*harmless]
     while edits:
         first, edits = one_a_function(edits)
         beside = [it for it in harmless if (it.path, it.function) not in {(edit.path, edit.function) for edit in first}]
-        refused = refused_in(crate, [*first, *beside], jobs)
-        named |= {it.name: refused[it.name] for it in beside if refused[it.name]}
-        told += [(True, f"{crate.name}/{it.name}: refused: {refused[it.name][:160]}") for it in first if refused[it.name]]
-        unnamed = [it for it in first if not refused[it.name]]
+        tried = try_round(crate, [*first, *beside], jobs)
+        if tried.unread:
+            left += [it for it in first if it in tried.unread]
+            harmless = [it for it in harmless if it not in tried.unread]
+            told += [(False, f"{crate.name}/{it.name}: BAD EDIT: it doesn't compile") for it in beside if it in tried.unread]
+            edits = [*[it for it in first if it not in tried.unread], *edits]
+            continue
+        for it in beside if tried.counts else []:
+            said[it.name] = said.get(it.name) or tried.refused[it.name]
+        told += [(True, f"{crate.name}/{it.name}: refused: {tried.refused[it.name][:160]}") for it in first if tried.refused[it.name]]
+        unnamed = [it for it in first if not tried.refused[it.name]]
         if len(unnamed) < len(first):
             edits = [*unnamed, *edits]
         else:
             left += unnamed
-    for it in harmless:
-        why = named.get(it.name)
-        told.append((not why, f"{crate.name}/{it.name}: {f'REFUSED, and it changes nothing: {why}' if why else 'NOT REFUSED, as it changes nothing'}"))
-    return told, left
+    return told + [told_of_harmless(crate, it, said.get(it.name)) for it in harmless], left
+
+
+def told_of_harmless(crate, edit, said):
+    """What to tell of an edit that changes nothing, where a check that counts said this against it, nothing, or where none had it."""
+    if said is None:
+        return False, f"{crate.name}/{edit.name}: NOT TRIED: no check that counts had it"
+    if said:
+        return False, f"{crate.name}/{edit.name}: REFUSED, and it changes nothing: {said}"
+    return True, f"{crate.name}/{edit.name}: NOT REFUSED, as it changes nothing"
 
 
 def try_edits(crate, jobs, harmless=()):

@@ -6,6 +6,8 @@ import os
 import re
 import shutil
 import sys
+import tempfile
+from concurrent.futures import ThreadPoolExecutor
 
 TOP = os.path.dirname(os.path.dirname(os.path.dirname(os.path.realpath(__file__))))
 
@@ -50,10 +52,21 @@ class Crate(rt.Crate):
             it.write(self.sum)
         return True
 
-    def prove_program(self, jobs):
-        """Proves the program and builds it by both compilers. Returns whether that went well."""
+    def prove_program(self, jobs, compilers):
+        """Proves the program from nothing, and lets each of these compilers take what was proved, side by side. Returns whether that
+        went well."""
         os.makedirs(f"{self.folder}/out", exist_ok=True)
-        return not self.ci(["--jobs", str(jobs)], tests=False)
+        words = self.words(["--jobs", str(jobs)], keeps=False)
+        with tempfile.TemporaryDirectory(prefix="rt-proved-") as room:
+            if self.prove(["check", *words, "-o", f"{room}/checked"]):
+                return False
+            # (a compiler takes no words for a proof)
+            for flag in ("--logic-built", "--jobs"):
+                at = words.index(flag)
+                words = [*words[:at], *words[at + 2 :]]
+            words += ["--crate-checked", f"{room}/checked", "--toolchain", f"{rt.KIT}/toolchain"]
+            with ThreadPoolExecutor() as pool:
+                return not any(pool.map(lambda it: self.compile_by(it, words, f"out/{self.name}"), compilers))
 
 
 def crates(aside=None):

@@ -34,12 +34,12 @@ class Tally:
         return 1 if self.failed else 0
 
 
-def proof(crate, jobs, tally):
-    """Proves the crate; of a program, builds it."""
+def proof(crate, jobs, tally, compilers):
+    """Proves the crate; of a program, builds it by these compilers."""
     crate, began = copy.copy(crate), time.monotonic()
     with tempfile.TemporaryFile("w+", errors="replace") as crate.out:
         why = kit.fault_in_texts(crate)
-        is_well = not why and (crate.prove_program(jobs) if crate.is_program else crate.prove_library(jobs))
+        is_well = not why and (crate.prove_program(jobs, compilers) if crate.is_program else crate.prove_library(jobs))
         crate.out.seek(0)
         said = crate.out.read()
     found = re.search(r"^logic=proved functions=(\d+)", said, re.M)
@@ -67,8 +67,9 @@ def tests(crate, tally):
 
 def tasks_of(found, tally, kinds, is_kept=False):
     """What there is to do for these crates: proofs, edits behind them, and tests, which wait for nothing. A crate that holds tests
-    alone is not proved. With kept work, what is built and unchanged is left as it is."""
+    alone is not proved. With kept work, what is built and unchanged is left as it is, and a program is built by LLVM alone."""
     stood_on = {dep.name for it in found for dep in it.deps}
+    compilers = [*kit.rt.BACKENDS][: 1 if is_kept else None]
     for crate in found:
         lines, needs, has_tests = crate.count(rb"\n"), kit.rt.need(crate), crate.has_tests()
         if has_tests and "tests" in kinds:
@@ -77,7 +78,7 @@ def tasks_of(found, tally, kinds, is_kept=False):
             continue
         below = [(it.name, "proof") for it in crate.deps]
         done = is_kept and not crate.is_program and crate.is_built()
-        yield lanes.Task(crate.name, "proof", below, lines, needs, lambda jobs, it=crate, done=done: done or proof(it, jobs, tally))
+        yield lanes.Task(crate.name, "proof", below, lines, needs, lambda jobs, it=crate, done=done: done or proof(it, jobs, tally, compilers))
         if "edits" in kinds and kit.rt.edits_of(crate) != ([], []):
             yield lanes.Task(crate.name, "edits", [(crate.name, "proof")], lines // 2, needs, lambda jobs, it=crate: wrong_bodies(it, jobs, tally))
 
