@@ -2,6 +2,7 @@
 use Rattle.std.proofs.Common.{Bor, ◌≡◌, ℕ, ◌==◌, ◌||◌, Bool, true, false, cond, List, [], ◌∷◌, length, map, Option, Some, None, is_some, option_map, refl, sym, ap, subst, ◌∙◌, true≢false}
 use Rattle.std.proofs.lemmas.Bool.{eqb-true, eq-eqb, or_parts}
 use Rattle.std.proofs.lemmas.List.{length-map}
+use Rattle.std.proofs.lemmas.Option.{same_Some}
 use Rattle.std.specs.List.{AllByRecursion}
 use Rattle.std.specs.Option.{option_copied}
 use Rattle.cg_model.specs.Cgroups.{cgroups}
@@ -96,21 +97,13 @@ none_paired s t (p ∷ ps) f a =
     absent true n o e = absurd (true≢false (ap is_some e))
     absent false n o e = (refl, e)
 
-number_in : ℕ → Option ℕ → ℕ
-number_in d None = d
-number_in d (Some k) = k
-
-pub same_number : (n t : ℕ) → Some n ≡ Some t → n ≡ t
-unfolding number_in
-same_number n t e = ap (number_in n) e
-
 -- a transaction that a session has open is among the open ones
 pub among_open : (s t : ℕ) (ps : Opens) → transaction_in s ps ≡ Some t → among t (numbers ps) ≡ true
 among_open s t [] e = absurd (true≢false (sym (ap is_some e)))
 among_open s t (p ∷ ps) e =
     elim (p.0 == s) as (λ b. (p.0 == s) ≡ b → among t (numbers (p ∷ ps)) ≡ true) [
       | true ↦ λ k.
-          let is : p.1 ≡ t = same_number p.1 t (sym (ap (λ b. cond b (Some p.1) (transaction_in s ps)) k) ∙ e) in
+          let is : p.1 ≡ t = same_Some p.1 t (sym (ap (λ b. cond b (Some p.1) (transaction_in s ps)) k) ∙ e) in
           ap (λ b. b || among t (numbers ps)) (eq-eqb t p.1 (sym is))
       | false ↦ λ k. or_right (t == p.1) (among t (numbers ps)) (among_open s t ps (sym (ap (λ b. cond b (Some p.1) (transaction_in s ps)) k) ∙ e))
     ] refl
@@ -125,7 +118,7 @@ paired s t [] once numbered e = tt
 paired s t (p ∷ ps) once numbered e =
     elim (p.0 == s) as (λ b. (p.0 == s) ≡ b → ArePaired s t (p ∷ ps)) [
       | true ↦ λ k.
-          let is : p.1 ≡ t = same_number p.1 t (sym (ap (λ b. cond b (Some p.1) (transaction_in s ps)) k) ∙ e) in
+          let is : p.1 ≡ t = same_Some p.1 t (sym (ap (λ b. cond b (Some p.1) (transaction_in s ps)) k) ∙ e) in
           (k ∙ sym (eq-eqb p.1 t is), none_paired s t ps (ap (λ n. found n ps) (sym (eqb-true p.0 s k)) ∙ once.0) (ap (λ n. among n (numbers ps)) (sym is) ∙ numbered.0))
       | false ↦ λ k.
           let rest : transaction_in s ps ≡ Some t = sym (ap (λ b. cond b (Some p.1) (transaction_in s ps)) k) ∙ e in

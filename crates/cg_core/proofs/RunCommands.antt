@@ -1,5 +1,6 @@
 -- A command is run: it is held up, refused or done.
 use Rattle.std.proofs.Common.{◌≡◌, ℕ, ◌+◌, ◌<◌, ◌≤◌, ◌==◌, ◌||◌, Bool, true, false, cond, List, [], ◌∷◌, map, length, Option, Some, None, is_some, inl, inr, refl, sym, ap, subst, subst₂, ◌∙◌, true≢false, arith}
+use Rattle.std.proofs.lemmas.Option.{same_Some}
 use Rattle.std.proofs.lemmas.Bool.{eqb-true}
 use Rattle.std.specs.List.{AllByRecursion}
 use Rattle.cg_name.specs.declared.refusal.Refusal.{Refusal}
@@ -39,7 +40,7 @@ use Rattle.cg_core.specs.Refusing.{IsFree, IsLeast, IsRefusedBy}
 use Rattle.cg_core.specs.Stage.{times_on, Holds}
 use Rattle.cg_core.proofs.AtHistory.{at_history}
 use Rattle.cg_core.proofs.Begun.{full_is}
-use Rattle.cg_core.proofs.Open.{same_number, stack_written}
+use Rattle.cg_core.proofs.Open.{stack_written}
 use Rattle.cg_core.proofs.ReturningParts.{session_open, items_are, is_open, once, pairs, history_is, tree_after, stays_core}
 use Rattle.cg_core.proofs.Stages.Alike.{same_stacks, told_alike}
 use Rattle.cg_core.proofs.Stages.Doing.{IsDone, held_after_doing}
@@ -194,8 +195,8 @@ module _ {O : Tree} {b : ℕ} {h : History cgroups} {n : ℕ} {R : TreeWithRoom}
 
       busy_is : (u : ℕ) → IsLeast H x.number f u → Some u ≡ in_the_way
       busy_is u held = tells (Some u)
-          (λ v e. subst (IsInTheWay H x.number f) (same_number u v e) held.in_the_way)
-          (λ v e w way. subst (λ k. k ≤ w) (same_number u v e) (held.least w way))
+          (λ v e. subst (IsInTheWay H x.number f) (same_Some u v e) held.in_the_way)
+          (λ v e w way. subst (λ k. k ≤ w) (same_Some u v e) (held.least w way))
           (λ e. absurd (true≢false (ap is_some e)))
 
       -- ---- it is refused

@@ -13,9 +13,10 @@ use Rattle.std.specs.Ordering.{eq_by_cmp, is_lt, nat_cmp}
 use Rattle.cg_maps.specs.FiniteMap.{from_entries, get, set_at}
 use Rattle.cg_maps.proofs.Maps as maps
 use Rattle.cg_maps.proofs.Sets.{tied_is_equal}
+use Rattle.cg_maps.proofs.Tests.{and_first, and_second}
 use Rattle.cg_maps.proofs.TreeMaps.{find-lookup, from-updates}
 use Rattle.cg_locks.specs.Holders.{Counts, held_by, lesser_of, one, IsLeast, IsLeastOther, IsOtherHolder, IsPositive}
-use Rattle.cg_locks.proofs.Summed.{first, second, below_less, none_below}
+use Rattle.cg_locks.proofs.Summed.{below_less, none_below}
 
 -- ---- a value written in a map by numbers
 
@@ -95,14 +96,14 @@ module _ (t : ℕ) (C : Counts) (left : List (ℕ × ℕ)) (h : IsLeft t C left)
 
     pub passed_over : e.0 ≡ t → IsLeft t C rest
     passed_over own = record {
-      sorted = second _ _ in_order;
+      sorted = and_second _ _ in_order;
       same = λ v ne. ap (λ b. cond b (Some e.1) (find nat_cmp v rest)) (sym (maps.apart nat_cmp_total nat_cmp-IsAntisymmetric v e.0 (λ x. ne (x ∙ own)))) ∙ ap (find nat_cmp v) (sym is) ∙ h.same v ne;
     }
 
     below_first : (v : ℕ) → nat_lt v e.0 ≡ true → T (below_all nat_cmp v (e ∷ rest))
     below_first v p =
         let less : nat_cmp v e.0 ≡ Less = ap (λ b. cond b Less (cond (v == e.0) Equal Greater)) p in
-        subst (λ r. T (is_lt r && below_all nat_cmp v rest)) (sym less) (below_less nat_cmp_total nat_cmp-IsAntisymmetric v e.0 rest less (first _ _ in_order))
+        subst (λ r. T (is_lt r && below_all nat_cmp v rest)) (sym less) (below_less nat_cmp_total nat_cmp-IsAntisymmetric v e.0 rest less (and_first _ _ in_order))
 
     pub least_found : IsPositive C → e.0 ≢ t → IsLeastOther t (held_by C) (Some e.0)
     least_found positive ne =

@@ -8,29 +8,13 @@ use Rattle.std.specs.List.{sum_by, AllByRecursion}
 use Rattle.std.specs.Ordering.{eq_by_cmp, is_eq, is_lt}
 use Rattle.cg_maps.specs.FiniteMap.{FiniteMap, entries, get, insert, retain, set_at, list-checked}
 use Rattle.cg_maps.proofs.Maps as maps
+use Rattle.cg_maps.proofs.Tests.{and_both, and_first, and_second, less}
 use Rattle.cg_name.specs.Order.{path_cmp_total, path_cmp_exact}
 use Rattle.cg_name.specs.Path.{Path, path_cmp, is_prefix, same_path}
 use Rattle.cg_model_laws.proofs.Paths.{same_path-is}
 use Rattle.cg_locks.specs.Holders.{Counts, PathCounts, held_at, held_below, held_by, held_if, one, IsOneMore, IsSame}
 
 -- ---- a sum over the entries of a map
-
-pub first : (a b : Bool) → T (a && b) → T a
-first true b p = tt
-first false b p = p
-
-pub second : (a b : Bool) → T (a && b) → T b
-second true b p = p
-second false b p = absurd p
-
-both : (a b : Bool) → T a → T b → T (a && b)
-both true b p q = q
-both false b p q = p
-
-less : (r : Ordering) → T (is_lt r) → r ≡ Less
-less Less p = refl
-less Equal p = absurd p
-less Greater p = absurd p
 
 equal : (r : Ordering) → is_eq r ≡ true → r ≡ Equal
 equal Less p = absurd (subst T (sym p) tt)
@@ -40,11 +24,11 @@ equal Greater p = absurd (subst T (sym p) tt)
 module _ {K X : Type 0} {R : K → K → Ordering} (o : IsTotalOrder R) (same : IsAntisymmetric R) where
   pub below_less : (x y : K) (es : List (K × X)) → R x y ≡ Less → T (below_all R y es) → T (below_all R x es)
   below_less x y [] p h = tt
-  below_less x y (e ∷ es) p h = both _ _ (subst (λ r. T (is_lt r)) (sym (o.trans x y e.0 p (less _ (first _ _ h)))) tt) (below_less x y es p (second _ _ h))
+  below_less x y (e ∷ es) p h = and_both _ _ (subst (λ r. T (is_lt r)) (sym (o.trans x y e.0 p (less _ (and_first _ _ h)))) tt) (below_less x y es p (and_second _ _ h))
 
   pub none_below : (k : K) (es : List (K × X)) → T (below_all R k es) → find R k es ≡ None
   none_below k [] h = refl
-  none_below k (e ∷ es) h = ap (λ r. cond (is_eq r) (Some e.1) (find R k es)) (less _ (first _ _ h)) ∙ none_below k es (second _ _ h)
+  none_below k (e ∷ es) h = ap (λ r. cond (is_eq r) (Some e.1) (find R k es)) (less _ (and_first _ _ h)) ∙ none_below k es (and_second _ _ h)
 
   module _ (f : K × X → ℕ) where
     -- what the key adds to the sum
@@ -58,7 +42,7 @@ module _ {K X : Type 0} {R : K → K → Ordering} (o : IsTotalOrder R) (same : 
         elim (R k e.0) as (λ r. R k e.0 ≡ r → sum_by f (by_order r ((k, v) ∷ e ∷ es) ((e.0, v) ∷ es) (e ∷ put R k v es)) + of_found k (cond (is_eq r) (Some e.1) (find R k es)) ≡ sum_by f (e ∷ es) + f (k, v)) [
           | Less ↦ λ p.
               let all : sum_by f ((k, v) ∷ e ∷ es) ≡ f (k, v) + sum_by f (e ∷ es) = sum_by-cons f (k, v) (e ∷ es) in
-              let none : of_found k (find R k es) ≡ 0 = ap (of_found k) (none_below k es (below_less k e.0 es p (first _ _ h))) in
+              let none : of_found k (find R k es) ≡ 0 = ap (of_found k) (none_below k es (below_less k e.0 es p (and_first _ _ h))) in
               omega (arith, all, none)
           | Equal ↦ λ p.
               let new : sum_by f ((e.0, v) ∷ es) ≡ f (e.0, v) + sum_by f es = sum_by-cons f (e.0, v) es in
@@ -69,7 +53,7 @@ module _ {K X : Type 0} {R : K → K → Ordering} (o : IsTotalOrder R) (same : 
           | Greater ↦ λ p.
               let new : sum_by f (e ∷ put R k v es) ≡ f e + sum_by f (put R k v es) = sum_by-cons f e (put R k v es) in
               let old : sum_by f (e ∷ es) ≡ f e + sum_by f es = sum_by-cons f e es in
-              let rest : sum_by f (put R k v es) + of_found k (find R k es) ≡ sum_by f es + f (k, v) = put_adds k v es (second _ _ h) in
+              let rest : sum_by f (put R k v es) + of_found k (find R k es) ≡ sum_by f es + f (k, v) = put_adds k v es (and_second _ _ h) in
               omega (arith, new, old, rest)
         ] refl
 
@@ -80,12 +64,12 @@ module _ {K X : Type 0} {R : K → K → Ordering} (o : IsTotalOrder R) (same : 
     taken_out k [] h = refl
     taken_out k (e ∷ es) h =
         let old : sum_by f (e ∷ es) ≡ f e + sum_by f es = sum_by-cons f e es in
-        let rest : sum_by f (without k es) + of_found k (find R k es) ≡ sum_by f es = taken_out k es (second _ _ h) in
+        let rest : sum_by f (without k es) + of_found k (find R k es) ≡ sum_by f es = taken_out k es (and_second _ _ h) in
         elim (eq_by_cmp R k e.0) as (λ b. eq_by_cmp R k e.0 ≡ b → sum_by f (cond (not b) (e ∷ without k es) (without k es)) + of_found k (cond b (Some e.1) (find R k es)) ≡ sum_by f (e ∷ es)) [
           | true ↦ λ p.
               let key : k ≡ e.0 = same k e.0 (equal _ p) in
               let gone : f (k, e.1) ≡ f e = ap (λ x. f (x, e.1)) key in
-              let none : of_found k (find R k es) ≡ 0 = ap (of_found k) (none_below k es (subst (λ x. T (below_all R x es)) (sym key) (first _ _ h))) in
+              let none : of_found k (find R k es) ≡ 0 = ap (of_found k) (none_below k es (subst (λ x. T (below_all R x es)) (sym key) (and_first _ _ h))) in
               omega (arith, old, rest, gone, none)
           | false ↦ λ p.
               let new : sum_by f (e ∷ without k es) ≡ f e + sum_by f (without k es) = sum_by-cons f e (without k es) in

@@ -1,3 +1,4 @@
 pub mod Maps
 pub mod Sets
+pub mod Tests
 pub mod TreeMaps

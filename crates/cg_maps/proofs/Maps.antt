@@ -9,6 +9,7 @@ use Rattle.std.specs.List.{AllByRecursion, Contains, list_any}
 use Rattle.std.proofs.lemmas.List.Elements.{All-from_recursion, All-contains, Contains-append_right}
 use Rattle.cg_maps.specs.FiniteMap.{FiniteMap, from_entries, empty, get, insert, retain, set_at, same_list, list-checked, bare, domain, entries, keys, len, is_nonempty}
 use Rattle.cg_maps.specs.Laws.{EachKeyOnce, IsListed}
+use Rattle.cg_maps.proofs.Tests.{and_first, and_second, less}
 
 turned : {A : Type 0} (b : Bool) (x y : A) → cond (not b) x y ≡ cond b y x
 turned true x y = refl
@@ -78,19 +79,6 @@ unfolding get domain
 get-domain {R = R} m q = find-bare R q m.list
 
 -- ---- the entries of a map: each is found, and no key stands twice
-
-less : (r : Ordering) → T (is_lt r) → r ≡ Less
-less Less p = refl
-less Equal p = absurd p
-less Greater p = absurd p
-
-and_first : (a b : Bool) → T (a && b) → T a
-and_first true b p = tt
-and_first false b p = p
-
-and_second : (a b : Bool) → T (a && b) → T b
-and_second true b p = p
-and_second false b p = absurd p
 
 pub all_map : {A : Type 0} {P Q : A → Type 0} → ((x : A) → P x → Q x) → (xs : List A) → AllByRecursion P xs → AllByRecursion Q xs
 all_map f [] h = tt

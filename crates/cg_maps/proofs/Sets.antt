@@ -11,6 +11,7 @@ use Rattle.std.specs.FinMap.Entries.{is_some-find, below_all, is_sorted}
 use Rattle.cg_maps.specs.FiniteMap.{FiniteMap, set_at, retain, insert, checked, empty, get, keys, is_nonempty, domain}
 use Rattle.cg_maps.specs.FiniteSet.{FiniteSet, has, members, is_empty_set, no_members, with_member, in_common, set_of, such_that_below}
 use Rattle.cg_maps.proofs.Maps.{same_map, get-set_at, get-retain, get-empty, get-domain, none_in_keys}
+use Rattle.cg_maps.proofs.Tests.{and_first, and_second, less}
 use Rattle.cg_maps.proofs.TreeMaps.{is_sorted-from}
 
 -- two options of nothing are equal where both are there or neither is
@@ -127,26 +128,13 @@ pub members_ascend : (s : FiniteSet) → IsStrictlySortedBy nat_cmp (members s)
 unfolding members keys IsStrictlySortedBy
 members_ascend s = ascending s.list s.sorted
   where
-    less : (r : Ordering) → T (is_lt r) → r ≡ Less
-    less Less p = refl
-    less Equal p = absurd p
-    less Greater p = absurd p
-
-    first : (a b : Bool) → T (a && b) → T a
-    first true b p = tt
-    first false b p = p
-
-    second : (a b : Bool) → T (a && b) → T b
-    second true b p = p
-    second false b p = absurd p
-
     above : (k : ℕ) (es : List (ℕ × Unit {0})) → T (below_all nat_cmp k es) → AllByRecursion (λ n. nat_cmp k n ≡ Less) (map (λ e. e.0) es)
     above k [] h = tt
-    above k (e ∷ es) h = (less _ (first _ _ h), above k es (second _ _ h))
+    above k (e ∷ es) h = (less _ (and_first _ _ h), above k es (and_second _ _ h))
 
     ascending : (es : List (ℕ × Unit {0})) → T (is_sorted nat_cmp es) → IsStrictlySortedBy nat_cmp (map (λ e. e.0) es)
     ascending [] h = tt
-    ascending (e ∷ es) h = (above e.0 es (first _ _ h), ascending es (second _ _ h))
+    ascending (e ∷ es) h = (above e.0 es (and_first _ _ h), ascending es (and_second _ _ h))
 
 pub members-no_members : members no_members ≡ []
 unfolding members keys empty

@@ -12,6 +12,7 @@ use Rattle.std.specs.BTreeMap as tree
 use Rattle.std.specs.BTreeMap.{BTreeMap, is_at, btree_map_len, IsOrdered}
 use Rattle.cg_maps.specs.FiniteMap.{FiniteMap, from_entries, get, set_at, entries, len}
 use Rattle.cg_maps.proofs.Maps.{same_map, get-from_entries, get-set_at}
+use Rattle.cg_maps.proofs.Tests.{and_both}
 
 -- a tree map's look-up is that of a finite map
 pub find-lookup : {K X : Type 0} (R : K → K → Ordering) (q : K) (es : List (K × X)) → find R q es ≡ lookup (is_at (R q)) es
@@ -19,10 +20,6 @@ find-lookup R q [] = refl
 find-lookup R q (e ∷ es) = ap (λ r. cond (is_at (R q) e.0) (Some e.1) r) (find-lookup R q es)
 
 module _ {K : Type 0} (R : K → K → Ordering) where
-  and_both : (a b : Bool) → T a → T b → T (a && b)
-  and_both true b p q = q
-  and_both false b p q = p
-
   below_all-from : {X : Type 0} (k : K) (es : List (K × X)) → AllByRecursion (λ y. R k y ≡ Less) (keys_of es) → T (below_all R k es)
   below_all-from k [] h = tt
   below_all-from k (e ∷ es) h = and_both _ _ (subst (λ r. T (is_lt r)) (sym h.0) tt) (below_all-from k es h.1)

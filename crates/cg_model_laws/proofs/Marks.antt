@@ -7,7 +7,8 @@ use Rattle.cg_name.specs.Order.{path_cmp_total}
 use Rattle.cg_name.specs.Path.{Path, same_path, is_above, along}
 use Rattle.cg_model.specs.Footprint.{Mark, X, S, N, Pid, Count, clash, clashes, joined_marks}
 use Rattle.cg_model_laws.proofs.Lists.{all_map, all_left, all_right, all_join, none_pass, any_swapped}
-use Rattle.cg_model_laws.proofs.Paths.{same_name-is, same_name-itself, comparable-swapped}
+use Rattle.cg_name.proofs.Packing.{same_name-is, same_name-itself}
+use Rattle.cg_model_laws.proofs.Paths.{comparable-swapped}
 
 -- no mark of f clashes with m
 abbrev pub Apart : List Mark → Mark → Type 0

@@ -13,7 +13,8 @@ use Rattle.cg_name.specs.Order.{path_cmp_total, path_cmp_exact}
 use Rattle.cg_text.specs.declared.settings.Settings.{Settings}
 use Rattle.cg_model.specs.Tree.{Tree, group, place_of, last_of, parent_group}
 use Rattle.cg_model.specs.Derived.{children, processes, is_in, available}
-use Rattle.cg_model_laws.proofs.Paths.{never, same_name-itself, same_name-is, same_path-itself}
+use Rattle.cg_name.proofs.Packing.{same_name-is, same_name-itself}
+use Rattle.cg_model_laws.proofs.Paths.{never, same_path-itself}
 
 -- ---- of paths
 

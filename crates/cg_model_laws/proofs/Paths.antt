@@ -5,17 +5,10 @@ use Rattle.cg_maps.proofs.Maps as maps
 use Rattle.cg_name.specs.Name.{Name, same_name}
 use Rattle.cg_name.specs.Order.{name_cmp_total, name_cmp_exact, path_cmp_total, path_cmp_exact}
 use Rattle.cg_name.specs.Path.{Path, same_path, is_prefix, comparable, is_above, is_parent, along}
+use Rattle.cg_name.proofs.Packing.{same_name-is, same_name-itself}
 
 pub never : {A : Type 0} → false ≡ true → A
 never e = absurd (false≢true e)
-
-pub same_name-itself : (n : Name) → same_name n n ≡ true
-unfolding same_name
-same_name-itself n = maps.here name_cmp_total name_cmp_exact n
-
-pub same_name-is : (n m : Name) → same_name n m ≡ true → n ≡ m
-unfolding same_name
-same_name-is n m e = maps.is_same name_cmp_total name_cmp_exact n m e
 
 pub same_path-itself : (p : Path) → same_path p p ≡ true
 unfolding same_path

@@ -15,7 +15,8 @@ use Rattle.cg_model.specs.Tree.{Tree, group, place_of, parent_group}
 use Rattle.cg_model.specs.Derived.{is_in_subtree, processes_in_subtree, available, with_cpuset, has_freeze, down_to, is_frozen, is_populated, narrowed, narrowed_along, effective_cpus, below_root}
 use Rattle.cg_model.specs.Sound.{Sound}
 use Rattle.cg_model_laws.specs.Values.{ParentGroups, ValuesBelowRoot, PopulatedBelow, FrozenAbove, NoValues, EffectiveOfRoot, EffectiveOfChild, EffectiveNeedsCpuset}
-use Rattle.cg_model_laws.proofs.Paths.{never, same_name-itself, same_name-is}
+use Rattle.cg_name.proofs.Packing.{same_name-is, same_name-itself}
+use Rattle.cg_model_laws.proofs.Paths.{never}
 use Rattle.cg_model_laws.proofs.Parents.{last_is_parent, parent_exists, available_below, available_root}
 
 pub parent_groups : ParentGroups

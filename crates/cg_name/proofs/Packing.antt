@@ -6,7 +6,7 @@ use Rattle.std.proofs.lemmas.List.{take_all, append_cancel_left}
 use Rattle.std.proofs.lemmas.List.Sums.{sum_by-cons}
 use Rattle.std.proofs.lemmas.Option.{slice_get_past}
 use Rattle.std.proofs.Math.Seq.{take-append_seam}
-use Rattle.std.proofs.lemmas.Bool.{eqb-true, false≢true}
+use Rattle.std.proofs.lemmas.Bool.{and_parts, eqb-true, false≢true}
 use borrow.Author.Tests.{ne_eqb}
 use Rattle.cg_name.specs.Name.{Name, IsName, IsNameByte, same_name}
 use Rattle.cg_name.specs.Path.{Path, IsPath, is_prefix}
@@ -180,29 +180,25 @@ packed_text-append : (p q : Path) → packed_text (p ++ q) ≡ packed_text p ++ 
 packed_text-append [] q = refl
 packed_text-append (n ∷ p) q = ap (λ z. 0 ∷ (n ++ z)) (packed_text-append p q) ∙ ap (λ z. 0 ∷ z) (sym (append_assoc n (packed_text p) (packed_text q)))
 
-pub same_is : (n m : Name) → same_name n m ≡ true → n ≡ m
+pub same_name-is : (n m : Name) → same_name n m ≡ true → n ≡ m
 unfolding same_name
-same_is n m h = (bytes_decides n m).0 (texts_ties n m ∙ h)
+same_name-is n m h = (bytes_decides n m).0 (texts_ties n m ∙ h)
 
-pub same_self : (n : Name) → same_name n n ≡ true
+pub same_name-itself : (n : Name) → same_name n n ≡ true
 unfolding same_name
-same_self n = sym (texts_ties n n) ∙ (bytes_decides n n).1 refl
-
-pub first_true : (a b : Bool) → a && b ≡ true → (a ≡ true) × (b ≡ true)
-first_true true b h = (refl, h)
-first_true false b h = absurd (false≢true h)
+same_name-itself n = sym (texts_ties n n) ∙ (bytes_decides n n).1 refl
 
 pub prefix-append : (p q : Path) → is_prefix p (p ++ q) ≡ true
 prefix-append [] q = refl
-prefix-append (n ∷ p) q = λ i. same_self n i && prefix-append p q i
+prefix-append (n ∷ p) q = λ i. same_name-itself n i && prefix-append p q i
 
 pub prefix_rest : (p q : Path) → is_prefix p q ≡ true → (r : Path) × (q ≡ p ++ r)
 prefix_rest [] q h = (q, refl)
 prefix_rest (n ∷ p) [] h = absurd (false≢true h)
 prefix_rest (n ∷ p) (m ∷ q) h =
-    let both = first_true (same_name n m) (is_prefix p q) h in
+    let both = and_parts (same_name n m) (is_prefix p q) h in
     let rest = prefix_rest p q both.1 in
-    let e : n ≡ m = same_is n m both.0 in
+    let e : n ≡ m = same_name-is n m both.0 in
     (rest.0, λ i. sym e i ∷ rest.1 i)
 
 -- a text that begins with the text of a path

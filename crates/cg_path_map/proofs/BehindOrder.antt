@@ -10,14 +10,14 @@ use Rattle.std.specs.List.{AllByRecursion}
 use Rattle.std.specs.List.Sorted.{IsStrictlySortedBy}
 use Rattle.std.specs.Map.{keys_of}
 use Rattle.std.proofs.Math.Seq.{take-append_seam}
-use Rattle.std.proofs.lemmas.Bool.{eqb-true}
+use Rattle.std.proofs.lemmas.Bool.{and_parts, eqb-true}
 use Rattle.std.proofs.lemmas.Bool.Decides.{nat_tests}
 use Rattle.cg_path_map.specs.Behind.{is_behind, but_last, IsBehindText}
 use Rattle.cg_name.specs.Path.{Path, path_cmp, is_prefix}
 use Rattle.cg_name.specs.Packed.{names_in, packed_text, BeginsName, IsPacked}
 use Rattle.cg_path_map.specs.PathEntries.{by_paths, leading, ArePacked}
 use Rattle.cg_name.proofs.PackedOrder.{packed_order}
-use Rattle.cg_name.proofs.Packing.{first_true, prefix_by_start, prefix_bytes, start-packed_text}
+use Rattle.cg_name.proofs.Packing.{prefix_by_start, prefix_bytes, start-packed_text}
 use Rattle.cg_path_map.proofs.PathEntries.{at_text}
 use Rattle.std.specs.BTreeMap.Comparable.{le_lt_trans}
 use Rattle.cg_name.specs.Order.{path_cmp_total, path_cmp_exact}
@@ -63,7 +63,7 @@ rest_of [] [] h = ([], refl, tt)
 rest_of [] (y ∷ ys) h = (y ∷ ys, refl, eqb-true y 0 h)
 rest_of (x ∷ xs) [] h = absurd (true≢false (sym h))
 rest_of (x ∷ xs) (y ∷ ys) h =
-    let both = first_true (is_eq (nat_cmp x y)) (goes_on xs ys) h in
+    let both = and_parts (is_eq (nat_cmp x y)) (goes_on xs ys) h in
     let same : x ≡ y = nat_cmp-IsAntisymmetric x y ((Equal-is (nat_cmp x y)).0 both.0) in
     let rest = rest_of xs ys both.1 in
     (rest.0, (λ i. sym same i ∷ rest.1 i), rest.2)
@@ -152,4 +152,4 @@ module _ {X : Type 0} (p : Path) (kept : Path × X → Bool) (from : (e : Path �
 
 -- what stands behind a path that begins with p stands from p on
 pub behind_from : (p c q : Path) → is_prefix p c ≡ true → is_behind c q ≡ true → is_le (path_cmp p q) ≡ true
-behind_from p c q h k = le_then p c q (prefix_is_first p c h) (first_true (is_le (path_cmp c q)) (not (is_prefix c q)) k).0
+behind_from p c q h k = le_then p c q (prefix_is_first p c h) (and_parts (is_le (path_cmp c q)) (not (is_prefix c q)) k).0

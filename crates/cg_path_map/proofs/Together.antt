@@ -7,11 +7,12 @@ use Rattle.std.specs.Cmp.{tied_itself}
 use Rattle.std.specs.List.{AllByRecursion}
 use Rattle.std.specs.List.Sorted.{IsStrictlySortedBy}
 use Rattle.std.specs.Map.{keys_of}
+use Rattle.std.proofs.lemmas.Bool.{and_parts}
 use Rattle.cg_name.specs.Name.{Name, name_cmp, same_name}
 use Rattle.cg_name.specs.Order.{name_cmp_total, name_cmp_exact}
 use Rattle.cg_name.specs.Path.{Path, path_cmp, is_prefix}
 use Rattle.cg_path_map.specs.PathEntries.{leading}
-use Rattle.cg_name.proofs.Packing.{same_is, same_self, first_true}
+use Rattle.cg_name.proofs.Packing.{same_name-is, same_name-itself}
 
 -- a path stands before those that begin with it
 pub prefix_is_first : (p q : Path) → is_prefix p q ≡ true → is_le (path_cmp p q) ≡ true
@@ -19,8 +20,8 @@ prefix_is_first [] [] h = refl
 prefix_is_first [] (m ∷ q) h = refl
 prefix_is_first (n ∷ p) [] h = absurd (true≢false (sym h))
 prefix_is_first (n ∷ p) (m ∷ q) h =
-    let both = first_true (same_name n m) (is_prefix p q) h in
-    ap (λ x. is_le (ordering_then (name_cmp n x) (path_cmp p q))) (sym (same_is n m both.0))
+    let both = and_parts (same_name n m) (is_prefix p q) h in
+    ap (λ x. is_le (ordering_then (name_cmp n x) (path_cmp p q))) (sym (same_name-is n m both.0))
     ∙ ap (λ o. is_le (ordering_then o (path_cmp p q))) (tied_itself name_cmp_total n)
     ∙ prefix_is_first p q both.1
 
@@ -34,7 +35,7 @@ between_by n x p a b Less e next l m = absurd (true≢false (sym (ap is_lt (sym 
 between_by n x p a b Equal e next l m =
     let same : n ≡ x = name_cmp_exact n x e in
     let tied : name_cmp x n ≡ Equal = ap (name_cmp x) same ∙ tied_itself name_cmp_total x in
-    ap (λ y. same_name n y && is_prefix p a) (sym same) ∙ ap (λ b. b && is_prefix p a) (same_self n)
+    ap (λ y. same_name n y && is_prefix p a) (sym same) ∙ ap (λ b. b && is_prefix p a) (same_name-itself n)
     ∙ next (sym (ap (λ o. ordering_then o (path_cmp a b)) tied) ∙ m) l
 between_by n x p a b Greater e next l m = absurd (true≢false (sym l))
 
@@ -44,8 +45,8 @@ between [] a b l m h = refl
 between (n ∷ p) a [] l m h = absurd (true≢false (sym h))
 between (n ∷ p) [] (y ∷ b) l m h = absurd (true≢false (sym l))
 between (n ∷ p) (x ∷ a) (y ∷ b) l m h =
-    let both = first_true (same_name n y) (is_prefix p b) h in
-    let same : n ≡ y = same_is n y both.0 in
+    let both = and_parts (same_name n y) (is_prefix p b) h in
+    let same : n ≡ y = same_name-is n y both.0 in
     between_by n x p a b (name_cmp n x) refl (λ k j. between p a b j k both.1) l (ap (λ z. ordering_then (name_cmp x z) (path_cmp a b)) same ∙ m)
 
 module _ {X : Type 0} (p : Path) where

@@ -1,7 +1,7 @@
 -- What an edit means, and the entry that it needs.
 use Rattle.std.proofs.Common.{◌≡◌, true, Option, Some, None, IsSome, sym, ap, subst, ◌∙◌}
 use Rattle.std.proofs.lemmas.Bool.{false≢true}
-use Rattle.std.proofs.lemmas.Option.{none-some}
+use Rattle.std.proofs.lemmas.Option.{none-some, same_Some}
 use Rattle.cg_maps.specs.FiniteMap.{set_at}
 use Rattle.cg_maps.proofs.Maps.{set_same}
 use Rattle.cg_name.specs.Path.{Path}
@@ -27,13 +27,10 @@ module _ (T : Tree) (p : Path) (f : Field) (v : Setting f) where
 
 -- ---- the entry that an edit needs
 
-some_is : {x y : Path} → Some x ≡ Some y → x ≡ y
-some_is e = cc
-
 pub needed_room : (t : TreeWithRoom) (e : Edit) (p : Path) → Some p ≡ needed_entry e → has_entry t p ≡ true → RoomForEdit t e
 needed_room t (edits.Group q None) p is h = tt
-needed_room t (edits.Group q (Some s)) p is h = subst (λ r. has_entry t r ≡ true) (some_is is) h
-needed_room t (edits.Place k q) p is h = subst (λ r. has_entry t r ≡ true) (some_is is) h
+needed_room t (edits.Group q (Some s)) p is h = subst (λ r. has_entry t r ≡ true) (same_Some _ _ is) h
+needed_room t (edits.Place k q) p is h = subst (λ r. has_entry t r ≡ true) (same_Some _ _ is) h
 needed_room t (edits.Control q v) p is h = tt
 needed_room t (edits.Freeze q v) p is h = tt
 needed_room t (edits.Cpus q v) p is h = tt
@@ -43,8 +40,8 @@ needed_room t (edits.Online v) p is h = tt
 
 pub room_needed : (t : TreeWithRoom) (e : Edit) (p : Path) → Some p ≡ needed_entry e → RoomForEdit t e → has_entry t p ≡ true
 room_needed t (edits.Group q None) p is h = absurd (none-some p (sym is))
-room_needed t (edits.Group q (Some s)) p is h = subst (λ r. has_entry t r ≡ true) (sym (some_is is)) h
-room_needed t (edits.Place k q) p is h = subst (λ r. has_entry t r ≡ true) (sym (some_is is)) h
+room_needed t (edits.Group q (Some s)) p is h = subst (λ r. has_entry t r ≡ true) (sym (same_Some _ _ is)) h
+room_needed t (edits.Place k q) p is h = subst (λ r. has_entry t r ≡ true) (sym (same_Some _ _ is)) h
 room_needed t (edits.Control q v) p is h = absurd (none-some p (sym is))
 room_needed t (edits.Freeze q v) p is h = absurd (none-some p (sym is))
 room_needed t (edits.Cpus q v) p is h = absurd (none-some p (sym is))

@@ -1,10 +1,11 @@
 -- What a tree lists of its map's entries from one path down.
 use Rattle.std.proofs.Common.{◌≡◌, ℕ, zero, suc, ◌+◌, ◌&&◌, nat_lt, Bool, true, false, cond, List, [], ◌∷◌, ◌++◌, length, filter, slice_get, Option, Some, None, is_some, IfSome, refl, sym, ap, subst, ◌∙◌, ◌≢◌, ◌≤◌, true≢false, arith}
-use Rattle.std.proofs.lemmas.Option.{none-some}
+use Rattle.std.proofs.lemmas.Bool.{and_parts}
+use Rattle.std.proofs.lemmas.Option.{none-some, same_Some}
 use Rattle.cg_maps.specs.FiniteMap.{FiniteMap, domain, entries, get, len, retain}
 use Rattle.cg_name.specs.Name.{Name, same_name}
 use Rattle.cg_name.specs.Path.{Path, path_cmp, is_prefix, is_above, is_parent}
-use Rattle.cg_name.proofs.Packing.{first_true, same_is}
+use Rattle.cg_name.proofs.Packing.{same_name-is}
 use Rattle.cg_text.specs.declared.settings.Settings.{Settings}
 use Rattle.cg_model.specs.Derived.{children, descendants}
 use Rattle.cg_model.specs.Tree.{Tree}
@@ -56,16 +57,8 @@ module _ (t : TreeWithRoom) (m : FiniteMap path_cmp (Option Settings)) (groups :
 
 -- ---- a child's name
 
-or_else : {A : Type 0} → A → Option A → A
-or_else x None = x
-or_else x (Some y) = y
-
-some_is : {A : Type 0} (x y : A) → Some x ≡ Some y → x ≡ y
-unfolding or_else
-some_is x y h = ap (or_else x) h
-
 pass_so : {A : Type 0} (test : A → Bool) (y x : A) (ys : List A) (b : Bool) → test y ≡ b → ((j : ℕ) → slice_get ys j ≡ Some x → test x ≡ true) → (i : ℕ) → slice_get (cond b (y ∷ ys) ys) i ≡ Some x → test x ≡ true
-pass_so test y x ys true e next zero h = ap test (sym (some_is _ _ h)) ∙ e
+pass_so test y x ys true e next zero h = ap test (sym (same_Some _ _ h)) ∙ e
 pass_so test y x ys true e next (suc j) h = next j h
 pass_so test y x ys false e next i h = next i h
 
@@ -88,9 +81,9 @@ last_name p [] h = absurd (true≢false (sym h))
 last_name [] (m ∷ []) h = record { name = m; stands = refl; path = refl }
 last_name [] (m ∷ (k ∷ q)) h = absurd (true≢false (sym h))
 last_name (n ∷ p) (m ∷ q) h =
-    let parts = first_true (same_name n m) (is_parent p q) h in
+    let parts = and_parts (same_name n m) (is_parent p q) h in
     let rest = last_name p q parts.1 in
-    record { name = rest.name; stands = rest.stands; path = λ i. sym (same_is n m parts.0) i ∷ rest.path i }
+    record { name = rest.name; stands = rest.stands; path = λ i. sym (same_name-is n m parts.0) i ∷ rest.path i }
 
 -- the first of what is left, where none has to be passed over
 pub first_listed : {A : Type 0} (xs left behind : List A) (x : A) (i n : ℕ) → slice_get left n ≡ slice_get xs i → left ≡ x ∷ behind → n ≡ 0 → slice_get xs i ≡ Some x
@@ -102,5 +95,5 @@ child_has_name T p q i d s h e none = none-some _ (sym none ∙ ap (slice_get q)
 pub child_by_name : (T : Tree) (p q : Path) (i d : ℕ) (s : Settings) (n : Name) → slice_get (children T p) i ≡ Some (q, s) → d ≡ length p → Some n ≡ slice_get q d → Some (p ++ n ∷ [], s) ≡ slice_get (children T p) i
 child_by_name T p q i d s n h e g =
     let ends = last_name p q (listed_child T p i (q, s) h) in
-    let same : n ≡ ends.name = some_is _ _ (g ∙ ap (slice_get q) e ∙ ends.stands) in
+    let same : n ≡ ends.name = same_Some _ _ (g ∙ ap (slice_get q) e ∙ ends.stands) in
     (λ k. Some (p ++ same k ∷ [], s)) ∙ ap (λ x. Some (x, s)) (sym ends.path) ∙ sym h

@@ -6,15 +6,16 @@ use Rattle.std.specs.Ordering.{is_le, is_lt, ordering_reverse}
 use Rattle.std.specs.Cmp.{tied_itself}
 use Rattle.std.specs.FinMap.Entries.{is_sorted, below_all}
 use Rattle.std.specs.List.{AllByRecursion}
-use Rattle.std.proofs.lemmas.Bool.{eqb-true, eq-eqb}
+use Rattle.std.proofs.lemmas.Bool.{and_parts, eqb-true, eq-eqb}
 use Rattle.std.proofs.lemmas.Bool.Decides.{nat_tests}
 use Rattle.cg_maps.specs.FiniteMap.{FiniteMap, entries, get}
 use Rattle.cg_maps.proofs.Maps.{each_entry}
+use Rattle.cg_maps.proofs.Tests.{and_first, and_second, less}
 use Rattle.cg_path_map.specs.Behind.{is_behind}
 use Rattle.cg_name.specs.Name.{same_name}
 use Rattle.cg_name.specs.Order.{path_cmp_total, path_cmp_exact}
 use Rattle.cg_name.specs.Path.{Path, path_cmp, is_prefix}
-use Rattle.cg_name.proofs.Packing.{first_true, same_is, prefix-append}
+use Rattle.cg_name.proofs.Packing.{prefix-append, same_name-is}
 use Rattle.cg_tree.specs.declared.entry.Entry.{Entry}
 use Rattle.cg_tree.specs.Entries.{of_depth, IsRightBelow}
 
@@ -58,19 +59,6 @@ module _ {A : Type 0} where
 
 -- ---- entries in the order of their paths
 
-less : (r : Ordering) → T (is_lt r) → r ≡ Less
-less Less h = refl
-less Equal h = absurd h
-less Greater h = absurd h
-
-first : (a b : Bool) → T (a && b) → T a
-first true b h = tt
-first false b h = h
-
-second : (a b : Bool) → T (a && b) → T b
-second true b h = h
-second false b h = absurd h
-
 module _ {X : Type 0} where
   abbrev AreAfter : Path → List (Path × X) → Type 0
   AreAfter p es = AllByRecursion (λ x. path_cmp p x.0 ≡ Less) es
@@ -81,11 +69,11 @@ module _ {X : Type 0} where
 
   all_after : (p : Path) (es : List (Path × X)) → T (below_all path_cmp p es) → AreAfter p es
   all_after p [] h = tt
-  all_after p (e ∷ es) h = (less _ (first _ _ h), all_after p es (second _ _ h))
+  all_after p (e ∷ es) h = (less _ (and_first _ _ h), all_after p es (and_second _ _ h))
 
   ascending : (es : List (Path × X)) → T (is_sorted path_cmp es) → Ascend es
   ascending [] h = tt
-  ascending (e ∷ es) h = (all_after e.0 es (first _ _ h), ascending es (second _ _ h))
+  ascending (e ∷ es) h = (all_after e.0 es (and_first _ _ h), ascending es (and_second _ _ h))
 
   still_ascending : (test : Path × X → Bool) (es : List (Path × X)) → Ascend es → Ascend (filter test es)
   still_ascending test [] h = tt
@@ -124,9 +112,9 @@ no_longer [] [] h e = refl
 no_longer [] (m ∷ q) h e = absurd (true≢false (sym e ∙ shorter (length q)))
 no_longer (n ∷ p) [] h e = absurd (true≢false (sym h))
 no_longer (n ∷ p) (m ∷ q) h e =
-    let both = first_true (same_name n m) (is_prefix p q) h in
+    let both = and_parts (same_name n m) (is_prefix p q) h in
     let rest = no_longer p q both.1 (sym (same_less (length q) (length p)) ∙ e) in
-    λ i. same_is n m both.0 i ∷ rest i
+    λ i. same_name-is n m both.0 i ∷ rest i
 
 begins_with_itself : (p : Path) → is_prefix p p ≡ true
 begins_with_itself p = ap (is_prefix p) (sym (append-nil p)) ∙ prefix-append p []

@@ -5,15 +5,8 @@ use Rattle.cg_maps.proofs.Maps as maps
 use Rattle.cg_name.specs.Name.{Name, same_name}
 use Rattle.cg_name.specs.Order.{name_cmp_total, name_cmp_exact}
 use Rattle.cg_name.specs.Path.{Path, is_above, is_parent, along}
+use Rattle.cg_name.proofs.Packing.{same_name-is, same_name-itself}
 use Rattle.cg_model.specs.Tree.{last_of}
-
-same_name-itself : (n : Name) → same_name n n ≡ true
-unfolding same_name
-same_name-itself n = maps.here name_cmp_total name_cmp_exact n
-
-same_name-is : (n m : Name) → same_name n m ≡ true → n ≡ m
-unfolding same_name
-same_name-is n m e = maps.is_same name_cmp_total name_cmp_exact n m e
 
 -- what holds of a path holds of its parent
 abbrev pub HoldsOfParents : (Path → Type 0) → Type 0

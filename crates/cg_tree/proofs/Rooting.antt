@@ -1,6 +1,7 @@
 -- What holds of every tree with room stays so, whatever is put in.
 use Rattle.std.proofs.Common.{◌≡◌, ◌≢◌, ℕ, true, false, not, ◌&&◌, inl, inr, ◌⊎◌, [], ◌∷◌, Option, Some, None, IsSome, IfSome, is_some, refl, sym, ap, subst, ◌∙◌}
 use Rattle.std.proofs.lemmas.Bool.{false≢true}
+use Rattle.std.proofs.lemmas.Option.{none-some, same_Some}
 use Rattle.std.specs.Cmp.{nat_cmp_total}
 use Rattle.std.specs.FinMap.{nat_cmp-IsAntisymmetric}
 use Rattle.cg_maps.specs.FiniteMap.{FiniteMap, get, set_at, domain}
@@ -25,12 +26,6 @@ with_place t k p = record { tree = record t.tree { places = set_at t.tree.places
 
 abbrev pub with_entries : TreeWithRoom → FiniteMap path_cmp (Unit {0}) → TreeWithRoom
 with_entries t E = record { tree = t.tree; entries = E }
-
-some_is : {A : Type 0} {x y : A} → Some x ≡ Some y → x ≡ y
-some_is e = cc
-
-none_some : {A P : Type 0} {x : A} → None ≡ Some x → P
-none_some e = absurd (cc e)
 
 some_of : {A : Type 0} (w : Option A) → is_some w ≡ true → (x : A) × (w ≡ Some x)
 some_of None e = absurd (false≢true e)
@@ -67,8 +62,8 @@ module _ (t : TreeWithRoom) (k : ℕ) (p : Path) (h : IsRooted t) where
   ]
     where
       at : l ≡ k → (w : Option Path) → place_of t.tree k ≡ w → replaced w (Some p) ≡ Some q → (l ≡ k) × (q ≡ p) × (is_some (place_of t.tree k) ≡ true)
-      at e None was to = none_some to
-      at e (Some r) was to = (e, sym (some_is to), ap is_some was)
+      at e None was to = absurd (none-some _ to)
+      at e (Some r) was to = (e, sym (same_Some _ _ to), ap is_some was)
 
   pub place_put : IsPath p → has_entry t p ≡ true → IsRooted (with_place t k p)
   place_put path room = record {

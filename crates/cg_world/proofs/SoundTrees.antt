@@ -8,12 +8,14 @@ use Rattle.std.specs.List.{AllByRecursion, list_all}
 use Rattle.std.specs.FinMap.{IsAntisymmetric}
 use Rattle.std.specs.FinMap.Entries.{find}
 use Rattle.std.proofs.lemmas.Bool.{and_parts}
+use Rattle.std.proofs.lemmas.Option.{none-some, same_Some}
 use Rattle.cg_maps.specs.FiniteMap.{FiniteMap, from_entries, get}
 use Rattle.cg_maps.specs.FiniteSet.{is_empty_set}
 use Rattle.cg_maps.proofs.Maps.{here, is_same, get-from_entries}
 use Rattle.cg_name.specs.Name.{Name, same_name}
 use Rattle.cg_name.specs.Path.{Path, is_root, is_parent}
 use Rattle.cg_name.specs.Order.{name_cmp_total, name_cmp_exact}
+use Rattle.cg_name.proofs.Packing.{same_name-is, same_name-itself}
 use Rattle.cg_name.specs.declared.controller.Controller.{Controller}
 use Rattle.cg_name.specs.declared.controller.Controller.TheVariants.{Cpuset, Cpu, Io, Memory, Hugetlb, Pids, Rdma, Misc}
 use Rattle.cg_text.specs.Controllers.{has, is_within, IsWithin}
@@ -67,14 +69,6 @@ module _ (s t : Controllers) where
 
 -- ---- a parent's path
 
-name_same : (n m : Name) → same_name n m ≡ true → n ≡ m
-unfolding same_name
-name_same n m e = is_same name_cmp_total name_cmp_exact n m e
-
-same_as_itself : (n : Name) → same_name n n ≡ true
-unfolding same_name
-same_as_itself n = here name_cmp_total name_cmp_exact n
-
 root_empty : (p : Path) → is_root p ≡ true → p ≡ []
 root_empty [] e = refl
 root_empty (n ∷ p) e = absurd (true≢false (sym e))
@@ -82,11 +76,11 @@ root_empty (n ∷ p) e = absurd (true≢false (sym e))
 front_of_child : (q : Path) (n : Name) (p : Path) → is_parent q (n ∷ p) ≡ true → q ≡ take (length p) (n ∷ p)
 front_of_child [] n p e = ap (λ r. take (length r) (n ∷ r)) (sym (root_empty p e))
 front_of_child (m ∷ q) n [] e = absurd (true≢false (sym (and_parts (same_name m n) false e).1))
-front_of_child (m ∷ q) n (k ∷ p) e = let h = and_parts (same_name m n) _ e in λ i. name_same m n h.0 i ∷ front_of_child q k p h.1 i
+front_of_child (m ∷ q) n (k ∷ p) e = let h = and_parts (same_name m n) _ e in λ i. same_name-is m n h.0 i ∷ front_of_child q k p h.1 i
 
 front_is_parent : (n : Name) (p : Path) → is_parent (take (length p) (n ∷ p)) (n ∷ p) ≡ true
 front_is_parent n [] = refl
-front_is_parent n (m ∷ p) = both_true (same_as_itself n) (front_is_parent m p)
+front_is_parent n (m ∷ p) = both_true (same_name-itself n) (front_is_parent m p)
 
 pub no_parent_of_root : (q : Path) → is_parent q [] ≡ true → ⊥
 no_parent_of_root [] e = true≢false (sym e)
@@ -113,17 +107,11 @@ front_has_child (n ∷ p) e =
 
 module _ {K X : Type 0} {R : K → K → Ordering} (o : IsTotalOrder R) (same : IsAntisymmetric R) (P : K → X → Type 0) where
   each_found : (es : List (K × X)) → AllByRecursion (λ e. P e.0 e.1) es → (q : K) (v : X) → find R q es ≡ Some v → P q v
-  each_found [] h q v e = absurd (none_some e)
-    where
-      none_some : {x : X} → None ≡ Some x → ⊥
-      none_some e = cc
+  each_found [] h q v e = absurd (none-some v e)
   each_found (x ∷ es) h q v e = elim (eq_by_cmp R q x.0) as (λ b. eq_by_cmp R q x.0 ≡ b → cond b (Some x.1) (find R q es) ≡ Some v → P q v) [
-    | true ↦ λ is e. subst (λ k. P k v) (sym (is_same o same q x.0 is)) (subst (P x.0) (some_same e) h.0)
+    | true ↦ λ is e. subst (λ k. P k v) (sym (is_same o same q x.0 is)) (subst (P x.0) (same_Some x.1 v e) h.0)
     | false ↦ λ is e. each_found es h.1 q v e
   ] refl e
-    where
-      some_same : {x y : X} → Some x ≡ Some y → x ≡ y
-      some_same e = cc
 
   pub each_answer : (es : List (K × X)) (m : FiniteMap R X) → from_entries R es ≡ m → AllByRecursion (λ e. P e.0 e.1) es → (q : K) (v : X) → get m q ≡ Some v → P q v
   each_answer es m is h q v e = each_found es h q v (sym (get-from_entries o same es q) ∙ ap (λ n. get n q) is ∙ e)
@@ -147,27 +135,21 @@ child_by u s w h = record { control = within s.control u.control w; cpus = h }
 pub root_by : (T : Tree) (s : Settings) → is_within s.control T.controllers ≡ true → s.freeze ≡ false → is_empty_set s.cpus ≡ true → IsRootOf T s
 root_by T s w f e = record { control = within s.control T.controllers w; freeze = f; cpus = e }
 
-same_settings : {x y : Settings} → Some x ≡ Some y → x ≡ y
-same_settings e = cc
-
-pub none_some : {X : Type 0} {x : X} → None ≡ Some x → ⊥
-none_some e = cc
-
 pub root_is : (T : Tree) (s : Settings) (r : Bool) → group T [] ≡ Some s → (IsTrue r ↔ IsRootOf T s) → IsTrue r ↔ HasSoundRoot T
 root_is T s r e h = (
   λ t. (s, e, h.0 t),
-  λ g. h.1 (subst (IsRootOf T) (same_settings (sym g.1 ∙ e)) g.2),
+  λ g. h.1 (subst (IsRootOf T) (same_Some _ _ (sym g.1 ∙ e)) g.2),
 )
 
 -- where the path without its last name is that of a group with settings u
 pub group_is : (T : Tree) (p : Path) (s u : Settings) (r : Bool) → is_root p ≡ false → group T (take (length p - 1) p) ≡ Some u → (IsTrue r ↔ IsChildOf u s) → IsTrue r ↔ IsSoundGroup T p s
 group_is T p s u r below e h = (
   λ t q is. (u, ap (group T) (parent_is_front q p is) ∙ e, h.0 t),
-  λ g. let x = g (take (length p - 1) p) (front_has_child p below) in h.1 (subst (λ v. IsChildOf v s) (same_settings (sym x.1 ∙ e)) x.2),
+  λ g. let x = g (take (length p - 1) p) (front_has_child p below) in h.1 (subst (λ v. IsChildOf v s) (same_Some _ _ (sym x.1 ∙ e)) x.2),
 )
 
 pub no_parent : (T : Tree) (p : Path) (s : Settings) → is_root p ≡ false → group T (take (length p - 1) p) ≡ None → IsSoundGroup T p s → ⊥
-no_parent T p s below e g = let x = g (take (length p - 1) p) (front_has_child p below) in none_some (sym e ∙ x.1)
+no_parent T p s below e g = let x = g (take (length p - 1) p) (front_has_child p below) in none-some _ (sym e ∙ x.1)
 
 pub some_is_below : {X : Type 0} (o : Option X) (x : X) (b : Bool) → o ≡ Some x → is_some o ≡ not b → b ≡ false
 some_is_below o x true e h = absurd (true≢false (sym (ap is_some e) ∙ h))
@@ -179,5 +161,5 @@ some_is P o x e h = subst (λ o. IfSome o P) e h
 pub place_is : (T : Tree) (p : Path) (s : Settings) (r : Bool) → group T p ≡ Some s → admits p s ≡ r → IsTrue r ↔ IsSoundPlace T p
 place_is T p s r e a = (
   λ t. (s, e, a ∙ t),
-  λ g. sym a ∙ ap (admits p) (sym (same_settings (sym g.1 ∙ e))) ∙ g.2,
+  λ g. sym a ∙ ap (admits p) (sym (same_Some _ _ (sym g.1 ∙ e))) ∙ g.2,
 )

@@ -110,67 +110,34 @@ one_version v ws Two Two h k = refl
 
 pub one_statement : (v : versions.Version) (ws : List Word) (s t : Statement) → SpellsStatement v ws s → SpellsStatement v ws t → s ≡ t
 one_statement v ws (Version n) (Version m) h k = ap Version (one_version v ws n m h k)
-one_statement v ws (Version n) (Controllers t) h k = absurd (differ 119 99 (letters v ws (Version n) (Controllers t) h k) refl)
-one_statement v ws (Version n) (Online t) h k = absurd (differ 119 111 (letters v ws (Version n) (Online t) h k) refl)
-one_statement v ws (Version n) (Group q t) h k = absurd (differ 119 103 (letters v ws (Version n) (Group q t) h k) refl)
-one_statement v ws (Version n) (Process m q) h k = absurd (differ 119 112 (letters v ws (Version n) (Process m q) h k) refl)
-one_statement v ws (Version n) End h k = absurd (differ 119 101 (letters v ws (Version n) End h k) refl)
-one_statement v ws (Controllers s) (Version m) h k = absurd (differ 99 119 (letters v ws (Controllers s) (Version m) h k) refl)
 one_statement v ws (Controllers s) (Controllers t) h k =
     let e : h.0 ≡ k.0 = cc (h.1, k.1) in
     ap Controllers (one_sum h.0 no_controllers s t h.2 (subst (λ ns. AddsControllers no_controllers ns t) (sym e) k.2))
-one_statement v ws (Controllers s) (Online t) h k = absurd (differ 99 111 (letters v ws (Controllers s) (Online t) h k) refl)
-one_statement v ws (Controllers s) (Group q t) h k = absurd (differ 99 103 (letters v ws (Controllers s) (Group q t) h k) refl)
-one_statement v ws (Controllers s) (Process m q) h k = absurd (differ 99 112 (letters v ws (Controllers s) (Process m q) h k) refl)
-one_statement v ws (Controllers s) End h k = absurd (differ 99 101 (letters v ws (Controllers s) End h k) refl)
-one_statement v ws (Online s) (Version m) h k = absurd (differ 111 119 (letters v ws (Online s) (Version m) h k) refl)
-one_statement v ws (Online s) (Controllers t) h k = absurd (differ 111 99 (letters v ws (Online s) (Controllers t) h k) refl)
 one_statement v ws (Online s) (Online t) h k =
     let e : h.0 ≡ k.0 = cc (h.1, k.1) in
     let other = subst (λ w. SpellsSomeCpus (last_cpu v) w t) (sym e) k.2 in
     ap Online (one_set h.0 s t h.2.0 other.0)
-one_statement v ws (Online s) (Group q t) h k = absurd (differ 111 103 (letters v ws (Online s) (Group q t) h k) refl)
-one_statement v ws (Online s) (Process m q) h k = absurd (differ 111 112 (letters v ws (Online s) (Process m q) h k) refl)
-one_statement v ws (Online s) End h k = absurd (differ 111 101 (letters v ws (Online s) End h k) refl)
-one_statement v ws (Group p s) (Version m) h k = absurd (differ 103 119 (letters v ws (Group p s) (Version m) h k) refl)
-one_statement v ws (Group p s) (Controllers t) h k = absurd (differ 103 99 (letters v ws (Group p s) (Controllers t) h k) refl)
-one_statement v ws (Group p s) (Online t) h k = absurd (differ 103 111 (letters v ws (Group p s) (Online t) h k) refl)
 one_statement v ws (Group p s) (Group q t) h k =
     let e = group_words (codes "group") h.0 h.1 h.2 h.3 h.4 k.0 k.1 k.2 k.3 k.4 (sym h.5 ∙ k.5) in
     let path : p ≡ q = one_path h.0 p q h.6 (subst (λ w. SpellsPath w q) (sym e.first) k.6) in
     let same : s ≡ t = one_settings v h.1 h.2 h.3 h.4 s t (h.7, h.8, h.9, h.10)
     (subst (λ w. SpellsControl w t.control) (sym e.second) k.7, subst (λ w. SpellsFlag w t.freeze) (sym e.third) k.8, subst (λ w. SpellsAskedCpus (last_cpu v) w t.cpus) (sym e.fourth) k.9, subst (λ ls. SpellsLimits v ls t.max_descendants t.max_depth) (sym e.others) k.10) in
     λ i. Group (path i) (same i)
-one_statement v ws (Group p s) (Process m q) h k = absurd (differ 103 112 (letters v ws (Group p s) (Process m q) h k) refl)
-one_statement v ws (Group p s) End h k = absurd (differ 103 101 (letters v ws (Group p s) End h k) refl)
-one_statement v ws (Process n p) (Version m) h k = absurd (differ 112 119 (letters v ws (Process n p) (Version m) h k) refl)
-one_statement v ws (Process n p) (Controllers t) h k = absurd (differ 112 99 (letters v ws (Process n p) (Controllers t) h k) refl)
-one_statement v ws (Process n p) (Online t) h k = absurd (differ 112 111 (letters v ws (Process n p) (Online t) h k) refl)
-one_statement v ws (Process n p) (Group q t) h k = absurd (differ 112 103 (letters v ws (Process n p) (Group q t) h k) refl)
 one_statement v ws (Process n p) (Process m q) h k =
     let e : h.0 ≡ k.0 = cc (h.2, k.2) in
     let f : h.1 ≡ k.1 = cc (h.2, k.2) in
     let pid : n ≡ m = cc (h.3.1, k.3.1) in
     let path : p ≡ q = one_path h.1 p q h.4 (subst (λ w. SpellsPath w q) (sym f) k.4) in
     λ i. Process (pid i) (path i)
-one_statement v ws (Process n p) End h k = absurd (differ 112 101 (letters v ws (Process n p) End h k) refl)
-one_statement v ws End (Version m) h k = absurd (differ 101 119 (letters v ws End (Version m) h k) refl)
-one_statement v ws End (Controllers t) h k = absurd (differ 101 99 (letters v ws End (Controllers t) h k) refl)
-one_statement v ws End (Online t) h k = absurd (differ 101 111 (letters v ws End (Online t) h k) refl)
-one_statement v ws End (Group q t) h k = absurd (differ 101 103 (letters v ws End (Group q t) h k) refl)
-one_statement v ws End (Process m q) h k = absurd (differ 101 112 (letters v ws End (Process m q) h k) refl)
 one_statement v ws End End h k = refl
+one_statement v ws s t h k = absurd (differ (letter s) (letter t) (letters v ws s t h k) refl)
 
 -- the four words behind `group` and those behind them are a path and its settings
 pub group_settings : (v : versions.Version) (a b c d : Word) (ls : List Word) (s : Statement) → SpellsStatement v (codes "group" ∷ a ∷ b ∷ c ∷ d ∷ ls) s → (t : Settings) × SpellsSettings v b c d ls t
-group_settings v a b c d ls (Version n) h = absurd (differ 103 119 (spelled_letter v _ (Version n) h) refl)
-group_settings v a b c d ls (Controllers s) h = absurd (differ 103 99 (spelled_letter v _ (Controllers s) h) refl)
-group_settings v a b c d ls (Online s) h = absurd (differ 103 111 (spelled_letter v _ (Online s) h) refl)
 group_settings v a b c d ls (Group p s) h =
     let e = group_words (codes "group") a b c d ls h.0 h.1 h.2 h.3 h.4 h.5 in
     (s, (subst (λ w. SpellsControl w s.control) (sym e.second) h.7, subst (λ w. SpellsFlag w s.freeze) (sym e.third) h.8, subst (λ w. SpellsAskedCpus (last_cpu v) w s.cpus) (sym e.fourth) h.9, subst (λ ms. SpellsLimits v ms s.max_descendants s.max_depth) (sym e.others) h.10))
-group_settings v a b c d ls (Process k p) h = absurd (differ 103 112 (spelled_letter v _ (Process k p) h) refl)
-group_settings v a b c d ls End h = absurd (differ 103 101 (spelled_letter v _ End h) refl)
+group_settings v a b c d ls s h = absurd (differ 103 (letter s) (spelled_letter v _ s h) refl)
 
 abbrev nothing : Bor (List ℕ)
 nothing = record { ref_ptr = (0, 0); now = [] }

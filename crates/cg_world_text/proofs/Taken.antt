@@ -1,5 +1,6 @@
 -- What a reader has taken, one line after another.
 use Rattle.std.proofs.Common.{◌≡◌, ◌↔◌, ◌⊎◌, inl, inr, Some, None, List, [], ◌∷◌, ◌++◌, codes, refl, sym, subst, append_assoc, append-nil}
+use Rattle.std.proofs.lemmas.Option.{same_Some}
 use Rattle.cg_text.specs.Words.{Line, Word, Says}
 use Rattle.cg_model.specs.Tree.{Tree}
 use Rattle.cg_world_text.specs.declared.stage.Stage.{Stage}
@@ -57,30 +58,27 @@ open_before (Groups n T) s next e h = h
 open_before (Processes n T) s next e h = h
 open_before (Ended n T) s next e h = cc e
 
-some_same : {X : Type 0} {x y : X} → Some x ≡ Some y → x ≡ y
-some_same e = cc
-
 -- what a stage isn't, no stage equal to it is
 no_end : (st next : Stage) → (HasEnded st → ⊥) → st ≡ next → HasEnded next → ⊥
 no_end st next none e h = none (subst HasEnded (sym e) h)
 
 -- and only the end makes it so
 ended_by : (st : Stage) (s : Statement) (next : Stage) → taken st s ≡ Some next → HasEnded next ↔ (s ≡ End)
-ended_by Begun (Version m) next e = ((λ h. absurd (no_end (Versioned m) next (λ x. x) (some_same e) h)), (λ k. absurd (cc k)))
+ended_by Begun (Version m) next e = ((λ h. absurd (no_end (Versioned m) next (λ x. x) (same_Some _ _ e) h)), (λ k. absurd (cc k)))
 ended_by Begun (Controllers ds) next e = absurd (cc e)
 ended_by Begun (Online o) next e = absurd (cc e)
 ended_by Begun (Group p s) next e = absurd (cc e)
 ended_by Begun (Process k p) next e = absurd (cc e)
 ended_by Begun End next e = absurd (cc e)
 ended_by (Versioned n) (Version m) next e = absurd (cc e)
-ended_by (Versioned n) (Controllers ds) next e = ((λ h. absurd (no_end (Controlled n ds) next (λ x. x) (some_same e) h)), (λ k. absurd (cc k)))
+ended_by (Versioned n) (Controllers ds) next e = ((λ h. absurd (no_end (Controlled n ds) next (λ x. x) (same_Some _ _ e) h)), (λ k. absurd (cc k)))
 ended_by (Versioned n) (Online o) next e = absurd (cc e)
 ended_by (Versioned n) (Group p s) next e = absurd (cc e)
 ended_by (Versioned n) (Process k p) next e = absurd (cc e)
 ended_by (Versioned n) End next e = absurd (cc e)
 ended_by (Controlled n cs) (Version m) next e = absurd (cc e)
 ended_by (Controlled n cs) (Controllers ds) next e = absurd (cc e)
-ended_by (Controlled n cs) (Online o) next e = ((λ h. absurd (no_end (Groups n _) next (λ x. x) (some_same e) h)), (λ k. absurd (cc k)))
+ended_by (Controlled n cs) (Online o) next e = ((λ h. absurd (no_end (Groups n _) next (λ x. x) (same_Some _ _ e) h)), (λ k. absurd (cc k)))
 ended_by (Controlled n cs) (Group p s) next e = absurd (cc e)
 ended_by (Controlled n cs) (Process k p) next e = absurd (cc e)
 ended_by (Controlled n cs) End next e = absurd (cc e)
@@ -89,20 +87,20 @@ ended_by (Groups n T) (Controllers ds) next e = absurd (cc e)
 ended_by (Groups n T) (Online o) next e = absurd (cc e)
 ended_by (Groups n T) (Group p s) next e = ((λ h. absurd (no_end (Groups n _) next (λ x. x) (free _ _ next e).1 h)), (λ k. absurd (cc k)))
 ended_by (Groups n T) (Process k p) next e = ((λ h. absurd (no_end (Processes n _) next (λ x. x) (free _ _ next e).1 h)), (λ j. absurd (cc j)))
-ended_by (Groups n T) End next e = ((λ h. refl), (λ k. subst HasEnded (some_same e) tt))
+ended_by (Groups n T) End next e = ((λ h. refl), (λ k. subst HasEnded (same_Some _ _ e) tt))
 ended_by (Processes n T) (Version m) next e = absurd (cc e)
 ended_by (Processes n T) (Controllers ds) next e = absurd (cc e)
 ended_by (Processes n T) (Online o) next e = absurd (cc e)
 ended_by (Processes n T) (Group p s) next e = absurd (cc e)
 ended_by (Processes n T) (Process k p) next e = ((λ h. absurd (no_end (Processes n _) next (λ x. x) (free _ _ next e).1 h)), (λ j. absurd (cc j)))
-ended_by (Processes n T) End next e = ((λ h. refl), (λ k. subst HasEnded (some_same e) tt))
+ended_by (Processes n T) End next e = ((λ h. refl), (λ k. subst HasEnded (same_Some _ _ e) tt))
 ended_by (Ended n T) s next e = absurd (cc e)
 
 -- a line says `end` where its words do
 says_end : (v : versions.Version) (l : Line) (ws : List Word) (s : Statement) → Says l (Some ws) → SpellsStatement v ws s → (s ≡ End) ↔ EndsWorld l
 says_end v l ws s says spells = (
   (λ e. let same : ws ≡ codes "end" ∷ [] = subst (SpellsStatement v ws) e spells in subst (λ w. Says l (Some w)) same says),
-  (λ h. let same : ws ≡ codes "end" ∷ [] = some_same (one_saying l (Some ws) (Some (codes "end" ∷ [])) says h) in one_statement v ws s End spells same),
+  (λ h. let same : ws ≡ codes "end" ∷ [] = same_Some _ _ (one_saying l (Some ws) (Some (codes "end" ∷ [])) says h) in one_statement v ws s End spells same),
 )
 
 -- a line among others

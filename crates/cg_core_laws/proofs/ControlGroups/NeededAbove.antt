@@ -13,7 +13,8 @@ use Rattle.cg_model.specs.Opens.{among}
 use Rattle.cg_model.specs.Live.{Items}
 use Rattle.cg_model.specs.Room.{changes_group, inverse, needs_group}
 use Rattle.cg_core_laws.specs.Unwind.{with_items}
-use Rattle.cg_model_laws.proofs.Paths.{never, same_name-itself, same_name-is, above-prefix}
+use Rattle.cg_name.proofs.Packing.{same_name-is, same_name-itself}
+use Rattle.cg_model_laws.proofs.Paths.{never, above-prefix}
 use Rattle.cg_core_laws.proofs.ControlGroups.GroupChanges.{there_undone, there_before_or_after}
 use Rattle.cg_core_laws.proofs.ControlGroups.UnwindingStages.{Stage, IsNewest, own_items, stage_sound, newest, next_stage}
 
