@@ -1,7 +1,8 @@
 -- What words spell can be asked for.
 use Rattle.std.proofs.Common.{List, [], ◌∷◌, arith}
 use Rattle.cg_maps.specs.FiniteSet.{FiniteSet}
-use Rattle.cg_cpus.specs.CpuList.{SpellsCpus, trimmed}
+use Rattle.cg_cpus.specs.CpuList.{SpellsCpus}
+use Rattle.cg_digits.specs.WhiteSpace.{trimmed}
 use Rattle.cg_cpus.proofs.Grammar.{spelled_below}
 use Rattle.cg_model.specs.Command.{Create, Remove, Migrate, Subtree, Freeze, Cpus, Show, Online, MaxDescendants, MaxDepth}
 use Rattle.cg_text.specs.Words.{Word}

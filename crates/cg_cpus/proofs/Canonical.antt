@@ -9,11 +9,11 @@ use Rattle.std.proofs.lemmas.List.Splits.{slice_split_none, slice_split_at}
 use Rattle.std.proofs.lemmas.Str.Parse.{digit_from_value}
 use Rattle.cg_maps.specs.FiniteSet.{FiniteSet, has, members, no_members}
 use Rattle.cg_maps.proofs.Sets.{has-members, same_set, has-no_members}
-use Rattle.cg_cpus.specs.CpuList.{is_white_space, without_leading_white_space, without_trailing_white_space, IsCpuNumber, SpellsRange, IsElement, StandsFor, SpellsElements, SpellsTrimmed, onto_runs, runs, run_text, cpus_text}
-use Rattle.cg_cpus.specs.WhiteSpace.{starts_white}
+use Rattle.cg_cpus.specs.CpuList.{IsCpuNumber, SpellsRange, IsElement, StandsFor, SpellsElements, SpellsTrimmed, onto_runs, runs, run_text, cpus_text}
+use Rattle.cg_digits.specs.WhiteSpace.{is_white_space, starts_white, without_leading_white_space, without_trailing_white_space}
 use Rattle.cg_cpus.specs.Laws.{CanonicalSpells}
 use Rattle.cg_cpus.proofs.Ranges.{one_range}
-use Rattle.cg_cpus.proofs.Trimmed.{front_end, back_end, last_test}
+use Rattle.cg_digits.proofs.Trimmed.{front_end, back_end, last_test}
 use Rattle.cg_cpus.proofs.Grammar.{spelled}
 
 -- ---- lists

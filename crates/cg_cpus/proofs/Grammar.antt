@@ -5,7 +5,8 @@ use Rattle.std.specs.List.{All, Any, slice_split}
 use Rattle.std.proofs.lemmas.List.Quantifiers.{Any-push}
 use Rattle.cg_maps.specs.FiniteSet.{FiniteSet, has, no_members}
 use Rattle.cg_maps.proofs.Sets.{same_set, has-no_members}
-use Rattle.cg_cpus.specs.CpuList.{SpellsRange, IsElement, StandsFor, SpellsElements, SpellsTrimmed, without_leading_white_space, without_trailing_white_space}
+use Rattle.cg_cpus.specs.CpuList.{SpellsRange, IsElement, StandsFor, SpellsElements, SpellsTrimmed}
+use Rattle.cg_digits.specs.WhiteSpace.{without_leading_white_space, without_trailing_white_space}
 use Rattle.cg_cpus.specs.Laws.{OneSet}
 use Rattle.cg_cpus.proofs.Ranges.{one_range, ordered}
 

@@ -1,5 +1,4 @@
 pub mod Bits
-pub mod Trimmed
 pub mod Ranges
 pub mod Runs
 pub mod Grammar

@@ -4,23 +4,7 @@ use Rattle.std.specs.List.{All, Any, slice_split, join_with_byte}
 use Rattle.std.specs.Str.Parse.{IsNumeral, digits_value}
 use Rattle.std.specs.Fmt.{decimal}
 use Rattle.cg_maps.specs.FiniteSet.{FiniteSet, has, members, no_members}
-
--- white space: a space, a tab or a newline
-abbrev pub is_white_space : ℕ → Bool
-is_white_space b = (b == 32) || (b == 9) || (b == 10)
-
--- the text behind its leading white space
-abbrev pub without_leading_white_space : List ℕ → List ℕ
-without_leading_white_space [] = []
-without_leading_white_space (b ∷ bs) = if is_white_space b then without_leading_white_space bs else b ∷ bs
-
--- the text before its trailing white space
-abbrev pub without_trailing_white_space : List ℕ → List ℕ
-without_trailing_white_space bs = reverse (without_leading_white_space (reverse bs))
-
--- the text without the white space at both ends
-abbrev pub trimmed : List ℕ → List ℕ
-trimmed text = without_trailing_white_space (without_leading_white_space text)
+use Rattle.cg_digits.specs.WhiteSpace.{trimmed}
 
 -- a CPU number: decimal digits, leading zeros allowed, of a value of at most 1,023
 abbrev pub IsCpuNumber : List ℕ → ℕ → Type 0

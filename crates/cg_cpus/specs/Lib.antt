@@ -3,5 +3,4 @@ pub mod WordsBack
 pub mod CpuList
 pub mod Separated
 pub mod Ascending
-pub mod WhiteSpace
 pub mod Laws

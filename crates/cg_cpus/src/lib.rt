@@ -2,11 +2,7 @@
 #![tactic(auto)]
 
 mod cpu_set;
-mod digits;
 pub mod laws;
 mod list;
-mod white_space;
 
 pub use cpu_set::CpuSet;
-pub use digits::read_digits;
-pub use white_space::{is_white_space, trim};

@@ -4,11 +4,11 @@ ghost use Rattle.std.specs.Result.{IsErrOf};
 ghost use Rattle.cg_maps.specs.FiniteSet.{FiniteSet, has};
 ghost use Rattle.cg_name.specs.declared.refusal.Refusal.TheVariants.{Syntax};
 ghost use Rattle.cg_cpus.specs.Separated.{separated};
-ghost use Rattle.cg_cpus.specs.CpuList.{cpus_text, IsCpuNumber, run_text, SpellsCpus, SpellsRange, SpellsTrimmed, without_leading_white_space, without_trailing_white_space};
+ghost use Rattle.cg_cpus.specs.CpuList.{cpus_text, IsCpuNumber, run_text, SpellsCpus, SpellsRange, SpellsTrimmed};
+ghost use Rattle.cg_digits.specs.WhiteSpace.{without_leading_white_space, without_trailing_white_space};
 
 use crate::cpu_set::CpuSet;
-use crate::digits::read_digits;
-use crate::white_space::trim;
+use cg_digits::{read_digits, trim};
 use cg_name::Refusal;
 use itoa::Buffer;
 use std::alloc::AllocError;

@@ -5,7 +5,7 @@ use Rattle.std.specs.Prelude.{codes}
 use Rattle.std.specs.Str.Parse.{IsNumeral}
 use Rattle.std.proofs.lemmas.Str.Parse.{digit_from_value}
 use mathlib.Core.HLevel.{Σ_prop_path}
-use Rattle.cg_cpus.specs.CpuList.{trimmed}
+use Rattle.cg_digits.specs.WhiteSpace.{trimmed}
 use Rattle.cg_text.specs.Laws.{LimitIsItsNumber, OneLimit}
 use Rattle.cg_text.specs.Reading.{SpellsLimitTrimmed}
 use Rattle.cg_text.specs.declared.limit.Limit.{Limit}

@@ -6,9 +6,8 @@ use Rattle.std.proofs.lemmas.Bool.Decides.{nat_tests}
 use Rattle.std.proofs.lemmas.Fmt.{decimal_is_IsNumeral}
 use Rattle.std.proofs.lemmas.List.{reverse-reverse}
 use Rattle.std.proofs.lemmas.Str.Parse.{digit_from_value, digit_at}
-use Rattle.cg_cpus.specs.WhiteSpace.{starts_white}
-use Rattle.cg_cpus.specs.CpuList.{is_white_space, without_trailing_white_space, trimmed}
-use Rattle.cg_cpus.proofs.Trimmed.{front_end, last_test}
+use Rattle.cg_digits.specs.WhiteSpace.{is_white_space, starts_white, trimmed, without_trailing_white_space}
+use Rattle.cg_digits.proofs.Trimmed.{front_end, last_test}
 use Rattle.cg_text.specs.Laws.{LimitIsSpelled, OneOps, PidIsSpelled}
 use Rattle.cg_text.specs.Reading.{white_space_words, no_ops}
 use Rattle.cg_text.specs.declared.limit.Limit.TheVariants.{Max, UpTo}

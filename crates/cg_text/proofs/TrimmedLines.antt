@@ -1,7 +1,8 @@
 -- A newline behind a text doesn't count.
 use Rattle.std.proofs.Common.{◌≡◌, ℕ, true, false, cond, List, [], ◌∷◌, ◌++◌, reverse, refl, sym, ap, subst, arith}
 use Rattle.std.proofs.lemmas.List.{reverse-append}
-use Rattle.cg_cpus.specs.CpuList.{is_white_space, without_leading_white_space, without_trailing_white_space, trimmed, SpellsTrimmed, cpus_text}
+use Rattle.cg_cpus.specs.CpuList.{SpellsTrimmed, cpus_text}
+use Rattle.cg_digits.specs.WhiteSpace.{is_white_space, without_leading_white_space, without_trailing_white_space, trimmed}
 use Rattle.cg_cpus.proofs.Canonical.{canonical_spells}
 use Rattle.cg_text.specs.Laws.{CpusAreSpelled}
 

@@ -4,7 +4,7 @@ use Rattle.std.specs.List.{slice_split}
 use Rattle.std.specs.Str.Parse.{IsNumeral, digits_value}
 use Rattle.cg_name.specs.Controller.{controller_word}
 use Rattle.cg_name.specs.declared.controller.Controller.{Controller}
-use Rattle.cg_cpus.specs.CpuList.{is_white_space, trimmed}
+use Rattle.cg_digits.specs.WhiteSpace.{is_white_space, trimmed}
 use Rattle.cg_text.specs.Controllers.{with_controller, without_controller, no_controllers}
 use Rattle.cg_text.specs.Apart.{none_apart, apart_turned, apart_moved}
 use Rattle.cg_text.specs.FileText.{flag_word}

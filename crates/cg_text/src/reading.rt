@@ -13,7 +13,7 @@ ghost use Rattle.cg_text.specs.declared.limit.Limit as limit;
 
 use crate::control_ops::ControlOps;
 use crate::limit::Limit;
-use cg_cpus::{is_white_space, read_digits, trim};
+use cg_digits::{is_white_space, read_digits, trim};
 use cg_name::{Controller, Refusal};
 
 /// The greatest PID: the kernel's limit is 4,194,304, which no PID reaches.

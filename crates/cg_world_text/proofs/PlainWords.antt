@@ -9,10 +9,8 @@ use Rattle.std.proofs.lemmas.Bool.Decides.{nat_tests}
 use Rattle.std.proofs.lemmas.Fmt.{decimal_is_IsNumeral}
 use Rattle.std.proofs.lemmas.Str.Parse.{digit_from_value}
 use Rattle.cg_name.specs.Word.{is_special, is_plain_byte, FitsLine}
-use Rattle.cg_cpus.specs.WhiteSpace.{starts_white}
-use Rattle.cg_cpus.specs.CpuList as cpus
-use Rattle.cg_cpus.specs.CpuList.{without_trailing_white_space, trimmed}
-use Rattle.cg_cpus.proofs.Trimmed.{front_end, back_end, last_test}
+use Rattle.cg_digits.specs.WhiteSpace.{is_white_space, starts_white, trimmed, without_trailing_white_space}
+use Rattle.cg_digits.proofs.Trimmed.{front_end, back_end, last_test}
 use Rattle.cg_text.specs.Words.{Word}
 use Rattle.cg_name.proofs.Written.{plain_fits}
 
@@ -48,14 +46,14 @@ decimal_plain n l = let h = decimal_is_IsNumeral n (omega arith) in record { som
 -- ---- what is trimmed
 
 -- a plain byte is no blank of a list
-no_space : (b : ℕ) → is_plain_byte b ≡ true → cpus.is_white_space b ≡ false
+no_space : (b : ℕ) → is_plain_byte b ≡ true → is_white_space b ≡ false
 no_space b e = let l : nat_le 33 b ≡ true = (and_parts (nat_le 33 b) (nat_le b 126) (and_parts (nat_le 33 b && nat_le b 126) (not (is_special b)) e).0).0 in grind (arith, nat_tests)
 
 plain_front : (t : List ℕ) → list_all is_plain_byte t ≡ true → starts_white t ≡ false
 plain_front [] h = refl
 plain_front (b ∷ t) h = no_space b (and_parts (is_plain_byte b) _ h).0
 
-plain_at : (t : List ℕ) (k : ℕ) → list_all is_plain_byte t ≡ true → k < length t → cpus.is_white_space (get_or t k 0) ≡ false
+plain_at : (t : List ℕ) (k : ℕ) → list_all is_plain_byte t ≡ true → k < length t → is_white_space (get_or t k 0) ≡ false
 plain_at [] k h l = absurd (omega arith)
 plain_at (b ∷ t) zero h l = no_space b (and_parts (is_plain_byte b) _ h).0
 plain_at (b ∷ t) (suc k) h l = plain_at t k (and_parts (is_plain_byte b) _ h).1 (omega arith)

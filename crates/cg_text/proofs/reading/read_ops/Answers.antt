@@ -4,7 +4,7 @@ use Rattle.std.specs.List.{slice_split}
 use Rattle.std.proofs.Math.Seq.{drop-length}
 use Rattle.std.proofs.lemmas.Iterator.Splits.{YieldsList-from_slice_split}
 use Rattle.std.proofs.lemmas.Iterator.Consumers.{YieldsList-at}
-use Rattle.cg_cpus.specs.CpuList.{is_white_space}
+use Rattle.cg_digits.specs.WhiteSpace.{is_white_space}
 use Rattle.cg_text.proofs.Operations.{next_left, next_round, no_round, all_taken, turn_on, end_on}
 use Rattle.cg_text.proofs.reading.read_ops.Goals as goal
 

@@ -1,6 +1,6 @@
 use Rattle.std.proofs.Common.{◌↔◌, length, drop, filter}
 use Rattle.std.specs.List.{slice_split}
-use Rattle.cg_cpus.specs.CpuList.{is_white_space}
+use Rattle.cg_digits.specs.WhiteSpace.{is_white_space}
 use Rattle.cg_text.specs.Reading.{SpellsOpsAfter, SpellsOps}
 use Rattle.cg_text.specs.Words.{is_filled}
 use Rattle.cg_text.specs.declared.control_ops.ControlOps.{ControlOps}

@@ -3,8 +3,7 @@ use Rattle.std.proofs.Common.{◌≡◌, ℕ, suc, ◌-◌, ◌<◌, true, false
 use Rattle.std.proofs.lemmas.List.{reverse-append, reverse-reverse}
 use Rattle.std.proofs.lemmas.Bool.Decides.{nat_tests}
 use Rattle.std.proofs.Math.Seq.{take-suc, take-length}
-use Rattle.cg_cpus.specs.CpuList.{is_white_space, without_leading_white_space, without_trailing_white_space}
-use Rattle.cg_cpus.specs.WhiteSpace.{starts_white}
+use Rattle.cg_digits.specs.WhiteSpace.{is_white_space, starts_white, without_leading_white_space, without_trailing_white_space}
 
 pub white_is_ascii : (b : ℕ) → is_white_space b ≡ true → b < 128
 white_is_ascii b e = grind (arith, nat_tests)

@@ -1,7 +1,7 @@
 use Rattle.std.proofs.Common.{◌-◌, length, take, ap, sym, ◌∙◌, arith}
-use Rattle.cg_cpus.specs.CpuList.{without_trailing_white_space}
-use Rattle.cg_cpus.proofs.Trimmed.{back_step}
-use Rattle.cg_cpus.proofs.white_space.trim_back.Goals as goal
+use Rattle.cg_digits.specs.WhiteSpace.{without_trailing_white_space}
+use Rattle.cg_digits.proofs.Trimmed.{back_step}
+use Rattle.cg_digits.proofs.white_space.trim_back.Goals as goal
 
 pub loop-rest-preserved : goal.loop-rest-preserved
 loop-rest-preserved c = record {

@@ -1,7 +1,6 @@
 //! Texts without the white space at their ends: spaces, tabs and newlines, as the kernel strips what it is written.
 ghost use Rattle.std.specs.Prelude.{◌≡◌, reverse};
-ghost use Rattle.cg_cpus.specs.WhiteSpace.{starts_white};
-ghost use Rattle.cg_cpus.specs.CpuList.{is_white_space, trimmed, without_leading_white_space, without_trailing_white_space};
+ghost use Rattle.cg_digits.specs.WhiteSpace.{is_white_space, starts_white, trimmed, without_leading_white_space, without_trailing_white_space};
 
 /// The text without the spaces, tabs and newlines at both ends.
 pub fn trim(text: &str) -> &str

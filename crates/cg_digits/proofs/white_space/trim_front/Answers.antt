@@ -1,8 +1,8 @@
 use Rattle.std.proofs.Common.{◌≡◌, true, sym, ◌∙◌}
 use Rattle.std.proofs.lemmas.Str.{IsCharBoundary-after_ascii}
-use Rattle.cg_cpus.specs.WhiteSpace.{starts_white}
-use Rattle.cg_cpus.proofs.Trimmed.{white_is_ascii, first_is_white, nonempty}
-use Rattle.cg_cpus.proofs.white_space.trim_front.Goals as goal
+use Rattle.cg_digits.specs.WhiteSpace.{starts_white}
+use Rattle.cg_digits.proofs.Trimmed.{white_is_ascii, first_is_white, nonempty}
+use Rattle.cg_digits.proofs.white_space.trim_front.Goals as goal
 
 pub range_from-rest-requires : goal.range_from-rest-requires
 range_from-rest-requires c = λ _.
