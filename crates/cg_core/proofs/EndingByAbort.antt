@@ -8,7 +8,7 @@ use Rattle.cg_model.specs.Tree.{Tree}
 use Rattle.cg_history.specs.SessionMap as sessions
 use Rattle.cg_history.specs.SessionMap.{found}
 use Rattle.cg_locks.specs.Holdings.{Holdings}
-use Rattle.cg_rollback.specs.TakingOff.{AllMayComeOff, AllComeOff}
+use Rattle.cg_txn.specs.TakingOff.{AllMayComeOff, AllComeOff}
 use Rattle.cg_tree.specs.Room.{TreeWithRoom}
 use Rattle.cg_txn.specs.Stack.{Stack}
 use Rattle.cg_core.proofs.Endings.{with_end, state_left, parts_left, answer_is}

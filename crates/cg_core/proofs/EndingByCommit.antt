@@ -12,7 +12,7 @@ use Rattle.cg_core_laws.specs.MachineOf.{machine_of}
 use Rattle.cg_history.specs.SessionMap as sessions
 use Rattle.cg_history.specs.SessionMap.{found}
 use Rattle.cg_locks.specs.Holdings.{Holdings}
-use Rattle.cg_rollback.specs.TakingOff.{AllMayLetGo, AllLetGo}
+use Rattle.cg_txn.specs.TakingOff.{AllMayLetGo, AllLetGo}
 use Rattle.cg_tree.specs.Room.{TreeWithRoom}
 use Rattle.cg_txn.specs.Stack.{Stack}
 use Rattle.cg_core.proofs.AtHistory.{at_history}

@@ -23,7 +23,7 @@ use Rattle.cg_model.specs.Run.{tree_of}
 use Rattle.cg_model.specs.System.{Done}
 use Rattle.cg_model.specs.Tree.{Tree}
 use Rattle.cg_name.specs.declared.refusal.Refusal.TheVariants.{NothingToUndo}
-use Rattle.cg_rollback.specs.TakingOff.{AllComeOff, AllMayComeOff}
+use Rattle.cg_txn.specs.TakingOff.{AllComeOff, AllMayComeOff}
 use Rattle.cg_tree.specs.Room.{TreeWithRoom}
 use Rattle.cg_txn.specs.Stack.{Stack, ends_in_command}
 use Rattle.cg_core.proofs.ReturningParts.{items_are, is_open, unwindable, replied, history_is, tree_after, stays_core}

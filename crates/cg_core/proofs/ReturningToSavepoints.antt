@@ -25,7 +25,7 @@ use Rattle.cg_model.specs.Run.{tree_of}
 use Rattle.cg_model.specs.Tree.{Tree}
 use Rattle.cg_name.specs.Name.{Name, same_name}
 use Rattle.cg_name.specs.declared.refusal.Refusal.TheVariants.{NoSavepoint}
-use Rattle.cg_rollback.specs.TakingOff.{AllComeOff, AllMayComeOff}
+use Rattle.cg_txn.specs.TakingOff.{AllComeOff, AllMayComeOff}
 use Rattle.cg_tree.specs.Room.{TreeWithRoom}
 use Rattle.cg_txn.specs.Laws.{below, commands_above}
 use Rattle.cg_txn.specs.Stack.{Stack, has_savepoint}

@@ -21,7 +21,7 @@ impl Core {
         };
         let number = txn.number();
         let items = txn.len();
-        cg_rollback::abort(&mut self.tree, &mut self.locks, txn);
+        cg_txn::abort(&mut self.tree, &mut self.locks, txn);
         self.history.push(Record {
             session,
             txn: number,
@@ -44,7 +44,7 @@ impl Core {
         let number = txn.number();
         let items = txn.len();
         let commit_number = self.history.committed() + 1;
-        cg_rollback::commit(&mut self.tree, &mut self.locks, txn);
+        cg_txn::commit(&mut self.tree, &mut self.locks, txn);
         self.history.push(Record {
             session,
             txn: number,

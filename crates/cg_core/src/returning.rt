@@ -20,7 +20,7 @@ impl Core {
             return Answer::Refused(Refusal::NoTransaction);
         };
         let number = txn.number();
-        if let Err(refusal) = cg_rollback::undo(&mut self.tree, &mut self.locks, txn) {
+        if let Err(refusal) = cg_txn::undo(&mut self.tree, &mut self.locks, txn) {
             return Answer::Refused(refusal);
         }
         self.history.push(Record {
@@ -43,7 +43,7 @@ impl Core {
         };
         let number = txn.number();
         let before = txn.len();
-        match cg_rollback::back(&mut self.tree, &mut self.locks, txn, name) {
+        match cg_txn::back(&mut self.tree, &mut self.locks, txn, name) {
             Ok(count) => {
                 let count = count as u32;
                 let left = txn.len();

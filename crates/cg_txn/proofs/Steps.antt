@@ -1,54 +1,54 @@
--- Steps back to a savepoint.
-use Rattle.std.proofs.Common.{◌≡◌, Bool, true, false, cond, ◌||◌, List, [], ◌∷◌, Option, Some, None, is_some, refl, sym, ap, ◌∙◌}
-use Rattle.std.proofs.lemmas.Bool.{false≢true}
-use Rattle.cg_name.specs.Name.{Name, same_name}
-use Rattle.cg_txn.specs.Laws.{LastStep, StepTakes, below, commands_above}
-use Rattle.cg_txn.specs.Stack.{StackItem, Command, Savepoint, has_savepoint, next_back}
+-- Steps taken one after another.
+use Rattle.std.proofs.Common.{◌≡◌, ℕ, List, [], ◌∷◌, refl, sym, subst, ap, ◌∙◌}
+use Rattle.cg_model.specs.Change.{Change}
+use Rattle.cg_model.specs.Footprint.{Mark}
+use Rattle.cg_tree.specs.Room.{TreeWithRoom}
+use Rattle.cg_locks.specs.Holdings.{Holdings}
+use Rattle.cg_txn.specs.Stack.{StackItem, Command, Savepoint, commands}
+use Rattle.cg_txn.specs.LettingGo.{IsLetGo}
+use Rattle.cg_txn.specs.Steps.{Need, Step, MayEach, Each}
 
-abbrev Step : Type 0
-Step = Option StackItem × List StackItem
+module _ (N : Need) (S : Step) where
+  -- savepoints count for nothing
+  pub may_commands : (l : List StackItem) (R : TreeWithRoom) (H : Holdings) → MayEach N S l R H → MayEach N S (commands l) R H
+  may_commands [] R H m = m
+  may_commands (Command k d f ∷ l) R H m = (m.0, λ R' H' s. may_commands l R' H' (m.1 R' H' s))
+  may_commands (Savepoint n ∷ l) R H m = may_commands l R H m
 
--- what is inside
-abbrev taken_or : StackItem → Option StackItem → StackItem
-taken_or d None = d
-taken_or d (Some c) = c
+  pub each_command : (l : List StackItem) (R : TreeWithRoom) (H : Holdings) (R' : TreeWithRoom) (H' : Holdings) → Each S (commands l) R H R' H' → Each S l R H R' H'
+  each_command [] R H R' H' e = e
+  each_command (Command k d f ∷ l) R H R' H' e = (e.0, e.1, e.2, each_command l e.0 e.1 R' H' e.3)
+  each_command (Savepoint n ∷ l) R H R' H' e = each_command l R H R' H' e
 
-same_taken : (c d : StackItem) (l m : List StackItem) → ◌≡◌ {A = Step} (Some c, l) (Some d, m) → c ≡ d
-same_taken c d l m e = ap (λ (s : Step). taken_or c s.0) e
+  -- after some of the steps of all: those that are left may be taken, and lead where all lead
+  pub record IsOnTheWay (all : List StackItem) (O : TreeWithRoom) (G : Holdings) (l : List StackItem) (R : TreeWithRoom) (H : Holdings) : Type 0 where
+    pub may : MayEach N S l R H
+    pub leads : (R' : TreeWithRoom) (H' : Holdings) → Each S l R H R' H' → Each S all O G R' H'
 
-same_left : (r q : Option StackItem) (l m : List StackItem) → ◌≡◌ {A = Step} (r, l) (q, m) → l ≡ m
-same_left r q l m e = ap (λ (s : Step). s.1) e
+  pub starts : (l : List StackItem) (R : TreeWithRoom) (H : Holdings) → MayEach N S l R H → IsOnTheWay l R H l R H
+  starts l R H m = record { may = m; leads = λ R' H' e. e }
 
--- a step takes a command or none
-not_both : (c : StackItem) (l m : List StackItem) → ◌≡◌ {A = Step} (None, l) (Some c, m) → false ≡ true
-not_both c l m e = ap (λ (s : Step). is_some s.0) e
+  -- by the commands alone
+  pub sets_out : (l : List StackItem) (R : TreeWithRoom) (H : Holdings) → MayEach N S l R H → IsOnTheWay l R H (commands l) R H
+  sets_out l R H m = record { may = may_commands l R H m; leads = each_command l R H }
 
--- ---- a step that takes a command
+module _ {N : Need} {S : Step} {all : List StackItem} {O : TreeWithRoom} {G : Holdings} {l : List StackItem} {R : TreeWithRoom} {H : Holdings} (w : IsOnTheWay N S all O G l R H) where
+  -- the first step may be taken, and is
+  module _ (k : ℕ) (d : List Change) (f : List Mark) (rest : List StackItem) (is : l ≡ Command k d f ∷ rest) where
+    pub may_step : N d f R H
+    may_step = (subst (λ x. MayEach N S x R H) is w.may).0
 
-abbrev Takes : Name → List StackItem → List StackItem → StackItem → Type 0
-Takes n l m c = (commands_above n l ≡ c ∷ commands_above n m) × (below n m ≡ below n l) × (has_savepoint n m ≡ true)
+    pub steps_on : (A : TreeWithRoom) (B : Holdings) → S d f R H A B → IsOnTheWay N S all O G rest A B
+    steps_on A B s = record {
+      may = (subst (λ x. MayEach N S x R H) is w.may).1 A B s;
+      leads = λ R' H' e. w.leads R' H' (subst (λ x. Each S x R H R' H') (sym is) (A, B, s, e));
+    }
 
-past : (b : Bool) (n : Name) (l m : List StackItem) (c : StackItem) → b || has_savepoint n l ≡ true → cond b (None, l) (next_back n l) ≡ (Some c, m) → (has_savepoint n l ≡ true → next_back n l ≡ (Some c, m) → Takes n l m c)
-    → (cond b [] (commands_above n l) ≡ c ∷ commands_above n m) × (below n m ≡ cond b l (below n l)) × (has_savepoint n m ≡ true)
-past true n l m c there to rest = absurd (false≢true (not_both c l m to))
-past false n l m c there to rest = rest there to
+  pub arrives : l ≡ [] → Each S all O G R H
+  arrives none = w.leads R H (subst (λ x. Each S x R H R H) (sym none) (refl, refl))
 
-pub step_takes : StepTakes
-step_takes n [] m c there to = absurd (false≢true there)
-step_takes n (Command k d f ∷ l) m c there to =
-    let left : l ≡ m = same_left (Some (Command k d f)) (Some c) l m to in
-    let taken : Command k d f ≡ c = same_taken (Command k d f) c l m to in
-    (λ i. taken i ∷ commands_above n (left i), sym (ap (below n) left), sym (ap (has_savepoint n) left) ∙ there)
-step_takes n (Savepoint k ∷ l) m c there to = past (same_name k n) n l m c there to (step_takes n l m c)
-
--- ---- a step that takes none
-
-ends : (b : Bool) (n : Name) (l m : List StackItem) → b || has_savepoint n l ≡ true → cond b (None, l) (next_back n l) ≡ (None, m) → (has_savepoint n l ≡ true → next_back n l ≡ (None, m) → (commands_above n l ≡ []) × (m ≡ below n l))
-    → (cond b [] (commands_above n l) ≡ []) × (m ≡ cond b l (below n l))
-ends true n l m there to rest = (refl, sym (same_left None None l m to))
-ends false n l m there to rest = rest there to
-
-pub last_step : LastStep
-last_step n [] m there to = absurd (false≢true there)
-last_step n (Command k d f ∷ l) m there to = absurd (false≢true (not_both (Command k d f) m l (sym to)))
-last_step n (Savepoint k ∷ l) m there to = ends (same_name k n) n l m there to (last_step n l m)
+-- letting go changes no key
+pub keys_kept : (t : ℕ) (l : List StackItem) (R : TreeWithRoom) (H : Holdings) (R' : TreeWithRoom) (H' : Holdings) → Each (λ d f. IsLetGo t f) l R H R' H' → R'.tree ≡ R.tree
+keys_kept t [] R H R' H' e = ap (λ r. r.tree) e.0
+keys_kept t (Command k d f ∷ l) R H R' H' e = keys_kept t l e.0 e.1 R' H' e.3 ∙ e.2.tree
+keys_kept t (Savepoint n ∷ l) R H R' H' e = keys_kept t l R H R' H' e

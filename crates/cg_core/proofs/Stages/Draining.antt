@@ -12,8 +12,8 @@ use Rattle.cg_core_laws.specs.LettingGo.{LetsGo, OldestLetsGo}
 use Rattle.cg_locks.specs.Holdings.{Holdings}
 use Rattle.cg_tree.specs.Room.{TreeWithRoom}
 use Rattle.cg_core.specs.Stage.{Holds}
-use Rattle.cg_rollback.specs.TakingOff.{AllMayLetGo, AllLetGo}
-use Rattle.cg_rollback.specs.LettingGo.{MayLetGo, IsLetGo}
+use Rattle.cg_txn.specs.TakingOff.{AllMayLetGo, AllLetGo}
+use Rattle.cg_txn.specs.LettingGo.{MayLetGo, IsLetGo}
 use Rattle.cg_core.proofs.Stages.Alike.{same_stacks, told_alike}
 use Rattle.cg_core.proofs.Stages.GoingBack.{oldest_may_let_go, held_after_draining, oldest_savepoint_off}
 use Rattle.cg_core.specs.Parts.{stack_item}

@@ -21,8 +21,8 @@ use Rattle.cg_locks.specs.Holdings.{Holdings, holdings}
 use Rattle.cg_locks.specs.Marks.{times}
 use Rattle.cg_tree.specs.Room.{TreeWithRoom, has_entry}
 use Rattle.cg_core.specs.Stage.{times_on, Holds}
-use Rattle.cg_rollback.specs.TakingOff.{undone_in, MayComeOff}
-use Rattle.cg_rollback.specs.LettingGo.{MayLetGo, IsLetGo}
+use Rattle.cg_txn.specs.TakingOff.{undone_in, MayComeOff}
+use Rattle.cg_txn.specs.LettingGo.{MayLetGo, IsLetGo}
 use Rattle.cg_core.proofs.Stages.Alike.{alike}
 use Rattle.cg_core.proofs.Stages.Marked.{times_on-append}
 use Rattle.cg_core.proofs.Stages.LettingGo.{BeforeLettingGo, may_let_go, held_without}

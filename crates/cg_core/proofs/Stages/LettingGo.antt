@@ -15,7 +15,7 @@ use Rattle.cg_locks.specs.Holdings.{Holdings, holdings}
 use Rattle.cg_locks.specs.Marks.{times}
 use Rattle.cg_tree.specs.Room.{TreeWithRoom, has_entry, MaySweepIfDead}
 use Rattle.cg_core.specs.Stage.{times_on, Holds}
-use Rattle.cg_rollback.specs.LettingGo.{goes, MayLetGo, IsLetGo}
+use Rattle.cg_txn.specs.LettingGo.{goes, MayLetGo, IsLetGo}
 use Rattle.cg_core.proofs.Stages.Marked.{none_where_unmarked}
 
 -- before the item x of t lets go, with the tree as it is after it: l are the items that are left on t's stack, E the entries

@@ -12,7 +12,7 @@ use Rattle.cg_core_laws.specs.LettingGo.{footprint_of}
 use Rattle.cg_locks.specs.Holdings.{Holdings}
 use Rattle.cg_tree.specs.Room.{TreeWithRoom}
 use Rattle.cg_txn.specs.Stack.{StackItem, Command, Savepoint, commands}
-use Rattle.cg_rollback.specs.Steps.{Need, Step, MayEach, Each}
+use Rattle.cg_txn.specs.Steps.{Need, Step, MayEach, Each}
 use Rattle.cg_core.specs.Parts.{stack_item}
 
 -- what holds before the items that are left

@@ -21,7 +21,7 @@ use Rattle.cg_locks.specs.Holdings.{Holdings}
 use Rattle.cg_tree.specs.Room.{TreeWithRoom}
 use Rattle.cg_core.specs.Stage.{Holds}
 use Rattle.cg_txn.specs.Laws.{commands_above}
-use Rattle.cg_rollback.specs.TakingOff.{MayComeOff, ComesOff, AllMayComeOff, AllComeOff}
+use Rattle.cg_txn.specs.TakingOff.{MayComeOff, ComesOff, AllMayComeOff, AllComeOff}
 use Rattle.cg_core.proofs.Stages.Alike.{same_stacks, told_alike, savepoint_off}
 use Rattle.cg_core.proofs.Stages.GoingBack.{may_come_off, held_after_coming_off}
 use Rattle.cg_core.proofs.Stages.Items.{undone_all, above, is_savepoint, parted}

@@ -1,4 +1,4 @@
-use Rattle.cg_txn.proofs.Steps.{step_takes}
+use Rattle.cg_txn.proofs.StepsBack.{step_takes}
 use Rattle.cg_txn.proofs.laws.a_step_back_takes_the_newest.Goals as goal
 
 pub returns : goal.returns

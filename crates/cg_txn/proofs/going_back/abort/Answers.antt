@@ -1,9 +1,9 @@
 -- Each turn takes the newest command off that stands.
 use Rattle.std.proofs.Common.{sym, subst}
-use Rattle.cg_rollback.specs.TakingOff.{AllMayComeOff, ComesOff, MayComeOff}
-use Rattle.cg_rollback.proofs.Steps.{sets_out, steps_on}
+use Rattle.cg_txn.specs.TakingOff.{AllMayComeOff, ComesOff, MayComeOff}
+use Rattle.cg_txn.proofs.Steps.{sets_out, steps_on}
 use Rattle.cg_txn.specs.Stack.{commands}
-use Rattle.cg_rollback.proofs.going_back.abort.Goals as goal
+use Rattle.cg_txn.proofs.going_back.abort.Goals as goal
 
 pub loop-entry-init : goal.loop-entry-init
 loop-entry-init c =

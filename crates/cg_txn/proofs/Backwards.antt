@@ -8,7 +8,7 @@ use Rattle.cg_txn.specs.declared.entry.Entry.{Entry}
 use Rattle.cg_txn.specs.Items.{command_item, taken_item}
 use Rattle.cg_txn.specs.Laws.{below, commands_above}
 use Rattle.cg_txn.specs.Stack.{StackItem, Command, Savepoint, commands, has_savepoint, next_back}
-use Rattle.cg_txn.proofs.Steps.{last_step, step_takes}
+use Rattle.cg_txn.proofs.StepsBack.{last_step, step_takes}
 
 -- no more commands come off than items stand
 pub few_above : (n : Name) (l : List StackItem) → length (commands_above n l) ≤ length l

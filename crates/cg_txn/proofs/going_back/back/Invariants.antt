@@ -1,11 +1,11 @@
 -- The commands that still stand above the savepoint come off to where all do. Where there is none of this name, nothing has
 -- happened.
 use Rattle.std.proofs.Common.{◌≡◌, ◌+◌, true, false, length}
-use Rattle.cg_rollback.specs.TakingOff.{ComesOff, MayComeOff}
-use Rattle.cg_rollback.proofs.Steps.{IsOnTheWay}
+use Rattle.cg_txn.specs.TakingOff.{ComesOff, MayComeOff}
+use Rattle.cg_txn.proofs.Steps.{IsOnTheWay}
 use Rattle.cg_txn.specs.Laws.{below, commands_above}
 use Rattle.cg_txn.specs.Stack.{has_savepoint}
-use Rattle.cg_rollback.proofs.going_back.back.Given as goal
+use Rattle.cg_txn.proofs.going_back.back.Given as goal
 
 abbrev pub invariant-loop-entry : goal.invariant-loop-entry
 invariant-loop-entry l = record {

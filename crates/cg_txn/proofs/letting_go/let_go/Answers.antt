@@ -2,8 +2,8 @@
 use Rattle.std.proofs.Common.{◌≡◌, sym}
 use Rattle.cg_model.specs.Footprint.{X}
 use Rattle.cg_locks.specs.Holdings.{holdings}
-use Rattle.cg_rollback.proofs.Letting.{held_on, let_go_there, may_sweep, not_held}
-use Rattle.cg_rollback.proofs.letting_go.let_go.Goals as goal
+use Rattle.cg_txn.proofs.Letting.{held_on, let_go_there, may_sweep, not_held}
+use Rattle.cg_txn.proofs.letting_go.let_go.Goals as goal
 
 pub sweep-requires : goal.sweep-requires
 sweep-requires c =

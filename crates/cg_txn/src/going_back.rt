@@ -1,15 +1,15 @@
 //! Going back, by one command, to a savepoint or to the start, and the end of a transaction.
 ghost use Rattle.std.specs.Prelude.{◌≡◌, ◌↔◌, IfErr, IfOk, OnErr, OnOk, drop, false, length, reverse, take, true};
 ghost use Rattle.std.specs.Result.{IsErrOf};
-ghost use Rattle.cg_rollback.specs.TakingOff.{AllComeOff, AllLetGo, AllMayComeOff, AllMayLetGo};
 ghost use Rattle.cg_txn.specs.Laws.{below, commands_above};
 ghost use Rattle.cg_txn.specs.Stack.{ends_in_command, has_savepoint};
+ghost use Rattle.cg_txn.specs.TakingOff.{AllComeOff, AllLetGo, AllMayComeOff, AllMayLetGo};
 
 use crate::letting_go::{keep, take_off};
+use crate::txn::Txn;
 use cg_locks::LockTable;
 use cg_name::{Refusal, SaveName};
 use cg_tree::Tree;
-use cg_txn::Txn;
 
 /// Takes the newest command of the transaction off; `NothingToUndo` where the newest item on its stack is a savepoint or
 /// nothing stands, and all is then as it was. Takes no memory.

@@ -6,7 +6,7 @@ use Rattle.cg_model.specs.Footprint.{Mark}
 use Rattle.cg_tree.specs.Room.{TreeWithRoom}
 use Rattle.cg_locks.specs.Holdings.{Holdings}
 use Rattle.cg_txn.specs.Stack.{StackItem, Command, Savepoint}
-use Rattle.cg_rollback.specs.Steps.{Need, Step, MayEach, Each}
+use Rattle.cg_txn.specs.Steps.{Need, Step, MayEach, Each}
 
 module _ {S : Step} (I : List StackItem → TreeWithRoom → Holdings → Type 0)
     (passed : (n : Name) (l : List StackItem) (R : TreeWithRoom) (H : Holdings) → I (Savepoint n ∷ l) R H → I l R H)

@@ -1,11 +1,11 @@
 //! What one command holds is let go: at the end of its transaction, or as it is taken off.
-ghost use Rattle.cg_rollback.specs.LettingGo.{IsLetGo, MayLetGo};
-ghost use Rattle.cg_rollback.specs.TakingOff.{ComesOff, MayComeOff};
+ghost use Rattle.cg_txn.specs.LettingGo.{IsLetGo, MayLetGo};
+ghost use Rattle.cg_txn.specs.TakingOff.{ComesOff, MayComeOff};
 
+use crate::entry::Entry;
 use cg_locks::{Footprint, LockTable};
 use cg_name::TxnNumber;
 use cg_tree::Tree;
-use cg_txn::Entry;
 
 // Lets go of the footprint of one command of the transaction, and of the dead entry that it kept, where no other command of
 // the transaction keeps it.

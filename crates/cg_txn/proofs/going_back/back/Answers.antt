@@ -1,11 +1,11 @@
 -- Each turn takes the newest command off that stands above the savepoint.
 use Rattle.std.proofs.Common.{◌≡◌, false, length, refl, sym, subst, ap, ◌∙◌, arith}
 use Rattle.std.proofs.lemmas.Bool.{false≢true}
-use Rattle.cg_rollback.specs.TakingOff.{AllComeOff, AllMayComeOff, ComesOff, MayComeOff}
-use Rattle.cg_rollback.proofs.Backwards.{all_off, few_above, one_off}
-use Rattle.cg_rollback.proofs.Steps.{arrives, may_step, starts, steps_on}
+use Rattle.cg_txn.specs.TakingOff.{AllComeOff, AllMayComeOff, ComesOff, MayComeOff}
+use Rattle.cg_txn.proofs.Backwards.{all_off, few_above, one_off}
+use Rattle.cg_txn.proofs.Steps.{arrives, may_step, starts, steps_on}
 use Rattle.cg_txn.specs.Laws.{below, commands_above}
-use Rattle.cg_rollback.proofs.going_back.back.Goals as goal
+use Rattle.cg_txn.proofs.going_back.back.Goals as goal
 
 pub loop-entry-init : goal.loop-entry-init
 loop-entry-init c =

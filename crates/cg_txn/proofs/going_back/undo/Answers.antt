@@ -1,9 +1,9 @@
 -- The newest item is that command.
 use Rattle.std.proofs.Common.{◌≡◌, ◌∷◌, refl, sym, subst, ap, take}
-use Rattle.cg_rollback.specs.Steps.{Each}
-use Rattle.cg_rollback.specs.TakingOff.{ComesOff}
+use Rattle.cg_txn.specs.Steps.{Each}
+use Rattle.cg_txn.specs.TakingOff.{ComesOff}
 use Rattle.cg_txn.specs.Items.{command_item}
-use Rattle.cg_rollback.proofs.going_back.undo.Goals as goal
+use Rattle.cg_txn.proofs.going_back.undo.Goals as goal
 
 pub returns-clause-off : goal.returns-clause-off
 returns-clause-off c =

@@ -6,8 +6,8 @@ use Rattle.cg_model.specs.Room.{RoomFor}
 use Rattle.cg_tree.specs.Room.{TreeWithRoom, has_entry}
 use Rattle.cg_locks.specs.Holdings.{Holdings}
 use Rattle.cg_txn.specs.Stack.{StackItem}
-use Rattle.cg_rollback.specs.LettingGo.{MayLetGo, IsLetGo}
-use Rattle.cg_rollback.specs.Steps.{MayEach, Each}
+use Rattle.cg_txn.specs.LettingGo.{MayLetGo, IsLetGo}
+use Rattle.cg_txn.specs.Steps.{MayEach, Each}
 
 -- every key that the command changed is put back; the entries stay
 abbrev pub undone_in : List Change → TreeWithRoom → TreeWithRoom

@@ -1,11 +1,11 @@
 -- Each turn lets go of the oldest command that is held.
 use Rattle.std.proofs.Common.{length, refl, reverse, sym, subst, ap, arith}
-use Rattle.cg_rollback.specs.LettingGo.{IsLetGo, MayLetGo}
-use Rattle.cg_rollback.specs.TakingOff.{AllLetGo, AllMayLetGo}
-use Rattle.cg_rollback.proofs.Backwards.{next_oldest, none_oldest}
-use Rattle.cg_rollback.proofs.Steps.{arrives, keys_kept, may_step, sets_out, steps_on}
+use Rattle.cg_txn.specs.LettingGo.{IsLetGo, MayLetGo}
+use Rattle.cg_txn.specs.TakingOff.{AllLetGo, AllMayLetGo}
+use Rattle.cg_txn.proofs.Backwards.{next_oldest, none_oldest}
+use Rattle.cg_txn.proofs.Steps.{arrives, keys_kept, may_step, sets_out, steps_on}
 use Rattle.cg_txn.specs.Stack.{commands}
-use Rattle.cg_rollback.proofs.going_back.commit.Goals as goal
+use Rattle.cg_txn.proofs.going_back.commit.Goals as goal
 
 pub loop-entry-init : goal.loop-entry-init
 loop-entry-init c =

@@ -12,7 +12,7 @@ use Rattle.cg_model_laws.proofs.Paths.{same_path-itself, same_path-is}
 use Rattle.cg_tree.specs.Room.{TreeWithRoom, has_entry, without_dead, MaySweepIfDead}
 use Rattle.cg_locks.specs.Holdings.{Holdings, holdings}
 use Rattle.cg_locks.specs.Marks.{times}
-use Rattle.cg_rollback.specs.LettingGo.{goes, IsReleased, MayLetGo, IsLetGo}
+use Rattle.cg_txn.specs.LettingGo.{goes, IsReleased, MayLetGo, IsLetGo}
 
 and_true : (b : Bool) → b ≡ b && true
 and_true true = refl

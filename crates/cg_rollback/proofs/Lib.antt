@@ -1,4 +1,0 @@
-mod Backwards
-pub mod Keeping
-mod Letting
-pub mod Steps

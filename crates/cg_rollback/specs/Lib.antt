@@ -1,3 +1,0 @@
-pub mod LettingGo
-pub mod Steps
-pub mod TakingOff
