@@ -10,8 +10,8 @@ use Rattle.std.specs.Option.{option_copied}
 use Rattle.std.specs.List.{AllByRecursion, count_by, sum_by}
 use Rattle.cg_history.specs.SessionMap.{found, IsOnceEach}
 use Rattle.cg_desk.specs.Audit.{AreNumbered}
-use Rattle.cg_desk.specs.Call.{Call, SessionState}
-use Rattle.cg_desk.specs.Rests.{Rests, rests_of}
+use Rattle.cg_log.specs.Call.{Call, SessionState}
+use Rattle.cg_log.specs.Rests.{Rests, rests_of}
 
 -- what is added up over sessions is added up over their logs
 sum_by-pairs : (f : ℕ × List Call → ℕ) (ss : List SessionState) → sum_by f (map (λ s. (s.number, s.log)) ss) ≡ sum_by (λ s. f (s.number, s.log)) ss
@@ -129,11 +129,6 @@ next_rests ss i d lt =
     ap rests_of (ap (λ k. take k ss) (add-one i) ∙ take-suc ss i d lt)
     ∙ ap reverse (map-append (λ s. (s.number, s.log)) (take i ss) (get_or ss i d ∷ []))
     ∙ reverse-append (map (λ s. (s.number, s.log)) (take i ss)) (((get_or ss i d).number, (get_or ss i d).log) ∷ [])
-
--- no item
-pub empty : {A : Type 0} (xs : List A) → length xs ≡ 0 → xs ≡ []
-empty [] e = refl
-empty (x ∷ xs) e = absurd (omega (arith, e))
 
 pub is_some-copied : {A : Type 0} (r : Option (Bor A)) → is_some (option_copied r) ≡ is_some r
 is_some-copied None = refl

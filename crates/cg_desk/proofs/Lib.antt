@@ -1,4 +1,3 @@
 mod Counting
-mod Comparing
 mod NeverLost
 mod Replied

@@ -4,7 +4,7 @@ use Rattle.std.specs.List.{AllByRecursion, count_by, sum_by}
 use Rattle.cg_model.specs.Cgroups.{cgroups}
 use Rattle.cg_model.specs.History.{History}
 use Rattle.cg_model.specs.Opens.{opens}
-use Rattle.cg_desk.specs.Call.{SessionState, calls_of}
+use Rattle.cg_log.specs.Call.{SessionState, calls_of}
 
 -- the sessions have the numbers from 1 to `handed`, each once
 abbrev pub AreNumbered : ℕ → List SessionState → Type 0

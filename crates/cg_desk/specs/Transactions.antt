@@ -1,18 +1,17 @@
 -- Transactions, and the sessions that they borrow.
-use Rattle.std.specs.Prelude.{◌≡◌, ℕ, map}
+use Rattle.std.specs.Prelude.{◌≡◌, ℕ}
 use Rattle.std.specs.Borrow.{MutBor}
-use Rattle.cg_desk.specs.Call.{SessionState}
-use Rattle.cg_desk.specs.CallOf.{call_of}
-use Rattle.cg_desk.specs.declared.log.Log.{Log}
+use Rattle.cg_log.specs.Call.{SessionState}
+use Rattle.cg_log.specs.LogState.{LogState}
 use Rattle.cg_desk.specs.declared.transaction.Transaction as declared
 
 -- a transaction, which holds the log of its session
 abbrev pub Transaction : Type 0
-Transaction = declared.Transaction Log
+Transaction = declared.Transaction LogState
 
 -- its session, as it is: the number behind the borrow, and the log that the transaction holds
 abbrev pub session_of : Transaction → SessionState
-session_of t = record { number = t.session.now.number; log = map call_of t.log.calls.items }
+session_of t = record { number = t.session.now.number; log = t.log.calls }
 
 -- its number
 abbrev pub txn_number : Transaction → ℕ

@@ -1,19 +1,16 @@
 //! Whether sessions and a history agree.
-ghost use Rattle.std.specs.Prelude.{◌≡◌, ◌≢◌, ◌≤◌, ◌↔◌, ◌⊎◌, [], ◌∷◌, ℕ, List, Err, Some, IfErr, IfOk, IsSome, IsTrue, OnOk, length};
-ghost use Rattle.std.specs.Bool.{OnFalse, OnTrue};
+ghost use Rattle.std.specs.Prelude.{◌≡◌, ◌≤◌, ◌↔◌, ◌⊎◌, [], ℕ, Err, IfErr, IfOk, IsSome, IsTrue, OnOk, length};
 ghost use Rattle.std.specs.List.{sum_by};
 ghost use Rattle.cg_desk.specs.Audit.{AreNumbered, IsAudited};
-ghost use Rattle.cg_desk.specs.Call as model;
-ghost use Rattle.cg_desk.specs.Rests.{rests_of, total, AreCallsOf};
-ghost use Rattle.cg_history.specs.Meaning.{history_of, record_of};
-ghost use Rattle.cg_history.specs.SessionMap.{found, with_value, IsOnceEach};
+ghost use Rattle.cg_history.specs.SessionMap.{found, IsOnceEach};
+ghost use Rattle.cg_log.specs.Rests.{rests_of};
 ghost use Rattle.cg_model.specs.Opens.{opens};
 ghost use Rattle.cg_name.specs.declared.refusal.Refusal.TheVariants as refusals;
 
-use crate::rest::Rest;
 use crate::session::Session;
-use cg_core::{Core, Record, SessionId};
+use cg_core::{Core, SessionId};
 use cg_history::SessionMap;
+use cg_log::{Rest, all_are_in};
 use cg_name::Refusal;
 use std::alloc::Global;
 
@@ -97,29 +94,4 @@ fn has_all(rests: &SessionMap<Rest>, handed: u32) -> bool
         }
     }
     true
-}
-
-// Whether each log has just the calls of its session in these records, which are as many as the calls of all logs.
-fn all_are_in(rests: &mut SessionMap<Rest>, records: &[Record]) -> bool
-    requires once { IsOnceEach rests.old }
-    requires as_many { total rests.old ≡ length records.now }
-    ensures { IsTrue result ↔ AreCallsOf (history_of records.now) rests.old }
-{
-    for entry in records {
-        if !take_call(rests, entry) {
-            return false;
-        }
-    }
-    true
-}
-
-// Takes the next call of its session off, where that is the one recorded here; tells whether it is.
-fn take_call(rests: &mut SessionMap<Rest>, entry: &Record) -> bool
-    ensures taken { OnTrue result ((rest : List model.Call) × (found entry.now.session.0 rests.old ≡ Some (model.call_in (record_of entry.now) ∷ rest)) × (rests.new ≡ with_value entry.now.session.0 rest rests.old)) }
-    ensures other { OnFalse result ((rest : List model.Call) → found entry.now.session.0 rests.old ≢ Some (model.call_in (record_of entry.now) ∷ rest)) }
-{
-    match rests.get_mut(entry.session) {
-        Some(rest) => rest.take(entry),
-        None => false,
-    }
 }

@@ -2,19 +2,15 @@
 #![tactic(auto)]
 
 mod auditing;
-mod call;
 mod desk;
-mod log;
-mod rest;
-mod same;
 mod session;
 mod stepping;
 mod transaction;
 
 pub use auditing::audit;
-pub use call::Call;
 pub use cg_command::Command;
 pub use cg_core::{Answer, Core, Record, Request, SessionId};
+pub use cg_log::Call;
 pub use cg_name::{Refusal, SaveName, TxnNumber};
 pub use cg_world::World;
 pub use desk::{CloseFault, Desk};

@@ -1,16 +1,15 @@
 //! Sessions.
 ghost use Rattle.std.specs.Prelude.{◌≡◌, ◌⊎◌, IfErr, IfOk, map};
-ghost use Rattle.cg_desk.specs.Call.{after_call};
-ghost use Rattle.cg_desk.specs.CallOf.{call_of};
 ghost use Rattle.cg_desk.specs.Transactions.{session_of, txn_number};
+ghost use Rattle.cg_log.specs.Call.{after_call};
+ghost use Rattle.cg_log.specs.CallOf.{call_of};
 ghost use Rattle.cg_model.specs.History as model;
 ghost use Rattle.cg_name.specs.declared.refusal.Refusal.TheVariants as refusals;
 
-use crate::call::Call;
 use crate::desk::Desk;
-use crate::log::Log;
 use crate::transaction::Transaction;
 use cg_core::{Answer, Request, SessionId};
+use cg_log::{Call, Log};
 use cg_name::{Refusal, TxnNumber};
 use std::alloc::Global;
 use std::marker::Model;
@@ -27,9 +26,9 @@ pub struct Session {
 
 impl Model for Session {
     ghost use Rattle.std.specs.Prelude.{map};
-    ghost use Rattle.cg_desk.specs.Call.{SessionState};
-    ghost use Rattle.cg_desk.specs.CallCode.{session_code};
-    ghost use Rattle.cg_desk.specs.CallOf.{call_of};
+    ghost use Rattle.cg_log.specs.Call.{SessionState};
+    ghost use Rattle.cg_log.specs.CallCode.{session_code};
+    ghost use Rattle.cg_log.specs.CallOf.{call_of};
 
     ghost Value = { SessionState };
 

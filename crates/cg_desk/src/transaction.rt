@@ -2,18 +2,18 @@
 ghost use Rattle.std.specs.Prelude.{◌≡◌, ◌≤◌, false, true};
 ghost use Rattle.cg_command.specs.Meaning.{command_of};
 ghost use Rattle.cg_core.specs.Answers.{is_memory, takes_memory};
-ghost use Rattle.cg_desk.specs.Call.{after_call};
 ghost use Rattle.cg_desk.specs.Replies.{MayAnswer};
 ghost use Rattle.cg_desk.specs.Transactions.{session_left, session_of, txn_number, IsSame};
 ghost use Rattle.cg_history.specs.Meaning.{answer_of, request_of};
+ghost use Rattle.cg_log.specs.Call.{after_call};
 ghost use Rattle.cg_model.specs.History as model;
 
 use crate::desk::Desk;
-use crate::log::Log;
 use crate::session::Session;
 use crate::stepping::step_for_pair;
 use cg_command::Command;
 use cg_core::{Answer, Request};
+use cg_log::Log;
 use cg_name::{Refusal, SaveName, TxnNumber};
 use std::alloc::Global;
 use std::sync::Wait;

@@ -2,9 +2,9 @@
 use Rattle.std.proofs.Common.{◌≡◌, ◌∙◌, length, sym, ap, subst₂}
 use Rattle.std.proofs.lemmas.Bool.{false≢true}
 use Rattle.cg_history.proofs.Records.{same_length}
-use Rattle.cg_desk.specs.Call.{calls_of}
-use Rattle.cg_desk.specs.Rests.{total, AreCallsOf}
-use Rattle.cg_desk.proofs.Comparing.{all_rests, all_sessions}
+use Rattle.cg_log.specs.Call.{calls_of}
+use Rattle.cg_log.specs.Rests.{total, AreCallsOf}
+use Rattle.cg_log.proofs.Comparing.{all_rests, all_sessions}
 use Rattle.cg_desk.proofs.Counting.{sum_by-rests}
 use Rattle.cg_desk.proofs.auditing.audit.Goals as goal
 

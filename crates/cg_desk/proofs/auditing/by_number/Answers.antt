@@ -4,7 +4,7 @@ use Rattle.std.proofs.lemmas.List.{take_all}
 use Rattle.std.proofs.lemmas.Bool.{false≢true}
 use Rattle.cg_history.specs.SessionMap.{found, IsOnceEach}
 use Rattle.std.specs.List.{AllByRecursion}
-use Rattle.cg_desk.specs.Rests.{rests_of}
+use Rattle.cg_log.specs.Rests.{rests_of}
 use Rattle.cg_desk.proofs.Counting.{all_there, not_twice, is_some-copied, numbered, there}
 use Rattle.cg_desk.proofs.auditing.by_number.Goals as goal
 use Rattle.cg_desk.proofs.auditing.by_number.Goals.{then-number-eq0-via-then-number-eq0, then-number-eq0-via-else-number-eq0+then-handed-number, then-number-eq0-via-else-number-eq0+else-handed-number+then-is_some}

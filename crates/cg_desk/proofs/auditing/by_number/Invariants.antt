@@ -1,7 +1,7 @@
 use Rattle.std.proofs.Common.{◌≡◌, ◌≤◌, take}
 use Rattle.std.specs.List.{AllByRecursion}
 use Rattle.cg_history.specs.SessionMap.{IsOnceEach}
-use Rattle.cg_desk.specs.Rests.{rests_of}
+use Rattle.cg_log.specs.Rests.{rests_of}
 use Rattle.cg_desk.proofs.auditing.by_number.Given as goal
 
 -- the logs so far, whose numbers are within and distinct

@@ -4,8 +4,8 @@ ghost use Rattle.cg_command.specs.Meaning.{command_of};
 ghost use Rattle.cg_history.specs.Meaning.{answer_of, request_of};
 
 use cg_command::Command;
-use cg_core::{Answer, Request};
 use cg_cpus::CpuSet;
+use cg_history::{Answer, Request};
 use cg_name::Path;
 use cg_text::{ControlOps, Controllers, Limit};
 

@@ -4,7 +4,7 @@ use Rattle.std.proofs.lemmas.Bool.Decides.{Decides-at, Decides-like}
 use Rattle.std.specs.Cmp.Lexicographic.{bytes_decides}
 use Rattle.cg_maps.specs.FiniteSet.{members, set_of}
 use Rattle.cg_maps.proofs.Sets.{set_of-members}
-use Rattle.cg_desk.proofs.same.is_same_set.Goals as goal
+use Rattle.cg_log.proofs.same.is_same_set.Goals as goal
 
 pub returns : goal.returns
 returns c =

@@ -1,7 +1,7 @@
 -- Operations are the same where both sets are.
 use Rattle.std.proofs.Common.{ap}
 use Rattle.cg_text.proofs.Operations.{same_ops}
-use Rattle.cg_desk.proofs.same.is_same_ops.Goals as goal
+use Rattle.cg_log.proofs.same.is_same_ops.Goals as goal
 
 pub returns-then-is_same_controllers : goal.returns-then-is_same_controllers
 returns-then-is_same_controllers c = (

@@ -5,7 +5,7 @@ use Rattle.std.proofs.lemmas.Option.{same_Some}
 use Rattle.cg_text.specs.Limit.{number_of}
 use Rattle.cg_text.specs.declared.limit.Limit.TheVariants.{UpTo}
 use Rattle.cg_text.proofs.Limits.{same_number}
-use Rattle.cg_desk.proofs.same.is_same_limit.Goals as goal
+use Rattle.cg_log.proofs.same.is_same_limit.Goals as goal
 
 pub returns-in-UpTo-UpTo : goal.returns-in-UpTo-UpTo
 returns-in-UpTo-UpTo c =

@@ -2,7 +2,7 @@
 use Rattle.std.proofs.Common.{ap}
 use Rattle.std.proofs.lemmas.Bool.Decides.{Decides-at, Decides-like, Decides-and}
 use Rattle.std.specs.Cmp.{booleans_Decides}
-use Rattle.cg_desk.proofs.same.is_same_controllers.Goals as goal
+use Rattle.cg_log.proofs.same.is_same_controllers.Goals as goal
 
 pub returns : goal.returns
 returns c =

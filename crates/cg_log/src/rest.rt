@@ -1,25 +1,25 @@
 //! What is left of a log while it is compared with a history.
 ghost use Rattle.std.specs.Prelude.{◌≡◌, ◌≢◌, ◌∷◌, List, map};
 ghost use Rattle.std.specs.Bool.{OnFalse, OnTrue};
-ghost use Rattle.cg_desk.specs.Call as model;
-ghost use Rattle.cg_desk.specs.CallOf.{call_of};
 ghost use Rattle.cg_history.specs.Meaning.{record_of};
+ghost use Rattle.cg_log.specs.Call as model;
+ghost use Rattle.cg_log.specs.CallOf.{call_of};
 
 use crate::call::Call;
-use cg_core::Record;
+use cg_history::Record;
 use std::marker::Model;
 
 /// The calls of a log that no record was found for yet.
 #[derive(Drop)]
-pub(crate) struct Rest<'a> {
+pub struct Rest<'a> {
     calls: &'a [Call],
 }
 
 impl<'a> Model for Rest<'a> {
     ghost use Rattle.std.specs.Prelude.{List, map};
-    ghost use Rattle.cg_desk.specs.Call.{Call};
-    ghost use Rattle.cg_desk.specs.CallCode.{calls_code};
-    ghost use Rattle.cg_desk.specs.CallOf.{call_of};
+    ghost use Rattle.cg_log.specs.Call.{Call};
+    ghost use Rattle.cg_log.specs.CallCode.{calls_code};
+    ghost use Rattle.cg_log.specs.CallOf.{call_of};
 
     ghost Value = { List Call };
 
@@ -29,7 +29,8 @@ impl<'a> Model for Rest<'a> {
 }
 
 impl<'a> Rest<'a> {
-    pub(crate) fn of(calls: &'a [Call]) -> Rest<'a>
+    /// All calls of the log.
+    pub fn of(calls: &'a [Call]) -> Rest<'a>
         ensures { result ≡ map call_of calls.now }
     {
         Rest { calls }

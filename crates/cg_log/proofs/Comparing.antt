@@ -13,9 +13,8 @@ use Rattle.cg_history.proofs.BySession.{written_once}
 use Rattle.cg_history.specs.SessionMap.{found, with_value, IsOnceEach}
 use Rattle.cg_model.specs.Cgroups.{cgroups}
 use Rattle.cg_model.specs.History.{History, Record}
-use Rattle.cg_desk.proofs.Counting.{empty}
-use Rattle.cg_desk.specs.Call.{Call, SessionState, call_in, calls_of}
-use Rattle.cg_desk.specs.Rests.{Rests, rests_of, total, AreCallsOf}
+use Rattle.cg_log.specs.Call.{Call, SessionState, call_in, calls_of}
+use Rattle.cg_log.specs.Rests.{Rests, rests_of, total, AreCallsOf}
 
 -- a log, of which these records had the calls before what is left
 abbrev pub added : History cgroups → ℕ × List Call → ℕ × List Call
@@ -80,6 +79,11 @@ one_less s c rest (x ∷ xs) once e = at (one_less s c rest xs once.1) (x.0 == s
         let less : total (with_value s rest xs) + 1 ≡ total xs = later e in
         let all : total (x ∷ xs) ≡ length x.1 + total xs = sum_by-cons (λ y. length y.1) x xs in
         omega (arith, first, kept, less, all)
+
+-- no item
+empty : {A : Type 0} (xs : List A) → length xs ≡ 0 → xs ≡ []
+empty [] e = refl
+empty (x ∷ xs) e = absurd (omega (arith, e))
 
 -- where no call is left, the logs are the history's calls
 pub ended : (h : History cgroups) (xs : Rests) → total xs ≡ 0 → AreCallsOf h (map (added h) xs)

@@ -1,11 +1,11 @@
 //! Calls of sessions.
 ghost use Rattle.std.specs.Prelude.{◌≡◌, ◌↔◌, IsTrue};
-ghost use Rattle.cg_desk.specs.Call.{call_in};
-ghost use Rattle.cg_desk.specs.CallOf.{call_of};
 ghost use Rattle.cg_history.specs.Meaning.{record_of};
+ghost use Rattle.cg_log.specs.Call.{call_in};
+ghost use Rattle.cg_log.specs.CallOf.{call_of};
 
 use crate::same::{is_same_answer, is_same_request};
-use cg_core::{Answer, Record, Request};
+use cg_history::{Answer, Record, Request};
 
 /// One request of a session, and its answer.
 #[derive(Drop)]

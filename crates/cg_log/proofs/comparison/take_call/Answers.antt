@@ -1,10 +1,10 @@
 -- The call is taken off the log of its session, and the map has what is left there.
 use Rattle.std.proofs.Common.{◌≡◌, ◌∷◌, ◌∙◌, List, true, false, Some, OnSome, sym, ap, subst}
 use Rattle.std.specs.Bool.{OnTrue}
-use Rattle.cg_desk.specs.Call as model
+use Rattle.cg_log.specs.Call as model
 use Rattle.cg_history.specs.Meaning.{record_of}
 use Rattle.cg_history.specs.SessionMap.{found, with_value}
-use Rattle.cg_desk.proofs.auditing.take_call.Goals as goal
+use Rattle.cg_log.proofs.comparison.take_call.Goals as goal
 
 pub returns-in-Some-clause-taken : goal.returns-in-Some-clause-taken
 returns-in-Some-clause-taken c =

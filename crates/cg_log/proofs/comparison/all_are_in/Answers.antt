@@ -1,8 +1,8 @@
 -- The logs are compared record by record.
 use Rattle.std.proofs.Common.{refl, arith}
 use Rattle.std.proofs.lemmas.Bool.{false≢true}
-use Rattle.cg_desk.proofs.Comparing.{left_next, left_none, left_other, whole}
-use Rattle.cg_desk.proofs.auditing.all_are_in.Goals as goal
+use Rattle.cg_log.proofs.Comparing.{left_next, left_none, left_other, whole}
+use Rattle.cg_log.proofs.comparison.all_are_in.Goals as goal
 
 pub loop-entry-init : goal.loop-entry-init
 loop-entry-init c = (c.requires.once, whole c.args.rests.now, omega arith)

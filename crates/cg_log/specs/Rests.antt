@@ -3,7 +3,7 @@ use Rattle.std.specs.Prelude.{◌≡◌, ℕ, List, length, map, reverse}
 use Rattle.std.specs.List.{AllByRecursion, sum_by}
 use Rattle.cg_model.specs.Cgroups.{cgroups}
 use Rattle.cg_model.specs.History.{History}
-use Rattle.cg_desk.specs.Call.{Call, SessionState, calls_of}
+use Rattle.cg_log.specs.Call.{Call, SessionState, calls_of}
 
 abbrev pub Rests : Type 0
 Rests = List (ℕ × List Call)

@@ -1,0 +1,5 @@
+pub mod Call
+pub mod CallCode
+pub mod CallOf
+pub mod LogState
+pub mod Rests

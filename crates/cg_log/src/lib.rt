@@ -1,0 +1,13 @@
+//! Calls of sessions, their logs, and the comparison of these with a history.
+#![tactic(auto)]
+
+mod call;
+mod comparison;
+mod log;
+mod rest;
+mod same;
+
+pub use call::Call;
+pub use comparison::all_are_in;
+pub use log::Log;
+pub use rest::Rest;
