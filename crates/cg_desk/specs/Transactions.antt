@@ -1,7 +1,8 @@
 -- Transactions, and the sessions that they borrow.
-use Rattle.std.specs.Prelude.{◌≡◌, ℕ}
+use Rattle.std.specs.Prelude.{◌≡◌, ℕ, map}
 use Rattle.std.specs.Borrow.{MutBor}
 use Rattle.cg_log.specs.Call.{SessionState}
+use Rattle.cg_log.specs.CallOf.{call_of}
 use Rattle.cg_log.specs.LogState.{LogState}
 use Rattle.cg_desk.specs.declared.transaction.Transaction as declared
 
@@ -11,7 +12,7 @@ Transaction = declared.Transaction LogState
 
 -- its session, as it is: the number behind the borrow, and the log that the transaction holds
 abbrev pub session_of : Transaction → SessionState
-session_of t = record { number = t.session.now.number; log = t.log.calls }
+session_of t = record { number = t.session.now.number; log = map call_of t.log.calls }
 
 -- its number
 abbrev pub txn_number : Transaction → ℕ

@@ -1,11 +1,10 @@
--- Sessions and logs are data: the codes by which a proof tells them apart.
+-- A session is data: the code by which a proof tells sessions apart.
 use Rattle.std.specs.Prelude.{ℕ, List, [], ◌∷◌, refl}
 use Rattle.std.specs.Coded.{Coded, code_by, coded×, coded_ℕ, coded_list}
 use Rattle.cg_model.specs.Cgroups.{cgroups}
 use Rattle.cg_model.specs.History.{Begin, Saved, History}
 use Rattle.cg_history.specs.Code.{history_code}
 use Rattle.cg_log.specs.Call.{Call, SessionState, call_in}
-use Rattle.cg_log.specs.LogState.{LogState}
 
 -- a call as a history of one record, and back
 abbrev from_call : Call → History cgroups
@@ -24,8 +23,3 @@ calls_code = coded_list call_code
 abbrev pub session_code : Coded SessionState
 session_code =
     code_by (ℕ × List Call) (coded× coded_ℕ calls_code) (λ s. (s.number, s.log)) (λ p. record { number = p.0; log = p.1 }) (λ _. refl)
-
-abbrev pub log_code : Coded LogState
-log_code =
-    code_by (List Call × (ℕ × ℕ)) (coded× calls_code (coded× coded_ℕ coded_ℕ)) (λ l. (l.calls, (l.reserved, l.capacity)))
-    (λ p. record { calls = p.0; reserved = p.1.0; capacity = p.1.1 }) (λ _. refl)

@@ -20,17 +20,13 @@ pub struct Log {
 }
 
 impl Model for Log {
-    ghost use Rattle.std.specs.Prelude.{◌+◌, ◌≤◌, map, vec_len};
+    ghost use Rattle.std.specs.Prelude.{◌+◌, ◌≤◌, vec_len};
     ghost use Rattle.std.specs.Vec.{vec_capacity};
-    ghost use Rattle.cg_log.specs.CallCode.{log_code};
-    ghost use Rattle.cg_log.specs.CallOf.{call_of};
     ghost use Rattle.cg_log.specs.LogState.{LogState};
 
     ghost Value = { LogState };
 
-    ghost coded = { log_code };
-
-    ghost view = { λ l. record { calls = map call_of l.calls.items; reserved = l.reserved; capacity = vec_capacity l.calls } };
+    ghost view = { λ l. record { calls = l.calls.items; reserved = l.reserved; capacity = vec_capacity l.calls } };
 
     // Room for what is reserved, and for the end of the transaction at least.
     ghost invariant = { λ l. (vec_len l.calls + l.reserved ≤ vec_capacity l.calls) × (1 ≤ l.reserved) };
@@ -40,7 +36,7 @@ impl Log {
     /// These calls and a Begin, where they have room for it and for the end of what it began.
     pub fn open(mut calls: Vec<Call>, number: TxnNumber) -> Log
         requires { vec_len calls + 2 ≤ vec_capacity calls }
-        ensures { result.calls ≡ logged (map call_of calls.items) history.Begin (history.Begun number.0) }
+        ensures { map call_of result.calls ≡ logged (map call_of calls.items) history.Begin (history.Begun number.0) }
     {
         calls.push_reserved(Call {
             request: Request::Begin,
@@ -62,7 +58,7 @@ impl Log {
     /// Adds a call where it is to be recorded, and reserves room for its going back where it was accepted.
     pub fn note(&mut self, request: Request, answer: Answer)
         requires { length self.old.calls + self.old.reserved + 2 ≤ self.old.capacity }
-        ensures { self.new.calls ≡ logged self.old.calls (request_of request) (answer_of answer) }
+        ensures { map call_of self.new.calls ≡ logged (map call_of self.old.calls) (request_of request) (answer_of answer) }
     {
         if !is_recorded(&request, &answer) {
             return;
@@ -83,7 +79,7 @@ impl Log {
     /// Adds a call that goes back in room reserved for it, where it is to be recorded.
     pub fn note_back(&mut self, request: Request, answer: Answer)
         requires { 2 ≤ self.old.reserved }
-        ensures { self.new.calls ≡ logged self.old.calls (request_of request) (answer_of answer) }
+        ensures { map call_of self.new.calls ≡ logged (map call_of self.old.calls) (request_of request) (answer_of answer) }
     {
         if is_recorded(&request, &answer) {
             self.reserved -= 1;
@@ -93,7 +89,7 @@ impl Log {
 
     /// The calls with the one that ends the transaction, in room reserved for it, where it is to be recorded.
     pub fn close(self, request: Request, answer: Answer) -> Vec<Call>
-        ensures { map call_of result.items ≡ logged self.calls (request_of request) (answer_of answer) }
+        ensures { map call_of result.items ≡ logged (map call_of self.calls) (request_of request) (answer_of answer) }
     {
         let Log {
             mut calls,
