@@ -6,7 +6,7 @@ use Rattle.cg_model.specs.Tree.{Tree}
 use Rattle.cg_lines.specs.Device.{AppendsFront, Failed}
 use Rattle.cg_script.specs.Fault.{refusal_of}
 use Rattle.cg_lines.specs.Lines.{Reading, pending, CanBreak}
-use Rattle.cg_script.specs.Replay.{IsOutput}
+use Rattle.cg_replay.specs.Replay.{IsOutput}
 use Rattle.cg_script.specs.WorldPart.{ReadsWorld}
 use Rattle.cg_script.specs.declared.fault.ScriptFault.{ScriptFault}
 use Rattle.cg_script.specs.declared.fault.ScriptFault.TheVariants.{Syntax, Memory, ReadFault, WriteFault}

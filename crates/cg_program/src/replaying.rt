@@ -10,7 +10,8 @@ ghost use Rattle.cg_program.specs.Program.{status_of, fault_line, AreBroken, Don
 
 use crate::status::Status;
 use cg_lines::{LineReader, Sink, Source, write_all};
-use cg_script::{ScriptFault, read_world, replay};
+use cg_replay::replay;
+use cg_script::{ScriptFault, read_world};
 use std::alloc::Global;
 
 // The most records of a history.

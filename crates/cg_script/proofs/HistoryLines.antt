@@ -27,8 +27,7 @@ use Rattle.cg_model.specs.History.{Request, Answer, Begun, Gave, Saved, WentBack
 use Rattle.cg_model.specs.System.{Done, Text}
 use Rattle.cg_script.specs.Answer.{answer_text}
 use Rattle.cg_script.specs.HistoryText.{session_name, comment_line, record_text, ShowsText, IsReadable}
-use Rattle.cg_script.specs.Replay.{newline}
-use Rattle.cg_script.specs.Request.{CanBeAsked, request_line, request_text}
+use Rattle.cg_script.specs.Request.{newline, CanBeAsked, request_line, request_text}
 use Rattle.cg_script.proofs.WrittenLines.{Written, request_written}
 
 -- ---- digits

@@ -10,8 +10,7 @@ use Rattle.cg_text.specs.Words.{lines_of}
 use Rattle.cg_model.specs.Cgroups.{cgroups}
 use Rattle.cg_model.specs.History.{Request, Record, History}
 use Rattle.cg_script.specs.HistoryText.{session_name, record_text, sessions, place, renumbered, turns_of, IsReadable, HistoriesAreRead}
-use Rattle.cg_script.specs.MachineOutput.{AreTurns, asked}
-use Rattle.cg_script.specs.Replay.{number_after, session_number, with_name}
+use Rattle.cg_script.specs.Turns.{AreTurns, asked, number_after, session_number, with_name}
 use Rattle.cg_script.proofs.HistoryLines.{session_is_named, comment_says_nothing, record_lines}
 use Rattle.cg_script.proofs.WrittenLines.{written_lines_are_spelled}
 

@@ -1,12 +1,8 @@
-mod Endings
+pub mod Facts
 pub mod HistoryLines
-pub mod HistoryReplays
 pub mod HistoryTurns
-mod MachineOutputs
-mod OneLine
-mod Playing
+pub mod OneLine
 mod Scripts
 mod SessionNames
 pub mod WorldLemmas
 mod WrittenLines
-pub mod OneOutput

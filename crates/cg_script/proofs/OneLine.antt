@@ -1,6 +1,5 @@
 -- A line spells one call at most, and so has one answer at most.
-use Rattle.std.proofs.Common.{◌≡◌, ◌⊎◌, ◌==◌, ℕ, cond, codes, get_or, List, [], ◌∷◌, Option, Some, None, refl, sym, ap, subst, ◌∙◌, inl, inr, Result, Ok, Err, OnOk, OnErr, false, true≢false, true}
-use Rattle.std.specs.Result.{is_err}
+use Rattle.std.proofs.Common.{◌≡◌, ◌⊎◌, ◌==◌, ℕ, cond, codes, get_or, List, [], ◌∷◌, Option, Some, None, refl, sym, ap, subst, ◌∙◌, inl, inr}
 use Rattle.cg_text.proofs.Cuts.{one_saying}
 use Rattle.cg_text.specs.Words.{Word, Says}
 use Rattle.cg_command_text.specs.CommandText.{SpellsCommand}
@@ -10,16 +9,7 @@ use Rattle.cg_model.specs.Cgroups.{cgroups}
 use Rattle.cg_model.specs.Command.{Command}
 use Rattle.cg_model.specs.History.{Request, Begin, Do, Save, Back, Undo, Commit, Abort}
 use Rattle.cg_script.specs.Request.{SpellsRequest, SpellsCall, SpellsLine}
-use Rattle.cg_script.specs.Replay.{Replay, Asked, Answers, IsOneTooMany}
-
-head_same : {X : Type 0} {x y : X} {xs ys : List X} → x ∷ xs ≡ y ∷ ys → x ≡ y
-head_same e = cc
-
-rest_same : {X : Type 0} {x y : X} {xs ys : List X} → x ∷ xs ≡ y ∷ ys → xs ≡ ys
-rest_same e = cc
-
-some_same : {X : Type 0} {x y : X} → Some x ≡ Some y → x ≡ y
-some_same e = cc
+use Rattle.cg_script.proofs.Facts.{some_same, some_none, head_same, rest_same}
 
 -- the third byte of the first word, which tells the words of requests without a command apart
 abbrev third : List Word → ℕ
@@ -66,9 +56,6 @@ call_one ws n m r q a b =
     let requests : r ≡ q = request_one a.others r q a.request (subst (λ ws. SpellsRequest ws q) (sym (rest_same same)) b.request) in
     λ i. (head_same same i, requests i)
 
-some_none : {X : Type 0} {x : X} → Some x ≡ None → ⊥
-some_none e = cc
-
 pub line_one : (line : List ℕ) (c d : Option (List ℕ × Request cgroups)) → SpellsLine line c → SpellsLine line d → c ≡ d
 line_one line None None a b = refl
 line_one line None (Some d) a b = absurd (some_none (one_saying line (Some b.0) None b.1 a))
@@ -88,30 +75,3 @@ call_of line ws None says h = absurd (some_none (one_saying line (Some ws) None 
 call_of line ws (Some c) says h =
     let words : h.0 ≡ ws = some_same (one_saying line (Some h.0) (Some ws) h.1 says) in
     (c, refl, subst (λ ws. SpellsCall ws c.0 c.1) words h.2)
-
--- what a session's request is answered, the line is answered
-pub answers_asked : (s t : Replay) (line n out : List ℕ) (r : Request cgroups) → SpellsLine line (Some (n, r)) → Asked s n r out t → Answers s line out t
-answers_asked s t line n out r spelled (inl asked) = inr (inl (n, r, asked.0, spelled, asked.1))
-answers_asked s t line n out r spelled (inr many) =
-    inr (inr ((λ call h. subst (IsOneTooMany s.names) (line_one line (Some (n, r)) call spelled h) many.0), many.1, many.2))
-
--- what follows from what holds of an outcome that is no error
-pub on_ok_map : {A E P Q : Type 0} (r : Result A E) → (P → Q) → OnOk r P → OnOk r Q
-on_ok_map (Ok x) f p = f p
-on_ok_map (Err e) f p = tt
-
--- what holds of an outcome that is no error
-pub when_ok : {A E : Type 0} (r : Result A E) {P : Type 0} → is_err r ≡ false → OnOk r P → P
-when_ok (Ok x) e p = p
-when_ok (Err x) e p = absurd (true≢false e)
-
--- what holds anyway holds of an error
-pub when_err : {A E : Type 0} (r : Result A E) {P : Type 0} → is_err r ≡ true → OnErr r P → P
-when_err (Ok x) e h = absurd (true≢false (sym e))
-when_err (Err x) e h = h
-
-pub on_any_err : {A E : Type 0} (r : Result A E) {P : Type 0} → P → OnErr r P
-on_any_err (Ok x) p = tt
-on_any_err (Err e) p = p
-
--- what follows from what holds of an outcome's value

@@ -13,24 +13,10 @@ use Rattle.cg_script.specs.Request.{SpellsRequest, CanBeAsked}
 use Rattle.cg_script.specs.Script.{IsScriptRequest, AreScriptRequests, SaysRequest, SayRequests, last_request, SpellsScript, OneScript, ScriptsCanBeAsked}
 use Rattle.cg_script.specs.ScriptLines.{IsNoScript}
 use Rattle.cg_script.proofs.OneLine.{request_one}
+use Rattle.cg_script.proofs.Facts.{some_same, some_none, head_same, rest_same, cons_nil}
 
 abbrev Requests : Type 0
 Requests = List (Request cgroups)
-
-some_same : {X : Type 0} {x y : X} → Some x ≡ Some y → x ≡ y
-some_same e = cc
-
-some_none : {X : Type 0} {x : X} → Some x ≡ None → ⊥
-some_none e = cc
-
-head_same : {X : Type 0} {x y : X} {xs ys : List X} → x ∷ xs ≡ y ∷ ys → x ≡ y
-head_same e = cc
-
-rest_same : {X : Type 0} {x y : X} {xs ys : List X} → x ∷ xs ≡ y ∷ ys → xs ≡ ys
-rest_same e = cc
-
-cons_nil : {X : Type 0} {x : X} {xs : List X} → x ∷ xs ≡ [] → ⊥
-cons_nil e = cc
 
 -- ---- what a line says
 

@@ -7,15 +7,9 @@ use Rattle.cg_text.specs.Words.{lines_of}
 use Rattle.cg_model.specs.Cgroups.{cgroups}
 use Rattle.cg_model.specs.History.{Request, Answer, Gave, Record, History}
 use Rattle.cg_model.specs.System.{Text}
-use Rattle.cg_model.specs.Machine.{opened}
-use Rattle.cg_model.specs.Output.{output}
-use Rattle.cg_model.specs.Sound.{Sound}
-use Rattle.cg_model.specs.Tree.{Tree}
-use Rattle.cg_world_text.specs.World.{world_text}
 use Rattle.cg_script.specs.Answer.{answer_text}
-use Rattle.cg_script.specs.MachineOutput.{Turn, Ask, Skip, AreTurns, answer_lines, asked}
-use Rattle.cg_script.specs.Replay.{IsOutput, newline}
-use Rattle.cg_script.specs.Request.{CanBeAsked, request_line}
+use Rattle.cg_script.specs.Request.{CanBeAsked, newline, request_line}
+use Rattle.cg_script.specs.Turns.{Turn, Ask, Skip, AreTurns, asked}
 
 -- ---- the text
 
@@ -72,10 +66,3 @@ abbrev pub HistoriesAreRead : Type 0
 HistoriesAreRead =
     (h : History cgroups) → length (sessions h) ≤ 4096 → AllByRecursion IsReadable h
     → AreTurns [] (lines_of (history_text h)) (turns_of (renumbered h)) × (asked (turns_of (renumbered h)) ≡ renumbered h)
-
--- and its outputs: over a sound tree it is answered what the machine of the definitions answers to these requests, line by line
-abbrev pub HistoriesAreReplayed : Type 0
-HistoriesAreReplayed =
-    (h : History cgroups) → length (sessions h) ≤ 4096 → AllByRecursion IsReadable h
-    → (T : Tree) (limit : ℕ) (out : List ℕ) → Sound T → IsOutput T limit (history_text h) out
-    → out ≡ (let o = output cgroups (opened cgroups T limit) (renumbered h) in answer_lines o.0 ++ world_text o.1.tree)

@@ -1,13 +1,10 @@
 pub mod Answer
 pub mod Fault
 pub mod HistoryText
-pub mod MachineOutput
-pub mod Player
-pub mod Replay
-pub mod ReplayCode
 pub mod Request
 pub mod Script
 pub mod ScriptLines
 pub mod ScriptOf
+pub mod Turns
 pub mod WorldLines
 pub mod WorldPart

@@ -6,6 +6,9 @@ use Rattle.cg_model.specs.Cgroups.{cgroups}
 use Rattle.cg_model.specs.History.{Request, Begin, Do, Save, Back, Undo, Commit, Abort}
 use Rattle.cg_command_text.specs.CommandText.{SpellsCommand, CanAskFor, command_text}
 
+abbrev pub newline : List ℕ
+newline = 10 ∷ []
+
 -- the words behind the session's name
 abbrev pub SpellsRequest : List Word → Request cgroups → Type 0
 SpellsRequest ws Begin = ws ≡ codes "begin" ∷ []

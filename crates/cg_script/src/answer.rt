@@ -5,7 +5,7 @@ ghost use Rattle.cg_name.specs.Refusal.{argument_of, refusal_text};
 ghost use Rattle.cg_history.specs.Meaning.{answer_of};
 ghost use Rattle.cg_script.specs.Answer.{answer_text};
 
-use cg_core::Answer;
+use cg_history::Answer;
 use cg_name::{Refusal, TxnNumber, or_truncate};
 use cg_text::write_quoted;
 use itoa::Buffer;

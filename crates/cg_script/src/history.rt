@@ -1,13 +1,12 @@
 //! The text of a history.
 ghost use Rattle.std.specs.Prelude.{◌≡◌, ◌++◌, length, OnErr, OnOk, take};
 ghost use Rattle.cg_history.specs.Meaning.{answer_of, history_of, record_of, request_of};
-ghost use Rattle.cg_script.specs.HistoryText.{HistoriesAreRead, HistoriesAreReplayed, comment_line, history_text, record_text, session_name};
-ghost use Rattle.cg_script.specs.Replay.{newline};
-ghost use Rattle.cg_script.specs.Request.{request_line};
+ghost use Rattle.cg_script.specs.HistoryText.{HistoriesAreRead, comment_line, history_text, record_text, session_name};
+ghost use Rattle.cg_script.specs.Request.{newline, request_line};
 
 use crate::answer::append_answer;
 use crate::request::append_request;
-use cg_core::{Answer, Record, Request, SessionId};
+use cg_history::{Answer, Record, Request, SessionId};
 use cg_name::or_truncate;
 use itoa::Buffer;
 use std::alloc::AllocError;
@@ -26,11 +25,6 @@ pub fn write_history(records: &[Record], out: &mut Vec<u8>) -> Result<(), AllocE
 /// The text of a history is a schedule that asks for what was asked for.
 pub fn histories_are_read()
     ensures { HistoriesAreRead }
-{}
-
-/// The text of a history, replayed over a sound tree, is answered what the machine answers to these requests.
-pub fn histories_are_replayed()
-    ensures { HistoriesAreReplayed }
 {}
 
 // What follows appends to `out`, and an error leaves what stood there at the front.

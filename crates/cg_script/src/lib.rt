@@ -1,12 +1,10 @@
-//! Schedules as text: a session's requests, their answers, the world at the head of a text, and replay over a world.
+//! Schedules as text: a session's requests, their answers, scripts, histories, and the world at the head of a text.
 #![tactic(auto)]
 
 mod answer;
 mod fault;
 mod history;
-mod player;
 mod request;
-mod schedule;
 mod script;
 mod script_reader;
 mod session;
@@ -14,13 +12,9 @@ mod world_reader;
 
 pub use answer::write_answer;
 pub use fault::ScriptFault;
-pub use history::{histories_are_read, histories_are_replayed, write_history};
-pub use player::{Player, refuse};
+pub use history::{histories_are_read, write_history};
 pub use request::{
     a_line_says_one_thing_at_most, read_line, write_line, written_lines_are_spelled,
-};
-pub use schedule::{
-    a_schedule_has_an_output, a_schedule_has_one_output_at_most, outputs_are_the_machines, replay,
 };
 pub use script::Script;
 pub use script_reader::{

@@ -10,7 +10,7 @@ ghost use Rattle.cg_script.specs.Request.{SpellsCall, SpellsLine, SpellsRequest,
 
 use crate::session::SessionName;
 use cg_command_text::{read_command, write_command};
-use cg_core::Request;
+use cg_history::Request;
 use cg_name::{Refusal, SaveName, or_truncate};
 use cg_text::read_words;
 use std::alloc::{AllocError, Global};

@@ -2,7 +2,7 @@
 ghost use Rattle.std.specs.Prelude.{◌≤◌, vec_len};
 ghost use Rattle.cg_script.specs.Script.{AreScriptRequests, AreScriptRequests-prop};
 
-use cg_core::Request;
+use cg_history::Request;
 
 /// What one transaction asks for. It begins by itself, and ends behind its last request.
 #[derive(Drop)]

@@ -11,7 +11,7 @@ ghost use Rattle.cg_script.specs.ScriptLines.{IsNoScript, asked_by};
 
 use crate::request::read_request;
 use crate::script::Script;
-use cg_core::Request;
+use cg_history::Request;
 use cg_name::Refusal;
 use cg_text::read_words;
 use std::alloc::Global;

@@ -4,7 +4,8 @@ use crate::opening::{SMALL, world};
 use cg_desk::{Core, Request};
 use cg_lines::{FromRead, FromWrite, LineReader};
 use cg_name::Refusal;
-use cg_script::{replay, write_history};
+use cg_replay::replay;
+use cg_script::write_history;
 use std::alloc::Global;
 
 // Asks for two transactions that make the group `/a`, of which the first one commits.

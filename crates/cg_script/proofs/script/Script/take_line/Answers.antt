@@ -6,7 +6,7 @@ use Rattle.cg_text.specs.Words.{Word, Says}
 use Rattle.cg_script.specs.Request.{SpellsRequest}
 use Rattle.cg_script.specs.Script.{SayRequests}
 use Rattle.cg_script.specs.ScriptLines.{asked_by}
-use Rattle.cg_script.proofs.OneLine.{on_ok_map}
+use Rattle.cg_script.proofs.Facts.{on_ok_map}
 use Rattle.cg_script.proofs.Scripts.{no_words, no_request, no_script_there, said_more, silent_more}
 use Rattle.cg_script.proofs.script.Script.take_line.Goals as goal
 

@@ -1,0 +1,5 @@
+mod Endings
+pub mod HistoryReplays
+mod MachineOutputs
+pub mod OneOutput
+mod Playing

@@ -1,0 +1,116 @@
+-- What a schedule's text is answered, over a world: the whole of what is written.
+use Rattle.std.specs.Prelude.{◌≡◌, ◌⊎◌, ℕ, List, [], ◌∷◌, ◌++◌, map, reverse, Option, Some, None}
+use Rattle.std.specs.Io.KnownBytes.{Appends}
+use Rattle.cg_name.specs.Refusal.{refusal_text}
+use Rattle.cg_name.specs.declared.refusal.Refusal.TheVariants.{Syntax}
+use Rattle.cg_text.specs.Words.{lines_of}
+use Rattle.cg_model.specs.Tree.{Tree}
+use Rattle.cg_model.specs.Cgroups.{cgroups}
+use Rattle.cg_model.specs.History.{Request, Abort, History}
+use Rattle.cg_model.specs.Opens.{opens}
+use Rattle.cg_model.specs.Run.{tree_of}
+use Rattle.cg_core.specs.State.{CoreState, reply, after}
+use Rattle.cg_world_text.specs.World.{world_text}
+use Rattle.cg_lines.specs.Lines.{LosesOfLine}
+use Rattle.cg_script.specs.Answer.{answer_text}
+use Rattle.cg_script.specs.Request.{SpellsLine, newline}
+use Rattle.cg_script.specs.Turns.{IsOneTooMany, session_number, with_name}
+
+-- a schedule so far: the names of its sessions in the order in which they first stood in a line, and the machine, as a core
+pub record Replay : Type 0 where
+  pub names : List (List ℕ)
+  pub core : CoreState
+
+abbrev pub answer_line : CoreState → ℕ → Request cgroups → List ℕ
+answer_line c k r = answer_text (reply c k r) ++ newline
+
+-- A line says nothing, and nothing is answered;
+abbrev pub Skips : Replay → List ℕ → List ℕ → Replay → Type 0
+Skips s line out t = SpellsLine line None × (out ≡ []) × (t ≡ s)
+
+-- or it is a session's request, and the machine answers;
+abbrev pub AsksAs : Replay → List ℕ → Request cgroups → ℕ → List ℕ → Replay → Type 0
+AsksAs s n r k out t =
+    (session_number s.names n ≡ Some k) × (out ≡ answer_line s.core k r) × (t ≡ record { names = with_name s.names n; core = after s.core k r })
+
+abbrev pub Asks : Replay → List ℕ → List ℕ → Replay → Type 0
+Asks s line out t = (n : List ℕ) × (r : Request cgroups) × (k : ℕ) × SpellsLine line (Some (n, r)) × AsksAs s n r k out t
+
+-- or it is in the grammar only with a name too many, or not at all, and is refused.
+abbrev pub Fails : Replay → List ℕ → List ℕ → Replay → Type 0
+Fails s line out t =
+    ((call : Option (List ℕ × Request cgroups)) → SpellsLine line call → IsOneTooMany s.names call)
+    × (out ≡ refusal_text Syntax ++ newline) × (t ≡ s)
+
+-- a session's request is answered, or refused since its name is one too many
+abbrev pub Asked : Replay → List ℕ → Request cgroups → List ℕ → Replay → Type 0
+Asked s n r out t =
+    ((k : ℕ) × AsksAs s n r k out t) ⊎ ((session_number s.names n ≡ None) × (out ≡ refusal_text Syntax ++ newline) × (t ≡ s))
+
+abbrev pub Answers : Replay → List ℕ → List ℕ → Replay → Type 0
+Answers s line out t = Skips s line out t ⊎ (Asks s line out t ⊎ Fails s line out t)
+
+-- the lines are answered one after another
+abbrev pub AnswersAll : Replay → List (List ℕ) → List ℕ → Replay → Type 0
+AnswersAll s [] out t = (out ≡ []) × (t ≡ s)
+AnswersAll s (line ∷ lines) out t =
+    (first : List ℕ) × (others : List ℕ) × (u : Replay) × Answers s line first u × AnswersAll u lines others t × (out ≡ first ++ others)
+
+-- the first line of a text is answered, and the rest is left
+abbrev pub AnswersFirst : Replay → List ℕ → List ℕ → Replay → Option (List ℕ) → Type 0
+AnswersFirst s text out t None = ⊥
+AnswersFirst s text out t (Some rest) = (line : List ℕ) × (lines_of text ≡ line ∷ lines_of rest) × Answers s line out t
+
+-- The lines at the front of a text were answered, and nothing else was written: a reader went past them, and then lost
+-- nothing, or some bytes at the front of the line behind them.
+abbrev pub AnswersPassed : Replay → List ℕ → Option (List ℕ) → Option (List ℕ) → Option (List ℕ) → Type 0
+AnswersPassed s text left old new =
+    (passed : List (List ℕ)) × (behind : List ℕ) × (lines_of text ≡ passed ++ lines_of behind) × LosesOfLine (Some behind) left
+    × (answers : List ℕ) × (t : Replay) × AnswersAll s passed answers t × Appends old new answers
+
+-- the sessions that have an open transaction, the least number first: in the history the newest stands first
+abbrev pub ending_sessions : History cgroups → List ℕ
+ending_sessions h = map (λ p. p.0) (reverse (opens h))
+
+-- the answers to the aborts of these, one after another
+abbrev pub abort_lines : CoreState → List ℕ → List ℕ
+abort_lines c [] = []
+abort_lines c (k ∷ ks) = answer_line c k Abort ++ abort_lines (after c k Abort) ks
+
+abbrev pub aborted_by : CoreState → List ℕ → CoreState
+aborted_by c [] = c
+aborted_by c (k ∷ ks) = aborted_by (after c k Abort) ks
+
+-- the tree as it stands
+abbrev pub tree_now : CoreState → Tree
+tree_now c = tree_of cgroups c.opening c.history
+
+-- at the end these abort, and the tree is written
+abbrev pub ending_by : CoreState → List ℕ → List ℕ
+ending_by c ks = abort_lines c ks ++ world_text (tree_now (aborted_by c ks))
+
+-- at the end all that is still open is aborted
+abbrev pub ending_text : CoreState → List ℕ
+ending_text c = ending_by c (ending_sessions c.history)
+
+abbrev pub opened : Tree → ℕ → Replay
+opened T l = record { names = []; core = record { opening = T; bound = l; history = [] } }
+
+-- what is written for a schedule's text from here on
+pub record IsOutputFrom (s : Replay) (text out : List ℕ) : Type 0 where
+  pub answers : List ℕ
+  pub last : Replay
+  pub answered : AnswersAll s (lines_of text) answers last
+  pub whole : out ≡ answers ++ ending_text last.core
+
+-- what is written for a schedule's text, over a world and a limit of the history
+abbrev pub IsOutput : Tree → ℕ → List ℕ → List ℕ → Type 0
+IsOutput T l text out = IsOutputFrom (opened T l) text out
+
+-- the law of outputs: a text has one at most over a tree and a limit,
+abbrev pub OneOutput : Type 0
+OneOutput = (T : Tree) (limit : ℕ) (text a b : List ℕ) → IsOutput T limit text a → IsOutput T limit text b → a ≡ b
+
+-- and it can't have none
+abbrev pub SomeOutput : Type 0
+SomeOutput = (T : Tree) (limit : ℕ) (text : List ℕ) → ¬ ((out : List ℕ) → ¬ (IsOutput T limit text out))

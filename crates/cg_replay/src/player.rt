@@ -1,0 +1,180 @@
+//! A schedule being played: its sessions' names and the machine.
+ghost use Rattle.std.specs.Prelude.{◌≡◌, ◌≤◌, ◌<◌, ◌++◌, List, ℕ, MatchOption, IfOk, IfErr, OnOk, OnErr, length, take, true, false};
+ghost use Rattle.cg_name.specs.declared.refusal.Refusal.TheVariants.{Syntax};
+ghost use Rattle.std.specs.Option.{option_map};
+ghost use Rattle.cg_name.specs.Refusal.{refusal_text};
+ghost use Rattle.cg_history.specs.Meaning.{answer_of, request_of};
+ghost use Rattle.cg_model.specs.Opens.{opens};
+ghost use Rattle.cg_world_text.specs.World.{world_text};
+ghost use Rattle.cg_script.specs.Answer.{answer_text};
+ghost use Rattle.cg_replay.specs.Replay.{Answers, Asked, ending_text, opened, tree_now};
+ghost use Rattle.cg_script.specs.Request.{newline};
+ghost use Rattle.cg_script.specs.Turns.{session_number, with_name};
+
+use cg_core::{Answer, Core, Request, SessionId};
+use cg_name::{Refusal, or_truncate};
+use cg_script::{SessionName, read_line, write_answer};
+use cg_world::World;
+use cg_world_text::WriteWorld;
+use indexmap::IndexSet;
+use std::alloc::{AllocError, Global};
+use std::marker::Model;
+
+// The most session names of a schedule.
+const MOST_NAMES: usize = 4_096;
+
+/// The sessions of a schedule by the numbers of their names, and the machine that answers them.
+#[derive(Drop)]
+pub struct Player {
+    names: IndexSet<SessionName>,
+    core: Core,
+}
+
+impl Model for Player {
+    ghost use Rattle.std.specs.Prelude.{◌≤◌};
+    ghost use Rattle.indexmap.specs.IndexSet.{index_set_len};
+    ghost use Rattle.cg_replay.specs.Replay.{Replay};
+    ghost use Rattle.cg_replay.specs.ReplayCode.{replay_code};
+    ghost use Rattle.cg_replay.specs.Player.{IsReached};
+
+    ghost Value = { Replay };
+
+    ghost coded = { replay_code };
+
+    ghost view = { λ p. record { names = p.names.keys; core = p.core } };
+
+    ghost invariant = { λ p. (index_set_len p.names ≤ 4096) × IsReached p.core };
+}
+
+impl Player {
+    /// A player before the first line.
+    pub fn open(alloc: Global, world: World, limit: u32) -> Result<Player, AllocError>
+        requires low { 2 ≤ limit }
+        requires high { limit ≤ 1048576 }
+        ensures { IfOk result (λ p. p ≡ opened world limit) }
+    {
+        Ok(Player {
+            names: IndexSet::new(alloc),
+            core: Core::open(alloc, world, limit)?,
+        })
+    }
+
+    /// Answers a line, at the end of `out`: nothing for a line that says nothing. `Memory` is the only refusal, and
+    /// leaves `out` as it was.
+    pub fn answer(
+        &mut self,
+        alloc: Global,
+        line: &[u8],
+        out: &mut Vec<u8>,
+    ) -> Result<(), AllocError>
+        ensures ok { OnOk result ((written : List ℕ) × (out.new.items ≡ out.old.items ++ written) × Answers self.old line.now written self.new) }
+        ensures err { OnErr result (out.new.items ≡ out.old.items) }
+    {
+        match read_line(alloc, line) {
+            Ok(None) => Ok(()),
+            Ok(Some((name, request))) => self.ask(alloc, name, request, out),
+            Err(Refusal::Syntax) => refuse(out),
+            Err(_) => Err(AllocError),
+        }
+    }
+
+    /// Answers the end of the schedule, at the end of `out`: aborts what is open, the least number first, and shows the tree. `Memory`
+    /// is the only refusal, and leaves `out` as it was.
+    pub fn end(&mut self, alloc: Global, out: &mut Vec<u8>) -> Result<(), AllocError>
+        ensures ok { OnOk result (out.new.items ≡ out.old.items ++ ending_text self.old.core) }
+        ensures err { OnErr result (out.new.items ≡ out.old.items) }
+    {
+        let start = out.len();
+        let ended = self.append_end(alloc, out);
+        or_truncate(ended, start, out)
+    }
+
+    // The same, where an error leaves what stood there at the front.
+    fn append_end(&mut self, alloc: Global, out: &mut Vec<u8>) -> Result<(), AllocError>
+        ensures ok { OnOk result (out.new.items ≡ out.old.items ++ ending_text self.old.core) }
+        ensures kept { OnErr result (take (length out.old.items) out.new.items ≡ out.old.items) }
+    {
+        'ends: while self.append_abort(alloc, out)? {}
+        self.core.tree().write(out)
+    }
+
+    // Aborts the open transaction with the least number, and appends the answer's line. False where none is open.
+    fn append_abort(&mut self, alloc: Global, out: &mut Vec<u8>) -> Result<bool, AllocError>
+        ensures aborted { IfOk result (λ more. more ≡ true → (line : List ℕ) × (out.new.items ≡ out.old.items ++ line) × (ending_text self.old.core ≡ line ++ ending_text self.new.core)) }
+        ensures ended { IfOk result (λ more. more ≡ false → (self.new ≡ self.old) × (out.new.items ≡ out.old.items) × (ending_text self.old.core ≡ world_text (tree_now self.old.core))) }
+        ensures fewer { IfOk result (λ more. more ≡ true → length (opens self.new.core.history) < length (opens self.old.core.history)) }
+        ensures err { OnErr result (out.new.items ≡ out.old.items) }
+    {
+        let Some(session) = self.core.oldest() else {
+            return Ok(false);
+        };
+        let answer = self.core.step(alloc, session, Request::Abort);
+        end_line(&answer, out)?;
+        Ok(true)
+    }
+
+    // The session of this name, which gets the next number where it is new: none where it is one too many.
+    fn session(&mut self, name: SessionName) -> Result<Option<SessionId>, AllocError>
+        ensures number { IfOk result (λ s. option_map (λ k. k.0) s ≡ session_number self.old.names name) }
+        ensures names { IfOk result (λ s. MatchOption s (self.new ≡ self.old) (λ _. self.new ≡ record self.old { names = with_name self.old.names name })) }
+    {
+        if let Some(index) = self.names.get_index_of(&name) {
+            return Ok(Some(SessionId(index as u32 + 1)));
+        }
+        let count = self.names.len();
+        if count >= MOST_NAMES {
+            return Ok(None);
+        }
+        self.names.insert(name)?;
+        Ok(Some(SessionId(count as u32 + 1)))
+    }
+
+    // Answers a session's request.
+    fn ask(
+        &mut self,
+        alloc: Global,
+        name: SessionName,
+        request: Request,
+        out: &mut Vec<u8>,
+    ) -> Result<(), AllocError>
+        ensures ok { OnOk result ((written : List ℕ) × (out.new.items ≡ out.old.items ++ written) × Asked self.old name (request_of request) written self.new) }
+        ensures err { OnErr result (out.new.items ≡ out.old.items) }
+    {
+        let Some(session) = self.session(name)? else {
+            return refuse(out);
+        };
+        let answer = self.core.step(alloc, session, request);
+        if let Answer::Refused(Refusal::Memory) = answer {
+            return Err(AllocError);
+        }
+        end_line(&answer, out)
+    }
+}
+
+// Appends the line of an answer. An error leaves `out` as it was.
+fn end_line(answer: &Answer, out: &mut Vec<u8>) -> Result<(), AllocError>
+    ensures ok { OnOk result (out.new.items ≡ out.old.items ++ (answer_text (answer_of answer.now) ++ newline)) }
+    ensures err { OnErr result (out.new.items ≡ out.old.items) }
+{
+    let start = out.len();
+    let written = append_line(answer, out);
+    or_truncate(written, start, out)
+}
+
+// The same, where an error leaves what stood there at the front.
+fn append_line(answer: &Answer, out: &mut Vec<u8>) -> Result<(), AllocError>
+    ensures ok { OnOk result (out.new.items ≡ out.old.items ++ (answer_text (answer_of answer.now) ++ newline)) }
+    ensures kept { OnErr result (take (length out.old.items) out.new.items ≡ out.old.items) }
+{
+    write_answer(answer, out)?;
+    out.push(b'\n')?;
+    Ok(())
+}
+
+/// Appends the answer to a line outside the grammar. An error, where there is no memory for it, leaves `out` as it was.
+pub fn refuse(out: &mut Vec<u8>) -> Result<(), AllocError>
+    ensures ok { OnOk result (out.new.items ≡ out.old.items ++ (refusal_text Syntax ++ newline)) }
+    ensures err { OnErr result (out.new.items ≡ out.old.items) }
+{
+    end_line(&Answer::Refused(Refusal::Syntax), out)
+}

@@ -1,0 +1,25 @@
+-- What is told of equal options and lists, and of outcomes.
+use Rattle.std.proofs.Common.{◌≡◌, List, [], ◌∷◌, Some, None, Result, Ok, Err, OnOk}
+
+pub some_same : {X : Type 0} {x y : X} → Some x ≡ Some y → x ≡ y
+some_same e = cc
+
+pub some_none : {X : Type 0} {x : X} → Some x ≡ None → ⊥
+some_none e = cc
+
+pub none_some : {X : Type 0} {x : X} → None ≡ Some x → ⊥
+none_some e = cc
+
+pub head_same : {X : Type 0} {x y : X} {xs ys : List X} → x ∷ xs ≡ y ∷ ys → x ≡ y
+head_same e = cc
+
+pub rest_same : {X : Type 0} {x y : X} {xs ys : List X} → x ∷ xs ≡ y ∷ ys → xs ≡ ys
+rest_same e = cc
+
+pub cons_nil : {X : Type 0} {x : X} {xs : List X} → x ∷ xs ≡ [] → ⊥
+cons_nil e = cc
+
+-- what follows from what holds of an outcome that is no error
+pub on_ok_map : {A E P Q : Type 0} (r : Result A E) → (P → Q) → OnOk r P → OnOk r Q
+on_ok_map (Ok x) f p = f p
+on_ok_map (Err e) f p = tt

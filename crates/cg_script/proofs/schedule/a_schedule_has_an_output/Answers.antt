@@ -1,5 +1,0 @@
-use Rattle.cg_script.proofs.OneOutput.{some_output}
-use Rattle.cg_script.proofs.schedule.a_schedule_has_an_output.Goals as goal
-
-pub returns : goal.returns
-returns c = some_output

@@ -1,5 +1,0 @@
-use Rattle.cg_script.proofs.MachineOutputs.{outputs_are_the_machines}
-use Rattle.cg_script.proofs.schedule.outputs_are_the_machines.Goals as goal
-
-pub returns : goal.returns
-returns c = outputs_are_the_machines
