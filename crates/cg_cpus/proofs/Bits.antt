@@ -5,6 +5,7 @@ use Rattle.std.specs.List.{AllByRecursion, list_all}
 use Rattle.std.proofs.lemmas.Nat.{or_lt}
 use Rattle.std.proofs.lemmas.Nat.Bits.{shr_and_one, bit_at-zero, bit_at_set_same, bit_at_set_other}
 use Rattle.std.proofs.lemmas.List.{get_or-set_same, get_or-set_other, length-set, get_or_past}
+use Rattle.std.proofs.lemmas.Bool.{and_parts}
 use Rattle.std.proofs.lemmas.Bool.Decides.{nat_tests}
 use Rattle.std.specs.Int.{w64}
 use Rattle.cg_maps.specs.FiniteSet.{FiniteSet, has, members, is_empty_set, no_members, with_member}
@@ -127,18 +128,10 @@ no_word = refl
 
 all_zeros : (xs : List ℕ) → list_all (λ w. w == 0) xs ≡ true → AllByRecursion (λ x. x ≡ 0) xs
 all_zeros [] h = tt
-all_zeros (x ∷ xs) h = (is_zero (first (x == 0) _ h), all_zeros xs (second (x == 0) _ h))
+all_zeros (x ∷ xs) h = (is_zero (and_parts (x == 0) _ h).0, all_zeros xs (and_parts (x == 0) _ h).1)
   where
     is_zero : {x : ℕ} → (x == 0) ≡ true → x ≡ 0
     is_zero e = grind (arith, nat_tests)
-
-    first : (a b : Bool) → (a && b) ≡ true → a ≡ true
-    first true b h = refl
-    first false b h = h
-
-    second : (a b : Bool) → (a && b) ≡ true → b ≡ true
-    second true b h = h
-    second false b h = absurd (true≢false (sym h))
 
 none : is_empty_set no_members ≡ true
 unfolding members keys empty

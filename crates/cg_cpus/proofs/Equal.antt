@@ -1,25 +1,17 @@
 -- Sets are equal where their words, or their members, are.
 use Rattle.std.proofs.Common.{◌≡◌, ℕ, ◌==◌, Bool, true, false, ◌&&◌, nat_eq, List, [], ◌∷◌, refl, sym, ap, ◌∙◌, true≢false}
 use Rattle.std.specs.Cmp.Lexicographic.{pointwise}
-use Rattle.std.proofs.lemmas.Bool.{eqb-true, eq-eqb}
+use Rattle.std.proofs.lemmas.Bool.{and_parts, eqb-true, eq-eqb}
 use Rattle.cg_maps.specs.FiniteSet.{FiniteSet, members, set_of}
 use Rattle.cg_maps.proofs.Sets.{set_of-members}
 use Rattle.cg_cpus.specs.Words.{AreWords, set_in, words_of}
 use Rattle.cg_cpus.specs.WordsBack.{words_back}
 
-first : (a b : Bool) → (a && b) ≡ true → a ≡ true
-first true b h = refl
-first false b h = h
-
-second : (a b : Bool) → (a && b) ≡ true → b ≡ true
-second true b h = h
-second false b h = absurd (true≢false (sym h))
-
 pub same_numbers : (xs ys : List ℕ) → pointwise nat_eq xs ys ≡ true → xs ≡ ys
 same_numbers [] [] h = refl
 same_numbers [] (y ∷ ys) h = absurd (true≢false (sym h))
 same_numbers (x ∷ xs) [] h = absurd (true≢false (sym h))
-same_numbers (x ∷ xs) (y ∷ ys) h = λ i. eqb-true x y (first (x == y) _ h) i ∷ same_numbers xs ys (second (x == y) _ h) i
+same_numbers (x ∷ xs) (y ∷ ys) h = λ i. eqb-true x y (and_parts (x == y) _ h).0 i ∷ same_numbers xs ys (and_parts (x == y) _ h).1 i
 
 -- sets that compare equal are equal
 pub equal_sets : (s t : FiniteSet) → pointwise nat_eq (members s) (members t) ≡ true → s ≡ t

@@ -1,5 +1,5 @@
 -- A `BTreeMap` as the finite map of its entries, `from_entries R m.entries`.
-use Rattle.std.proofs.Common.{◌≡◌, Bool, true, false, cond, ◌&&◌, T, length, List, [], ◌∷◌, refl, sym, ap, subst, ◌∙◌, Option, Some, None, Less}
+use Rattle.std.proofs.Common.{◌≡◌, cond, T, length, List, [], ◌∷◌, refl, sym, ap, subst, ◌∙◌, Option, Some, None, Less}
 use Rattle.std.specs.Ordering.{eq_by_cmp, is_lt}
 use Rattle.std.specs.declared.cmp.Ordering.{Ordering}
 use Rattle.std.specs.Cmp.{IsTotalOrder, eq_by_cmp_equiv}

@@ -1,5 +1,5 @@
 -- A reserved name is a directory, its parent, or that of an interface file.
-use Rattle.std.proofs.Common.{◌≡◌, ℕ, ◌<◌, Bool, true, false, List, [], ◌∷◌, map, get_or, Result, Ok, Err, IfOk, IfErr, IsTrue, ◌↔◌, sym, ap, ◌∙◌, lit<, codes, arith, true≢false}
+use Rattle.std.proofs.Common.{◌≡◌, ℕ, ◌<◌, Bool, List, [], ◌∷◌, map, get_or, Result, Ok, Err, IfOk, IfErr, IsTrue, ◌↔◌, sym, ap, ◌∙◌, lit<, codes, arith, true≢false}
 use Rattle.std.specs.List.{Contains}
 use Rattle.std.specs.Result.{IsErrOf, is_ok}
 use Rattle.std.proofs.lemmas.Map.Made.{Contains-tail}
