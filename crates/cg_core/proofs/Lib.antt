@@ -1,7 +1,6 @@
 mod AtHistory
 mod Begun
-mod EndingByAbort
-mod EndingByCommit
+mod EndingBy
 mod Endings
 mod Open
 mod Opened

@@ -3,6 +3,7 @@ pub mod Answers
 pub mod Code
 pub mod Core
 pub mod Doing
+pub mod Ending
 pub mod Parts
 pub mod Refusing
 pub mod Settled

@@ -16,6 +16,7 @@ ghost use Rattle.cg_model.specs.Run.{tree_of};
 ghost use Rattle.cg_model.specs.Sound.{Sound};
 
 use crate::answers::twice;
+use crate::ending::Ending;
 use cg_history::{Answer, History, Record, Request, SessionId, SessionMap};
 use cg_locks::LockTable;
 use cg_name::TxnNumber;
@@ -178,8 +179,8 @@ impl Core {
             Request::Save(name) => twice(self.save(session, name)),
             Request::Back(name) => twice(self.back(session, name)),
             Request::Undo => twice(self.undo(session)),
-            Request::Commit => twice(self.commit(session)),
-            Request::Abort => twice(self.abort(session)),
+            Request::Commit => twice(self.end(session, Ending::Commit)),
+            Request::Abort => twice(self.end(session, Ending::Abort)),
         }
     }
 
