@@ -1,26 +1,22 @@
 -- What a run does: it reads a world, plays a schedule over it, and tells how it ended.
-use Rattle.std.specs.Prelude.{◌⊎◌, ℕ, List, [], ◌∷◌, ◌++◌, Option, Some, None, IfSome}
+use Rattle.std.specs.Prelude.{◌⊎◌, ℕ, List, Option, Some, None, IfSome}
 use Rattle.std.specs.Io.KnownBytes.{Appends}
-use Rattle.cg_name.specs.Refusal.{refusal_text}
 use Rattle.cg_model.specs.Tree.{Tree}
 use Rattle.cg_lines.specs.Device.{AppendsFront, Failed}
-use Rattle.cg_script.specs.Fault.{refusal_of}
 use Rattle.cg_lines.specs.Lines.{Reading, pending, CanBreak}
-use Rattle.cg_replay.specs.Replay.{IsOutput}
+use Rattle.cg_script.specs.Fault.{refusal_of}
 use Rattle.cg_script.specs.WorldPart.{ReadsWorld}
 use Rattle.cg_script.specs.declared.fault.ScriptFault.{ScriptFault}
-use Rattle.cg_script.specs.declared.fault.ScriptFault.TheVariants.{Syntax, Memory, ReadFault, WriteFault}
+use Rattle.cg_replay.specs.Replay.{IsOutput}
+use Rattle.cg_program.specs.Status.{refusal_line, status_where}
 
 -- the exit status of a run that stopped
 abbrev pub status_of : ScriptFault → ℕ
-status_of Syntax = 2
-status_of Memory = 3
-status_of ReadFault = 3
-status_of WriteFault = 3
+status_of fault = status_where (refusal_of fault)
 
 -- the line that tells of it
 abbrev pub fault_line : ScriptFault → List ℕ
-fault_line fault = refusal_text (refusal_of fault) ++ 10 ∷ []
+fault_line fault = refusal_line (refusal_of fault)
 
 -- the text of the schedule: what stands behind the world where it has no reader of its own
 abbrev pub schedule_text : Option Reading → Option (List ℕ) → Option (List ℕ)

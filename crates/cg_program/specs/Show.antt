@@ -1,8 +1,7 @@
 -- What a run shows: an interface file of a group, in the world at the head of a text.
-use Rattle.std.specs.Prelude.{◌≡◌, ◌⊎◌, ℕ, List, [], ◌∷◌, ◌++◌, Option, IfSome, Result, Ok, Err, ⊤}
+use Rattle.std.specs.Prelude.{◌≡◌, ◌⊎◌, ℕ, List, Option, IfSome, Result, Ok, Err, ⊤}
 use Rattle.cg_name.specs.FileName.{file_word}
 use Rattle.cg_name.specs.Path.{Path, SpellsPath}
-use Rattle.cg_name.specs.Refusal.{refusal_text}
 use Rattle.cg_name.specs.declared.file_name.FileName.{FileName}
 use Rattle.cg_name.specs.declared.refusal.Refusal.{Refusal}
 use Rattle.cg_name.specs.declared.refusal.Refusal.TheVariants.{Syntax, NoGroup, NoFile, Memory, ReadFault, WriteFault}
@@ -36,14 +35,3 @@ WhyNotShown world path name Memory = ⊤
 WhyNotShown world path name ReadFault = ⊤
 WhyNotShown world path name WriteFault = (text : List ℕ) × Finds world path name (Ok text)
 WhyNotShown world path name _ = ⊥
-
--- the exit status of a run that is refused as a whole
-abbrev pub status_where : Refusal → ℕ
-status_where Syntax = 2
-status_where NoGroup = 2
-status_where NoFile = 2
-status_where _ = 3
-
--- the line that tells of it
-abbrev pub refusal_line : Refusal → List ℕ
-refusal_line refusal = refusal_text refusal ++ 10 ∷ []

@@ -2,8 +2,7 @@
 ghost use Rattle.std.specs.Prelude.{◌≡◌};
 ghost use Rattle.cg_program.specs.Fault.{of_run_fault, refusal_of_fault};
 ghost use Rattle.cg_program.specs.Program.{WritesUnlessFailed};
-ghost use Rattle.cg_program.specs.Show.{refusal_line, status_where};
-ghost use Rattle.cg_program.specs.Status.{code_of};
+ghost use Rattle.cg_program.specs.Status.{code_of, refusal_line, status_where};
 ghost use Rattle.cg_program.specs.declared.fault.ProgramFault.TheVariants.{Stopped};
 ghost use Rattle.cg_script.specs.declared.fault.ScriptFault.TheVariants.{Memory};
 

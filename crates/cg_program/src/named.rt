@@ -11,7 +11,8 @@ ghost use Rattle.cg_script.specs.declared.fault.ScriptFault.{ScriptFault};
 ghost use Rattle.cg_script.specs.declared.fault.ScriptFault.TheVariants as faults;
 ghost use Rattle.cg_program.specs.Named.{is_standard, named, DoneOverNamed};
 ghost use Rattle.cg_program.specs.Program.{status_of, fault_line, Plays, Stops, WritesUnlessFailed};
-ghost use Rattle.cg_program.specs.Show.{status_where, refusal_line, Finds, WhyNotShown};
+ghost use Rattle.cg_program.specs.Show.{Finds, WhyNotShown};
+ghost use Rattle.cg_program.specs.Status.{status_where, refusal_line};
 
 use crate::inputs::Inputs;
 use crate::replaying::{replay_to, stop};

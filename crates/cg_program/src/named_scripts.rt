@@ -4,7 +4,7 @@ ghost use Rattle.std.specs.Io.KnownBytes.{Appends};
 ghost use Rattle.cg_name.specs.declared.refusal.Refusal.{Refusal};
 ghost use Rattle.cg_program.specs.Batch.{AreTexts, Tells};
 ghost use Rattle.cg_program.specs.Program.{WritesUnlessFailed};
-ghost use Rattle.cg_program.specs.Show.{refusal_line, status_where};
+ghost use Rattle.cg_program.specs.Status.{refusal_line, status_where};
 
 use crate::inputs::Inputs;
 use crate::named::open_reader;

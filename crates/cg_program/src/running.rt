@@ -10,7 +10,7 @@ ghost use Rattle.cg_script.specs.declared.fault.ScriptFault.TheVariants as fault
 ghost use Rattle.cg_runner.specs.Closed.{IsClosed};
 ghost use Rattle.cg_program.specs.Batch.{AppendsGiven, EndSo, SomeSpellsNone, Tells, batch_text};
 ghost use Rattle.cg_program.specs.Program.{WritesUnlessFailed};
-ghost use Rattle.cg_program.specs.Show.{refusal_line, status_where};
+ghost use Rattle.cg_program.specs.Status.{refusal_line, status_where};
 ghost use Rattle.cg_program.specs.declared.fault.ProgramFault.TheVariants.{NoFile, NoGroup, Stopped};
 
 use crate::ends::lines_of;

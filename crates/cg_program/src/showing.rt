@@ -11,7 +11,8 @@ ghost use Rattle.cg_lines.specs.Lines.{pending};
 ghost use Rattle.cg_script.specs.WorldPart.{HasNoWorld};
 ghost use Rattle.cg_script.specs.declared.fault.ScriptFault.TheVariants as faults;
 ghost use Rattle.cg_program.specs.Program.{IsBroken, WritesUnlessFailed};
-ghost use Rattle.cg_program.specs.Show.{status_where, refusal_line, Finds, IsFileOf, NamesNoFile, SpellsNoPath, WhyNotShown};
+ghost use Rattle.cg_program.specs.Show.{Finds, IsFileOf, NamesNoFile, SpellsNoPath, WhyNotShown};
+ghost use Rattle.cg_program.specs.Status.{status_where, refusal_line};
 ghost use Rattle.cg_program.specs.Fault.{refusal_of_fault};
 
 use crate::fault::ProgramFault;
