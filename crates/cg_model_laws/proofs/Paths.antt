@@ -2,8 +2,8 @@
 use Rattle.std.proofs.Common.{◌≡◌, Bool, true, false, ◌&&◌, ◌||◌, [], ◌∷◌, ◌≢◌, ◌⊎◌, refl, sym, subst, ◌∙◌, true≢false}
 use Rattle.std.proofs.lemmas.Bool.{false≢true, and_parts, and_from, or_left}
 use Rattle.cg_maps.proofs.Maps as maps
-use Rattle.cg_name.specs.Name.{Name, same_name}
-use Rattle.cg_name.specs.Order.{name_cmp_total, name_cmp_exact, path_cmp_total, path_cmp_exact}
+use Rattle.cg_name.specs.Name.{same_name}
+use Rattle.cg_name.specs.Order.{path_cmp_total, path_cmp_exact}
 use Rattle.cg_name.specs.Path.{Path, same_path, is_prefix, comparable, is_above, is_parent, along}
 use Rattle.cg_name.proofs.Packing.{same_name-is, same_name-itself}
 

@@ -1,5 +1,6 @@
 -- At the end of a schedule the open transaction with the least number is aborted, and then the others in turn.
 use Rattle.std.proofs.Common.{◌≡◌, ℕ, ◌<◌, ◌==◌, true, false, Bool, cond, List, [], ◌∷◌, ◌++◌, length, map, reverse, get_or, Option, Some, None, refl, sym, ap, subst, ◌∙◌, arith, append_assoc, length-append, ne_eqb}
+use Rattle.std.proofs.lemmas.Option.{none-some, same_Some}
 use Rattle.std.proofs.lemmas.Bool.{eq-eqb}
 use Rattle.std.specs.List.{AllByRecursion}
 use Rattle.std.proofs.lemmas.List.{reverse-append}
@@ -19,7 +20,7 @@ use Rattle.cg_core_laws.proofs.ControlGroups.SteppingOn.{steps_by_history}
 use Rattle.cg_core_laws.proofs.Interleaving.AbortsAtTheEnd.{ends_all}
 use Rattle.cg_core.specs.State.{CoreState, machine, reply, after}
 use Rattle.cg_history.specs.SessionMap.{oldest}
-use Rattle.cg_script.proofs.Facts.{some_same, none_some, cons_nil}
+use Rattle.cg_script.proofs.Facts.{cons_nil}
 use Rattle.cg_world_text.specs.World.{world_text}
 use Rattle.cg_replay.specs.Player.{IsReached}
 use Rattle.cg_replay.specs.Replay.{answer_line, ending_sessions, abort_lines, aborted_by, tree_now, ending_by, ending_text}
@@ -33,13 +34,13 @@ pub record IsLast (ps : Opens) (s : ℕ) : Type 0 where
   pub all : ps ≡ others ++ (s, number) ∷ []
 
 pub last_of : (ps : Opens) (s : ℕ) → oldest ps ≡ Some s → IsLast ps s
-last_of [] s e = absurd (none_some e)
-last_of (x ∷ []) s e = record { others = []; number = x.1; all = ap (λ k. (k, x.1) ∷ []) (some_same e) }
+last_of [] s e = absurd (none-some _ e)
+last_of (x ∷ []) s e = record { others = []; number = x.1; all = ap (λ k. (k, x.1) ∷ []) (same_Some _ _ e) }
 last_of (x ∷ y ∷ xs) s e = let l = last_of (y ∷ xs) s e in record { others = x ∷ l.others; number = l.number; all = ap (λ ps. x ∷ ps) l.all }
 
 pub none_open : (ps : Opens) → oldest ps ≡ None → ps ≡ []
 none_open [] e = refl
-none_open (x ∷ []) e = absurd (none_some (sym e))
+none_open (x ∷ []) e = absurd (none-some _ (sym e))
 none_open (x ∷ y ∷ xs) e = absurd (cons_nil (none_open (y ∷ xs) e))
 
 last_below : (n : ℕ) (others : Opens) (s t : ℕ) → AllByRecursion (λ m. m < n) (numbers (others ++ (s, t) ∷ [])) → t < n

@@ -1,5 +1,6 @@
 -- The text of a history, replayed: the lines of a text are one row of turns, and so its output is known.
 use Rattle.std.proofs.Common.{◌≡◌, ℕ, List, [], ◌∷◌, ◌++◌, Some, None, refl, sym, ap, subst, ◌∙◌}
+use Rattle.std.proofs.lemmas.Option.{none-some, same_Some}
 use Rattle.cg_text.specs.Words.{lines_of}
 use Rattle.cg_model.specs.Cgroups.{cgroups}
 use Rattle.cg_model.specs.History.{Request, Answer}
@@ -15,7 +16,6 @@ use Rattle.cg_script.specs.Request.{newline}
 use Rattle.cg_script.proofs.HistoryTurns.{histories_are_read}
 use Rattle.cg_replay.proofs.MachineOutputs.{outputs_are_the_machines}
 use Rattle.cg_script.proofs.OneLine.{line_one}
-use Rattle.cg_script.proofs.Facts.{some_same, none_some}
 
 -- ---- lines are one row of turns
 
@@ -25,17 +25,17 @@ IsSame t u b c = (t ≡ u) × (b ≡ c)
 
 turn_one : (names : List (List ℕ)) (line : List ℕ) (t u : Turn) (b c : List (List ℕ)) → IsTurn names line t b → IsTurn names line u c → IsSame t u b c
 turn_one names line Skip Skip b c h k = (refl, h.1 ∙ sym k.1)
-turn_one names line Skip (Ask j q) b c h k = absurd (none_some (line_one line None (Some (k.0, q)) h.0 k.1))
+turn_one names line Skip (Ask j q) b c h k = absurd (none-some _ (line_one line None (Some (k.0, q)) h.0 k.1))
 turn_one names line Skip Fail b c h k = absurd (k.0 None h.0)
-turn_one names line (Ask i r) Skip b c h k = absurd (none_some (line_one line None (Some (h.0, r)) k.0 h.1))
+turn_one names line (Ask i r) Skip b c h k = absurd (none-some _ (line_one line None (Some (h.0, r)) k.0 h.1))
 turn_one names line (Ask i r) (Ask j q) b c h k =
-    let call : (h.0, r) ≡ (k.0, q) = some_same (line_one line (Some (h.0, r)) (Some (k.0, q)) h.1 k.1) in
+    let call : (h.0, r) ≡ (k.0, q) = same_Some _ _ (line_one line (Some (h.0, r)) (Some (k.0, q)) h.1 k.1) in
     let name : h.0 ≡ k.0 = ap (λ (p : List ℕ × Request cgroups). p.0) call in
-    let number : i ≡ j = some_same (sym h.2 ∙ ap (session_number names) name ∙ k.2) in
+    let number : i ≡ j = same_Some _ _ (sym h.2 ∙ ap (session_number names) name ∙ k.2) in
     ((λ x. Ask (number x) (call x).1), h.3 ∙ ap (with_name names) name ∙ sym k.3)
-turn_one names line (Ask i r) Fail b c h k = absurd (none_some (sym (k.0 (Some (h.0, r)) h.1) ∙ h.2))
+turn_one names line (Ask i r) Fail b c h k = absurd (none-some _ (sym (k.0 (Some (h.0, r)) h.1) ∙ h.2))
 turn_one names line Fail Skip b c h k = absurd (h.0 None k.0)
-turn_one names line Fail (Ask j q) b c h k = absurd (none_some (sym (h.0 (Some (k.0, q)) k.1) ∙ k.2))
+turn_one names line Fail (Ask j q) b c h k = absurd (none-some _ (sym (h.0 (Some (k.0, q)) k.1) ∙ k.2))
 turn_one names line Fail Fail b c h k = (refl, h.1 ∙ sym k.1)
 
 pub turns_one : (lines : List (List ℕ)) (names : List (List ℕ)) (ts us : List Turn) → AreTurns names lines ts → AreTurns names lines us → ts ≡ us

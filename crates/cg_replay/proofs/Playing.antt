@@ -1,5 +1,6 @@
 -- A schedule that is played line by line gives its output, and nothing else.
 use Rattle.std.proofs.Common.{◌≡◌, ℕ, ◌≤◌, List, [], ◌∷◌, ◌++◌, length, Some, None, Option, IfSome, refl, sym, ap, subst, ◌∙◌, inl, inr, arith, append_assoc, append-nil, Result, Ok, Err, OnOk, OnErr, true, false, true≢false}
+use Rattle.std.proofs.lemmas.Option.{none-some, same_Some}
 use Rattle.std.specs.Result.{is_err}
 use Rattle.std.specs.Io.KnownBytes.{Appends, Keeps}
 use Rattle.cg_name.specs.Refusal.{refusal_text}
@@ -17,26 +18,25 @@ use Rattle.cg_script.specs.Turns.{session_number, with_name, IsOneTooMany}
 use Rattle.cg_lines.proofs.DeviceLemmas.{Appends-nil, AppendsFront-nil, AppendsTo-front, AppendsTo-longer, AppendsTo-on, AppendsTo-behind, AppendsTo-whole, Gathered-more}
 use Rattle.cg_lines.proofs.LinesLaw.{lines_of-begins, lines_of-nil}
 use Rattle.cg_script.proofs.OneLine.{line_one}
-use Rattle.cg_script.proofs.Facts.{some_same, none_some}
 
 -- ---- a line has one answer
 
 pub answers_one : (s t u : Replay) (line a b : List ℕ) → Answers s line a t → Answers s line b u → (a ≡ b) × (t ≡ u)
 answers_one s t u line a b (inl h) (inl k) = (h.1 ∙ sym k.1, h.2 ∙ sym k.2)
-answers_one s t u line a b (inl h) (inr (inl k)) = absurd (none_some (line_one line None (Some (k.0, k.1)) h.0 k.3))
+answers_one s t u line a b (inl h) (inr (inl k)) = absurd (none-some _ (line_one line None (Some (k.0, k.1)) h.0 k.3))
 answers_one s t u line a b (inl h) (inr (inr k)) = absurd (k.0 None h.0)
-answers_one s t u line a b (inr (inl h)) (inl k) = absurd (none_some (line_one line None (Some (h.0, h.1)) k.0 h.3))
+answers_one s t u line a b (inr (inl h)) (inl k) = absurd (none-some _ (line_one line None (Some (h.0, h.1)) k.0 h.3))
 answers_one s t u line a b (inr (inl h)) (inr (inl k)) =
-    let call : ◌≡◌ {A = List ℕ × Request cgroups} (h.0, h.1) (k.0, k.1) = some_same (line_one line (Some (h.0, h.1)) (Some (k.0, k.1)) h.3 k.3) in
+    let call : ◌≡◌ {A = List ℕ × Request cgroups} (h.0, h.1) (k.0, k.1) = same_Some _ _ (line_one line (Some (h.0, h.1)) (Some (k.0, k.1)) h.3 k.3) in
     let name : h.0 ≡ k.0 = ap (λ c. c.0) call in
     let request : h.1 ≡ k.1 = ap (λ c. c.1) call in
-    let number : h.2 ≡ k.2 = some_same (sym h.4.0 ∙ ap (session_number s.names) name ∙ k.4.0) in (
+    let number : h.2 ≡ k.2 = same_Some _ _ (sym h.4.0 ∙ ap (session_number s.names) name ∙ k.4.0) in (
       h.4.1 ∙ (λ i. answer_line s.core (number i) (request i)) ∙ sym k.4.1,
       h.4.2 ∙ (λ i. record { names = with_name s.names (name i); core = after s.core (number i) (request i) }) ∙ sym k.4.2,
     )
-answers_one s t u line a b (inr (inl h)) (inr (inr k)) = absurd (none_some (sym (k.0 (Some (h.0, h.1)) h.3) ∙ h.4.0))
+answers_one s t u line a b (inr (inl h)) (inr (inr k)) = absurd (none-some _ (sym (k.0 (Some (h.0, h.1)) h.3) ∙ h.4.0))
 answers_one s t u line a b (inr (inr h)) (inl k) = absurd (h.0 None k.0)
-answers_one s t u line a b (inr (inr h)) (inr (inl k)) = absurd (none_some (sym (h.0 (Some (k.0, k.1)) k.3) ∙ k.4.0))
+answers_one s t u line a b (inr (inr h)) (inr (inl k)) = absurd (none-some _ (sym (h.0 (Some (k.0, k.1)) k.3) ∙ k.4.0))
 answers_one s t u line a b (inr (inr h)) (inr (inr k)) = (h.1 ∙ sym k.1, h.2 ∙ sym k.2)
 
 -- what a session's request is answered, the line is answered

@@ -1,5 +1,6 @@
 -- A line spells one call at most, and so has one answer at most.
 use Rattle.std.proofs.Common.{◌≡◌, ◌⊎◌, ◌==◌, ℕ, cond, codes, get_or, List, [], ◌∷◌, Option, Some, None, refl, sym, ap, subst, ◌∙◌, inl, inr}
+use Rattle.std.proofs.lemmas.Option.{none-some, same_Some}
 use Rattle.cg_text.proofs.Cuts.{one_saying}
 use Rattle.cg_text.specs.Words.{Word, Says}
 use Rattle.cg_command_text.specs.CommandText.{SpellsCommand}
@@ -9,7 +10,7 @@ use Rattle.cg_model.specs.Cgroups.{cgroups}
 use Rattle.cg_model.specs.Command.{Command}
 use Rattle.cg_model.specs.History.{Request, Begin, Do, Save, Back, Undo, Commit, Abort}
 use Rattle.cg_script.specs.Request.{SpellsRequest, SpellsCall, SpellsLine}
-use Rattle.cg_script.proofs.Facts.{some_same, some_none, head_same, rest_same}
+use Rattle.cg_script.proofs.Facts.{head_same, rest_same}
 
 -- the third byte of the first word, which tells the words of requests without a command apart
 abbrev third : List Word → ℕ
@@ -45,7 +46,7 @@ both_are : (ws : List Word) (r q : Request cgroups) → IsOfCommand ws r ⊎ IsW
 both_are ws r q (inl a) (inl b) = a.1 ∙ ap (λ c. Do c) (one_command ws a.0 b.0 a.2 b.2) ∙ sym b.1
 both_are ws r q (inl a) (inr b) = absurd (b.0 a.0 a.2)
 both_are ws r q (inr a) (inl b) = absurd (a.0 b.0 b.2)
-both_are ws r q (inr a) (inr b) = some_same (sym a.1 ∙ b.1)
+both_are ws r q (inr a) (inr b) = same_Some _ _ (sym a.1 ∙ b.1)
 
 pub request_one : (ws : List Word) (r q : Request cgroups) → SpellsRequest ws r → SpellsRequest ws q → r ≡ q
 request_one ws r q a b = both_are ws r q (request_is ws r a) (request_is ws q b)
@@ -58,10 +59,10 @@ call_one ws n m r q a b =
 
 pub line_one : (line : List ℕ) (c d : Option (List ℕ × Request cgroups)) → SpellsLine line c → SpellsLine line d → c ≡ d
 line_one line None None a b = refl
-line_one line None (Some d) a b = absurd (some_none (one_saying line (Some b.0) None b.1 a))
-line_one line (Some c) None a b = absurd (some_none (one_saying line (Some a.0) None a.1 b))
+line_one line None (Some d) a b = absurd (none-some _ (sym (one_saying line (Some b.0) None b.1 a)))
+line_one line (Some c) None a b = absurd (none-some _ (sym (one_saying line (Some a.0) None a.1 b)))
 line_one line (Some c) (Some d) a b =
-    let words : a.0 ≡ b.0 = some_same (one_saying line (Some a.0) (Some b.0) a.1 b.1) in
+    let words : a.0 ≡ b.0 = same_Some _ _ (one_saying line (Some a.0) (Some b.0) a.1 b.1) in
     ap (λ x. Some x) (call_one a.0 c.0 d.0 c.1 d.1 a.2 (subst (λ ws. SpellsCall ws d.0 d.1) (sym words) b.2))
 
 -- a line in the grammar says something that a line may
@@ -71,7 +72,7 @@ says_of line (Some c) h = (Some h.0, h.1)
 
 -- the words that a line says spell what the line spells
 pub call_of : (line : List ℕ) (ws : List Word) (call : Option (List ℕ × Request cgroups)) → Says line (Some ws) → SpellsLine line call → (c : List ℕ × Request cgroups) × (call ≡ Some c) × SpellsCall ws c.0 c.1
-call_of line ws None says h = absurd (some_none (one_saying line (Some ws) None says h))
+call_of line ws None says h = absurd (none-some _ (sym (one_saying line (Some ws) None says h)))
 call_of line ws (Some c) says h =
-    let words : h.0 ≡ ws = some_same (one_saying line (Some h.0) (Some ws) h.1 says) in
+    let words : h.0 ≡ ws = same_Some _ _ (one_saying line (Some h.0) (Some ws) h.1 says) in
     (c, refl, subst (λ ws. SpellsCall ws c.0 c.1) words h.2)

@@ -1,5 +1,6 @@
 -- What the lines of a script ask for.
 use Rattle.std.proofs.Common.{◌≡◌, ℕ, suc, ◌≤◌, Bool, true, false, List, [], ◌∷◌, ◌++◌, length, map, Option, Some, None, refl, sym, ap, subst, ◌∙◌, inl, inr, arith, append-nil}
+use Rattle.std.proofs.lemmas.Option.{none-some, same_Some}
 use Rattle.std.specs.List.{AllByRecursion, slice_split}
 use Rattle.cg_text.specs.Words.{Line, Word, Says, SayAll, is_newline, lines_of, without_empty_last}
 use Rattle.cg_text.proofs.Cuts.{one_saying}
@@ -13,7 +14,7 @@ use Rattle.cg_script.specs.Request.{SpellsRequest, CanBeAsked}
 use Rattle.cg_script.specs.Script.{IsScriptRequest, AreScriptRequests, SaysRequest, SayRequests, last_request, SpellsScript, OneScript, ScriptsCanBeAsked}
 use Rattle.cg_script.specs.ScriptLines.{IsNoScript}
 use Rattle.cg_script.proofs.OneLine.{request_one}
-use Rattle.cg_script.proofs.Facts.{some_same, some_none, head_same, rest_same, cons_nil}
+use Rattle.cg_script.proofs.Facts.{head_same, rest_same, cons_nil}
 
 abbrev Requests : Type 0
 Requests = List (Request cgroups)
@@ -22,13 +23,13 @@ Requests = List (Request cgroups)
 
 -- a line that says these words says the request that they spell, and nothing else
 pub says_that : (line : Line) (ws : List Word) (r : Request cgroups) → Says line (Some ws) → SaysRequest line r → SpellsRequest ws r
-says_that line ws r says h = subst (λ vs. SpellsRequest vs r) (some_same (one_saying line (Some h.0) (Some ws) h.1 says)) h.2
+says_that line ws r says h = subst (λ vs. SpellsRequest vs r) (same_Some _ _ (one_saying line (Some h.0) (Some ws) h.1 says)) h.2
 
 says_one : (line : Line) (r q : Request cgroups) → SaysRequest line r → SaysRequest line q → r ≡ q
 says_one line r q h k = request_one h.0 r q h.2 (says_that line h.0 q h.1 k)
 
 says_something : (line : Line) (r : Request cgroups) → Says line None → SaysRequest line r → ⊥
-says_something line r none h = some_none (one_saying line (Some h.0) None h.1 none)
+says_something line r none h = none-some _ (sym (one_saying line (Some h.0) None h.1 none))
 
 -- ---- what lines say
 
@@ -101,7 +102,7 @@ no_words line lines more none (inr (r, others, s, e, h)) = none (Some s.0) s.1
 
 -- or whose words spell no request
 pub no_request : (line : Line) (ws : List Word) (lines : List Line) (more : Requests) → Says line (Some ws) → ((r : Request cgroups) → SpellsRequest ws r → ⊥) → SayRequests (line ∷ lines) more → ⊥
-no_request line ws lines more says none (inl h) = some_none (one_saying line (Some ws) None says h.0)
+no_request line ws lines more says none (inl h) = none-some _ (sym (one_saying line (Some ws) None says h.0))
 no_request line ws lines more says none (inr (r, others, s, e, h)) = none r (says_that line ws r says s)
 
 -- or a request that no script has there
