@@ -27,7 +27,7 @@ use cg_tree::Tree;
 use std::alloc::{AllocError, Global};
 
 /// What a session asks of the tree.
-#[derive(Drop)]
+#[derive(PartialEq, Eq, Drop)]
 pub enum Command {
     /// Makes the group at the path.
     Create {

@@ -6,7 +6,7 @@ use cg_cpus::CpuSet;
 use cg_name::Refusal;
 
 /// CPUs that are to be online: one at least.
-#[derive(Clone, Copy, Debug)]
+#[derive(Clone, Copy, Debug, PartialEq, Eq)]
 pub struct OnlineCpus {
     /// These.
     pub cpus: CpuSet,

@@ -1,2 +1,3 @@
+pub mod Alike
 pub mod BySession
 pub mod Records

@@ -7,7 +7,7 @@ use cg_name::{Refusal, SaveName, TxnNumber};
 use std::alloc::{AllocError, Global};
 
 /// What a session asks for.
-#[derive(Drop)]
+#[derive(PartialEq, Eq, Drop)]
 pub enum Request {
     /// Opens a transaction.
     Begin,
@@ -45,7 +45,7 @@ impl Request {
 }
 
 /// What a session is answered.
-#[derive(Drop)]
+#[derive(PartialEq, Eq, Drop)]
 pub enum Answer {
     /// To Begin: the transaction's number, from 1 in the order of the Begins.
     Begun(TxnNumber),

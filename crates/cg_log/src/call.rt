@@ -4,7 +4,6 @@ ghost use Rattle.cg_history.specs.Meaning.{record_of};
 ghost use Rattle.cg_log.specs.Call.{call_in};
 ghost use Rattle.cg_log.specs.CallOf.{call_of};
 
-use crate::same::{is_same_answer, is_same_request};
 use cg_history::{Answer, Record, Request};
 
 /// One request of a session, and its answer.
@@ -21,7 +20,6 @@ impl Call {
     pub(crate) fn is_in(&self, entry: &Record) -> bool
         ensures { IsTrue result ↔ (call_of self.now ≡ call_in (record_of entry.now)) }
     {
-        is_same_request(&self.request, &entry.request)
-            && is_same_answer(&self.answer, &entry.answer)
+        self.request == entry.request && self.answer == entry.answer
     }
 }

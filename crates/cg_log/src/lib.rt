@@ -5,7 +5,6 @@ mod call;
 mod comparison;
 mod log;
 mod rest;
-mod same;
 
 pub use call::Call;
 pub use comparison::all_are_in;
