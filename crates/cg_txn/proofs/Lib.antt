@@ -1,6 +1,5 @@
 mod Backwards
 mod Changed
-pub mod Keeping
 mod Letting
 mod Names
 pub mod Steps

@@ -11,7 +11,6 @@ use Rattle.cg_model.specs.Room.{inverse}
 use Rattle.cg_core_laws.specs.LettingGo.{footprint_of}
 use Rattle.cg_locks.specs.Holdings.{Holdings}
 use Rattle.cg_tree.specs.Room.{TreeWithRoom}
-use Rattle.cg_txn.specs.Stack.{StackItem, Command, Savepoint, commands}
 use Rattle.cg_txn.specs.Steps.{Need, Step, MayEach, Each}
 use Rattle.cg_core.specs.Parts.{stack_item}
 
@@ -38,14 +37,3 @@ module _ (O : Tree) (N : Need) (S : Step) (P : Invariant) (kept : IsKept O N S P
   all_kept [] R H R' H' p (tree, held) = subst₂ (P []) (sym tree) (sym held) p
   all_kept (Ran t h c a ∷ l) R H R' H' p (A, B, s, rest) = all_kept l A B R' H' (kept.step t h c a l R H A B p s) rest
   all_kept (AtSavepoint t h n ∷ l) R H R' H' p s = all_kept l R H R' H' (kept.skip t h n l R H p) s
-
--- savepoints take no step
-pub commands_may : (N : Need) (S : Step) (l : List StackItem) (R : TreeWithRoom) (H : Holdings) → MayEach N S l R H → MayEach N S (commands l) R H
-commands_may N S [] R H m = m
-commands_may N S (Command k d f ∷ l) R H m = (m.0, λ R' H' s. commands_may N S l R' H' (m.1 R' H' s))
-commands_may N S (Savepoint n ∷ l) R H m = commands_may N S l R H m
-
-pub commands_all : (S : Step) (l : List StackItem) (R : TreeWithRoom) (H : Holdings) (R' : TreeWithRoom) (H' : Holdings) → Each S (commands l) R H R' H' → Each S l R H R' H'
-commands_all S [] R H R' H' e = e
-commands_all S (Command k d f ∷ l) R H R' H' (A, B, s, rest) = (A, B, s, commands_all S l A B R' H' rest)
-commands_all S (Savepoint n ∷ l) R H R' H' e = commands_all S l R H R' H' e

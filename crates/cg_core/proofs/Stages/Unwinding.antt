@@ -27,7 +27,8 @@ use Rattle.cg_core.proofs.Stages.GoingBack.{may_come_off, held_after_coming_off}
 use Rattle.cg_core.proofs.Stages.Items.{undone_all, above, is_savepoint, parted}
 use Rattle.cg_core.specs.Parts.{stack_item}
 use Rattle.cg_core.proofs.Stages.StackItems.{same_above}
-use Rattle.cg_core.proofs.Stages.Steps.{IsKept, may_each, all_kept, commands_may, commands_all}
+use Rattle.cg_txn.proofs.Steps.{each_command, may_commands}
+use Rattle.cg_core.proofs.Stages.Steps.{IsKept, may_each, all_kept}
 
 -- the open transactions may be unwound in any interleaving, each by its newest items
 pub record Unwindable (O : Tree) (ts : List ℕ) (stacks : ℕ → Items cgroups) (T : Tree) : Type 0 where
@@ -141,7 +142,7 @@ module _ {O : Tree} {ts : List ℕ} {stacks : ℕ → Items cgroups} {T : Tree} 
     pub above_may_come_off : AllMayComeOff t (commands_above n (map (stack_item O) (stacks t))) R H
     above_may_come_off =
         let (x, savepoint, parts) = parted n (stacks t) there in
-        subst (λ k. AllMayComeOff t k R H) (sym (same_above O n (stacks t))) (commands_may (MayComeOff t) (ComesOff t) (map (stack_item O) higher) R H (all_may_come_off higher (x ∷ lower) parts))
+        subst (λ k. AllMayComeOff t k R H) (sym (same_above O n (stacks t))) (may_commands (MayComeOff t) (ComesOff t) (map (stack_item O) higher) R H (all_may_come_off higher (x ∷ lower) parts))
 
     savepoint_goes : (x : Item cgroups) → is_savepoint x ≡ true → (U : Tree) (R' : TreeWithRoom) (H' : Holdings) → Holds O ts (with_items t (x ∷ lower) stacks) U R' H' → Holds O ts (with_items t lower stacks) U R' H'
     savepoint_goes (Ran u h c a) e U R' H' held = absurd (false≢true e)
@@ -153,4 +154,4 @@ module _ {O : Tree} {ts : List ℕ} {stacks : ℕ → Items cgroups} {T : Tree} 
     held_after_back R' H' off =
         let (x, savepoint, parts) = parted n (stacks t) there in
         savepoint_goes x savepoint (undone_all O higher T) R' H'
-        (held_after_all_off higher (x ∷ lower) parts R' H' (commands_all (ComesOff t) (map (stack_item O) higher) R H R' H' (subst (λ k. AllComeOff t k R H R' H') (same_above O n (stacks t)) off)))
+        (held_after_all_off higher (x ∷ lower) parts R' H' (each_command (MayComeOff t) (ComesOff t) (map (stack_item O) higher) R H R' H' (subst (λ k. AllComeOff t k R H R' H') (same_above O n (stacks t)) off)))
