@@ -110,7 +110,8 @@ def functions_of(path, text):
             continue
         last = number
         if not line.endswith("}"):
-            last = next((it for it in range(number + 1, len(lines)) if lines[it] == f"{head[1]}}}"), number)
+            ends = (f"{head[1]}}}", f"{head[1]}{{}}")
+            last = next((it for it in range(number + 1, len(lines)) if lines[it] in ends), number)
         whole = "\n".join(lines[number : last + 1])
         ensures = bool(re.search(rf"^{head[1]}    ensures", whole, re.M)) or " ensures " in line
         found.append(Function(module, *owner, head[2], starts[number], starts[last] + len(lines[last]), ensures))

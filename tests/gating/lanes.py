@@ -62,12 +62,12 @@ def start(task, jobs, nice, ended):
 
 
 def has_lane(task, running, processors):
-    """Whether a task may begin beside these. Proofs have as many lanes as there are processors, whatever gives way to them has half
-    as many beside these, and all of them once nothing is left to prove."""
-    kinds = [it.kind == "proof" for it in running]
+    """Whether a task may begin beside these. Proofs have as many lanes as there are processors. Whatever gives way to them has those
+    that they leave, and half of all at least."""
+    proofs = sum(it.kind == "proof" for it in running)
     if task.kind == "proof":
-        return kinds.count(True) < processors
-    return kinds.count(False) < (max(processors // 2, 1) if any(kinds) else processors)
+        return proofs < processors
+    return len(running) - proofs < max(processors - proofs, processors // 2, 1)
 
 
 def run(tasks):
