@@ -81,9 +81,11 @@ def run(tasks):
             given[it.key] = False
         ready = [it for it in left if all(given.get(key) for key in it.waits)]
         for task in ready:
-            room = memory - sum(it.needs for it in running)
-            if not has_lane(task, running, processors) or running and task.needs > room:
+            if not has_lane(task, running, processors):
                 continue
+            if running and task.needs > memory - sum(it.needs for it in running):
+                # what waits for memory gets it before what is less urgent
+                break
             first = task.kind == "proof" and all(it.behind < task.behind for it in running if it.kind == "proof")
             left.remove(task)
             running.append(task)
