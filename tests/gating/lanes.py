@@ -74,7 +74,7 @@ def run(tasks):
     """Runs all tasks, and gives for each whether it went well. What waits for one that didn't isn't begun, and didn't either."""
     rank(tasks)
     processors, memory = rt.processors(), 0.85 * rt.free()
-    left, running, given, ended = sorted(tasks, key=lambda it: -it.behind), [], {}, Queue()
+    left, running, given, ended = sorted(tasks, key=lambda it: (it.kind != "proof", -it.behind)), [], {}, Queue()
     while left or running:
         for it in [it for it in left if any(given.get(key) is False for key in it.waits)]:
             left.remove(it)
@@ -84,8 +84,10 @@ def run(tasks):
             if not has_lane(task, running, processors):
                 continue
             if running and task.needs > memory - sum(it.needs for it in running):
-                # what waits for memory gets it before what is less urgent
-                break
+                if task.kind == "proof":
+                    # it gets what becomes free before any edit does
+                    break
+                continue
             first = task.kind == "proof" and all(it.behind < task.behind for it in running if it.kind == "proof")
             left.remove(task)
             running.append(task)

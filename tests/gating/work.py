@@ -79,9 +79,11 @@ def tasks_of(found, tally, kinds, is_kept=False):
         below = [(it.name, "proof") for it in crate.deps]
         done = is_kept and not crate.is_program and crate.is_built()
         yield lanes.Task(crate.name, "proof", below, lines, needs, lambda jobs, it=crate, done=done: done or proof(it, jobs, tally, compilers))
-        if "edits" in kinds and kit.rt.edits_of(crate) != ([], []):
+        wrong = sum(map(len, kit.rt.edits_of(crate)))
+        if "edits" in kinds and wrong:
             # (over kept work a check takes far less memory than from nothing)
-            yield lanes.Task(crate.name, "edits", [(crate.name, "proof")], lines // 2, needs // 2, lambda jobs, it=crate: wrong_bodies(it, jobs, tally))
+            behind = lines // 2 + 20 * wrong
+            yield lanes.Task(crate.name, "edits", [(crate.name, "proof")], behind, needs // 2, lambda jobs, it=crate: wrong_bodies(it, jobs, tally))
 
 
 def do(tasks, tally):
