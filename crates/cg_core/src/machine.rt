@@ -27,7 +27,6 @@ use std::alloc::{AllocError, Global};
 use std::marker::Model;
 
 /// A tree, the transactions that are open on it, what they hold, and the history of all requests.
-#[derive(Drop)]
 pub struct Core {
     pub(crate) opening: World,
     pub(crate) limit: u32,
@@ -36,6 +35,20 @@ pub struct Core {
     pub(crate) open: SessionMap<Txn>,
     // With a slot reserved for the end of each open transaction, and for each item on its stack.
     pub(crate) history: History,
+}
+
+// By hand, so that whoever drops one calls this, and doesn't drop each thing in it: that makes proofs shorter.
+impl Drop for Core {
+    fn drop(self) {
+        let Core {
+            opening: _,
+            limit: _,
+            tree: _,
+            locks: _,
+            open: _,
+            history: _,
+        } = self;
+    }
 }
 
 impl Model for Core {

@@ -19,13 +19,25 @@ use std::collections::BTreeMap;
 use std::marker::Model;
 
 /// Which transaction holds which mark, and how often.
-#[derive(Drop)]
 pub struct LockTable {
     changed: Subtrees,
     read: Subtrees,
     stays: Subtrees,
     descendants: PathMap<Holders>,
     processes: BTreeMap<u32, Holders>,
+}
+
+// By hand, so that whoever drops one calls this, and doesn't drop each thing in it: that makes proofs shorter.
+impl Drop for LockTable {
+    fn drop(self) {
+        let LockTable {
+            changed: _,
+            read: _,
+            stays: _,
+            descendants: _,
+            processes: _,
+        } = self;
+    }
 }
 
 impl Model for LockTable {

@@ -15,12 +15,23 @@ use std::collections::BTreeMap;
 use std::marker::Model;
 
 /// The computer's controllers and online CPUs, groups by path and processes by PID.
-#[derive(Drop)]
 pub struct PlainTree {
     controllers: Controllers,
     online: CpuSet,
     groups: BTreeMap<Path, Settings>,
     places: BTreeMap<u32, Path>,
+}
+
+// By hand, so that whoever drops one calls this, and doesn't drop each thing in it: that makes proofs shorter.
+impl Drop for PlainTree {
+    fn drop(self) {
+        let PlainTree {
+            controllers: _,
+            online: _,
+            groups: _,
+            places: _,
+        } = self;
+    }
 }
 
 impl Model for PlainTree {
@@ -132,7 +143,13 @@ impl PlainTree {
     )
         ensures { record { controllers = result.0; online = result.1; groups = from_entries path_cmp result.2.entries; places = from_entries nat_cmp result.3.entries } ≡ self }
     {
-        (self.controllers, self.online, self.groups, self.places)
+        let PlainTree {
+            controllers,
+            online,
+            groups,
+            places,
+        } = self;
+        (controllers, online, groups, places)
     }
 
     /// The settings of the groups, by path.
