@@ -41,9 +41,15 @@ pub enum Unasked {
     /// They asked for help, which stands on standard output.
     #[error("the words ask for help")]
     Helped,
+    /// They asked for help, and standard output didn't take it.
+    #[error("the help is not written")]
+    Unwritten,
     /// They aren't in the grammar, as standard error says.
     #[error("the words are not in the grammar")]
     Refused,
+    /// They name more than 4,096 scripts. Nothing is written.
+    #[error("there are too many scripts")]
+    TooManyScripts,
     /// Memory ran out before they were read.
     #[error("memory ran out")]
     Memory,
@@ -90,8 +96,11 @@ pub fn read_command_line<'a, R: Print + Eprint + AllocGlobal>(
 // What the words behind `run` ask for. Their numbers were tested as the words were read, but no contract says so.
 fn batch_of<'a>(alloc: Global, given: &ArgMatches<'a>) -> Result<Batch<'a>, Unasked> {
     let scripts = given.get_strs("SCRIPT").unwrap_or_default();
-    if scripts.is_empty() || scripts.len() > MOST_SCRIPTS {
+    if scripts.is_empty() {
         return Err(Unasked::Refused);
+    }
+    if scripts.len() > MOST_SCRIPTS {
+        return Err(Unasked::TooManyScripts);
     }
     Ok(Batch {
         world: given.get_str("WORLD").unwrap_or(STANDARD_INPUT),
@@ -115,11 +124,10 @@ fn answer<R: Print + Eprint>(rt: &R, error: &Error) -> Unasked {
     if error.kind() == ErrorKind::OutOfMemory {
         return Unasked::Memory;
     }
-    let _ = error.print(rt);
-    if error.use_stderr() {
-        Unasked::Refused
-    } else {
-        Unasked::Helped
+    match error.print(rt) {
+        _ if error.use_stderr() => Unasked::Refused,
+        Ok(()) => Unasked::Helped,
+        Err(_) => Unasked::Unwritten,
     }
 }
 
@@ -180,9 +188,7 @@ fn run<'a>(alloc: Global) -> Result<Command<'a>, AllocError> {
                 .help("The file that the history is written to"),
         )?
         .arg(word(alloc, "WORLD", WORLD_HELP))?
-        .arg(word(alloc, "SCRIPT", "The files of the scripts, at most 4096").num_args(
-            1..=MOST_SCRIPTS,
-        ))
+        .arg(word(alloc, "SCRIPT", "The files of the scripts, at most 4096").num_args(1..))
 }
 
 // A word that has to be there.

@@ -1,4 +1,5 @@
 pub mod BatchLemmas
+pub mod HistoryFile
 pub mod NamedLemmas
 pub mod ProgramLemmas
 pub mod ShowLemmas

@@ -140,7 +140,7 @@ fn open<P: Inputs>(inputs: &P, word: &str) -> Result<P::Input, ScriptFault>
 }
 
 // Whether the word names standard input.
-fn is_standard(word: &str) -> bool
+pub(crate) fn is_standard(word: &str) -> bool
     ensures { result ≡ is_standard word.now }
 {
     matches!(word.as_bytes(), [b'-'])

@@ -1,17 +1,21 @@
 //! A run of scripts whose texts, world and history words name.
-ghost use Rattle.std.specs.Prelude.{◌≡◌, ◌≤◌, ◌⊎◌, List, ℕ, IfOk, length, map};
+ghost use Rattle.std.specs.Prelude.{◌≡◌, ◌≢◌, ◌≤◌, ◌⊎◌, true, List, ℕ, IfOk, IfSome, IsErr, IsSome, MatchOption, None, length, map};
+ghost use Rattle.std.specs.List.{list_any};
+ghost use Rattle.std.specs.Option.{option_map};
 ghost use Rattle.std.specs.Io.KnownBytes.{Appends};
 ghost use Rattle.cg_name.specs.declared.refusal.Refusal.{Refusal};
 ghost use Rattle.cg_program.specs.Batch.{AreTexts, Tells};
+ghost use Rattle.cg_program.specs.Named.{IsFileNamed, IsInput, IsNotNamed, IsWorld};
 ghost use Rattle.cg_program.specs.Program.{WritesUnlessFailed};
 ghost use Rattle.cg_program.specs.Status.{refusal_line, status_where};
 
 use crate::inputs::Inputs;
-use crate::named::open_reader;
-use crate::outputs::Outputs;
+use crate::named::{is_standard, open_reader};
+use crate::outputs::{CreateFault, Outputs};
 use crate::replaying::stop;
 use crate::running::run_to;
 use crate::scripts::read_all;
+use crate::status::Status;
 use cg_lines::{LineReader, Sink};
 use cg_runner::Gate;
 use cg_script::ScriptFault;
@@ -32,11 +36,13 @@ pub struct Words<'a> {
 
 /// Runs the scripts that words name over a named world. Each script's file is opened and read, in their order; then the world is
 /// opened, and then the history's file made. A file that can't be opened is a read fault, one that can't be made a write fault, and
-/// a script of more than 16,777,216 bytes isn't in the grammar. What is written, and the status, are as `run_to` says.
-pub fn run_named<P: Inputs + Outputs, G: Gate + Sync, R: Threads + Wait + Sync, O: Sink, E: Sink>(
+/// a script of more than 16,777,216 bytes isn't in the grammar. A history is not made in place of a script or the world: that is a
+/// write fault. It takes its name when all is told, and else no file has changed. What is written, and the status, are as `run_to`
+/// says.
+pub fn run_named<P: Outputs, G: Gate + Sync, R: Threads + Wait + Sync, O: Sink, E: Sink>(
     rt: &R,
     alloc: Global,
-    files: &P,
+    files: &mut P,
     gate: &G,
     words: Words,
     workers: u32,
@@ -49,46 +55,121 @@ pub fn run_named<P: Inputs + Outputs, G: Gate + Sync, R: Threads + Wait + Sync, 
     requires few_workers { workers ≤ 64 }
     requires a_try { 1 ≤ tries }
     requires few_tries { tries ≤ 1000 }
-    // All scripts ended, and all is told;
-    ensures done { result ≡ 0 → (texts : List (List ℕ)) × AreTexts (P.Inputs.file files.now) (map (λ w. w.now) words.entry.scripts.now) texts
-        × Tells workers tries texts (λ told past. Appends (O.taken out.old) (O.taken out.new) told) }
+    // All scripts ended, all is told, and the history is the file of its name;
+    ensures done { result ≡ 0 → (texts : List (List ℕ)) × AreTexts (P.file files.old) (map (λ w. w.now) words.entry.scripts.now) texts
+        × Tells workers tries texts (λ told past. Appends (O.taken out.old) (O.taken out.new) told × IsFileNamed P.nothing (P.file files.new) (option_map (λ w. w.now) words.entry.history) past) }
     ensures quiet { result ≡ 0 → err.new ≡ err.old }
 
-    // or there is a refusal, which is told.
+    // or there is a refusal, which is told, and no file has changed.
     ensures told { (result ≡ 0) ⊎ ((refusal : Refusal) × (result ≡ status_where refusal)
         × WritesUnlessFailed (E.taken err.old) (E.taken err.new) (E.failed err.old) (E.failed err.new) (refusal_line refusal)) }
     ensures refused { result ≡ 2 → out.new ≡ out.old }
+    ensures unchanged { result ≢ 0 → P.file files.new ≡ P.file files.old }
+
+    // No file has changed but the history, which is none of the inputs.
+    ensures others { (name : List ℕ) → IsNotNamed (option_map (λ w. w.now) words.entry.history) name → P.file files.new name ≡ P.file files.old name }
+    ensures inputs { IfSome words.entry.history (λ name. IsInput (P.is_read files.old name.now) (P.is_same files.old name.now) words.entry.world.now (map (λ w. w.now) words.entry.scripts.now) → (result ≢ 0) × (out.new ≡ out.old)) }
 {
     match open_all(alloc, files, words) {
-        Ok((texts, mut world, mut history)) => run_to(
-            rt,
-            alloc,
-            gate,
-            &mut world,
-            texts,
-            workers,
-            tries,
-            &mut history,
-            out,
-            err,
-        ),
+        Ok((texts, mut world, mut history)) => {
+            let status = run_to(
+                rt,
+                alloc,
+                gate,
+                &mut world,
+                texts,
+                workers,
+                tries,
+                &mut history,
+                out,
+                err,
+            );
+            end_history(files, history, words.history, status, err)
+        }
         Err(fault) => stop(fault, err),
     }
 }
 
 // The texts of the scripts, and the opened world and history.
-fn open_all<P: Inputs + Outputs>(
+fn open_all<P: Outputs>(
     alloc: Global,
     files: &P,
     words: Words,
 ) -> Result<(Vec<Vec<u8>>, LineReader<P::Input>, Option<P::Output>), ScriptFault>
-    ensures texts { IfOk result (λ opened. AreTexts (P.Inputs.file files.now) (map (λ w. w.now) words.entry.scripts.now) (map (λ t. t.items) opened.0.items)) }
+    ensures texts { IfOk result (λ opened. AreTexts (P.file files.now) (map (λ w. w.now) words.entry.scripts.now) (map (λ t. t.items) opened.0.items)) }
+    ensures history { IfOk result (λ opened. MatchOption opened.2 (words.entry.history ≡ None) (λ output. IsSome words.entry.history × (P.Output.taken output ≡ P.nothing))) }
+    ensures inputs { IfSome words.entry.history (λ name. IsInput (P.is_read files.now name.now) (P.is_same files.now name.now) words.entry.world.now (map (λ w. w.now) words.entry.scripts.now) → IsErr result) }
 {
     let texts = read_named(alloc, files, words.scripts)?;
     let world = open_reader(alloc, files, words.world)?;
     match words.history {
         None => Ok((texts, world, None)),
-        Some(name) => Ok((texts, world, Some(files.create_file(name)?))),
+        Some(name) => Ok((texts, world, Some(create_history(files, name, words)?))),
+    }
+}
+
+// A file for the history of this name, which is that of no input.
+fn create_history<P: Outputs>(files: &P, name: &str, words: Words) -> Result<P::Output, CreateFault>
+    ensures empty { IfOk result (λ output. P.Output.taken output ≡ P.nothing) }
+    ensures inputs { IsInput (P.is_read files.now name.now) (P.is_same files.now name.now) words.entry.world.now (map (λ w. w.now) words.entry.scripts.now) → IsErr result }
+{
+    if is_world(files, name, words.world) || is_script(files, name, words.scripts) {
+        return Err(CreateFault::Unwritable);
+    }
+    files.create_file(name)
+}
+
+// Whether the file of this name is that of the world that the word names.
+fn is_world<P: Outputs>(files: &P, name: &str, world: &str) -> bool
+    ensures { IsWorld (P.is_read files.now name.now) (P.is_same files.now name.now) world.now → result ≡ true }
+{
+    if is_standard(world) {
+        return files.is_read(name);
+    }
+    files.is_same(name, world)
+}
+
+// Whether the file of this name is that of one of these scripts.
+fn is_script<P: Outputs>(files: &P, name: &str, scripts: &[&str]) -> bool
+    ensures { list_any (P.is_same files.now name.now) (map (λ w. w.now) scripts.now) ≡ true → result ≡ true }
+{
+    for script in scripts {
+        if files.is_same(name, script) {
+            return true;
+        }
+    }
+    false
+}
+
+// Lets the history take its name where all is told, and else nothing of it stay. Gives the status of the run.
+fn end_history<P: Outputs, E: Sink>(
+    files: &mut P,
+    history: Option<P::Output>,
+    name: Option<&str>,
+    status: u8,
+    err: &mut E,
+) -> u8
+    ensures kept { result ≡ 0 → IfSome history (λ output. IfSome name.entry (λ w. P.file files.new w.now ≡ P.Output.taken output)) }
+    ensures done { result ≡ 0 → (status ≡ 0) × (err.new ≡ err.old) }
+    ensures failed { status ≢ 0 → (result ≡ status) × (err.new ≡ err.old) }
+    ensures told { status ≡ 0 → (result ≡ 0) ⊎ ((refusal : Refusal) × (result ≡ status_where refusal)
+        × WritesUnlessFailed (E.taken err.old) (E.taken err.new) (E.failed err.old) (E.failed err.new) (refusal_line refusal)) }
+    ensures status { result ≡ 2 → status ≡ 2 }
+    ensures unchanged { result ≢ 0 → P.file files.new ≡ P.file files.old }
+    ensures others { (other : List ℕ) → IsNotNamed (option_map (λ w. w.now) name.entry) other → P.file files.new other ≡ P.file files.old other }
+{
+    let Some(output) = history else {
+        return status;
+    };
+    match name {
+        Some(name) if status == Status::Done.code() => match files.keep(output, name) {
+            Ok(()) => status,
+            Err(fault) => stop(fault.into(), err),
+        },
+        _ => {
+            files.discard(output);
+            status
+        }
     }
 }
 

@@ -1,11 +1,12 @@
 //! The inputs and outputs of this computer: standard input and files.
 ghost use Rattle.std.specs.Prelude.{None, false};
 
-use cg_program::{CreateFault, FromRead, FromWrite, Inputs, OpenFault, Outputs};
+use crate::new_file::{NewFile, is_at};
+use cg_program::{CreateFault, FromRead, Inputs, OpenFault, Outputs};
 use std::fs::File;
-use std::io;
 use std::io::Read;
 use std::rt::Stdin;
+use std::{fs, io};
 
 /// Standard input or an opened file.
 #[derive(Drop)]
@@ -50,15 +51,44 @@ impl Inputs for Host<'_> {
 }
 
 impl Outputs for Host<'_> {
-    type Output = FromWrite<File>;
+    type Output = NewFile;
+
+    ghost nothing = { None };
 
     ghost is_barred = { λ _ _. false };
 
-    fn create_file(&self, name: &str) -> Result<FromWrite<File>, CreateFault> {
-        match File::create(self.0, name) {
-            Ok(file) => Ok(FromWrite::new(file)),
-            Err(fault) if fault.kind() == io::ErrorKind::OutOfMemory => Err(CreateFault::Memory),
-            Err(_) => Err(CreateFault::Unwritable),
+    ghost is_same = { λ _ _ _. false };
+
+    ghost is_read = { λ _ _. false };
+
+    fn is_same(&self, name: &str, other: &str) -> bool {
+        match fs::metadata(self.0, name) {
+            Ok(found) => found.is_file() && is_at(self.0, other, &found),
+            Err(_) => false,
         }
+    }
+
+    fn is_read(&self, name: &str) -> bool {
+        self.is_same(name, "/dev/stdin")
+    }
+
+    fn create_file(&self, name: &str) -> Result<NewFile, CreateFault> {
+        NewFile::create(self.0, name).map_err(create_fault)
+    }
+
+    fn keep(&mut self, output: NewFile, _name: &str) -> Result<(), CreateFault> {
+        output.keep(self.0).map_err(create_fault)
+    }
+
+    fn discard(&self, output: NewFile) {
+        output.discard(self.0);
+    }
+}
+
+// Why a file was not made or kept, of a fault of this computer.
+fn create_fault(fault: io::Error) -> CreateFault {
+    match fault.kind() {
+        io::ErrorKind::OutOfMemory => CreateFault::Memory,
+        _ => CreateFault::Unwritable,
     }
 }

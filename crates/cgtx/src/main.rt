@@ -5,6 +5,7 @@
 #![tactic(auto)]
 
 mod host;
+mod new_file;
 mod progress;
 
 use crate::host::Host;
@@ -22,7 +23,7 @@ use std::{env, io};
 fn main(rt: HostRuntime) -> ExitCode {
     ExitCode::from(match words(&rt) {
         Ok(words) => run(&rt, &rt, words.as_slice()),
-        Err(fault) if fault.kind() == io::ErrorKind::OutOfMemory => no_memory(&rt),
+        Err(fault) if fault.kind() == io::ErrorKind::OutOfMemory => tell(&rt, ScriptFault::Memory),
         Err(_) => {
             let _ = rt.eprintln("cgtx: a word is not UTF-8");
             Status::Refused.code()
@@ -43,7 +44,9 @@ fn run<R: Threads + Wait + Eprint + Sync>(rt: &HostRuntime, workers: &R, words: 
         Ok(Asked::Run(batch)) => run_batch(rt, workers, &batch),
         Err(Unasked::Helped) => Status::Done.code(),
         Err(Unasked::Refused) => Status::Refused.code(),
-        Err(Unasked::Memory) => no_memory(rt),
+        Err(Unasked::TooManyScripts) => tell(rt, ScriptFault::Syntax),
+        Err(Unasked::Unwritten) => tell(rt, ScriptFault::WriteFault),
+        Err(Unasked::Memory) => tell(rt, ScriptFault::Memory),
     }
 }
 
@@ -79,7 +82,7 @@ fn run_batch<R: Threads + Wait + Eprint + Sync>(
     run_named(
         workers,
         rt.alloc(),
-        &Host(rt),
+        &mut Host(rt),
         &progress,
         words,
         batch.workers,
@@ -89,7 +92,7 @@ fn run_batch<R: Threads + Wait + Eprint + Sync>(
     )
 }
 
-// Tells that memory is wanted, and gives the status.
-fn no_memory(rt: &HostRuntime) -> u8 {
-    stop(ScriptFault::Memory, &mut FromWrite::new(rt.stderr()))
+// Tells a fault, and gives the status.
+fn tell(rt: &HostRuntime, fault: ScriptFault) -> u8 {
+    stop(fault, &mut FromWrite::new(rt.stderr()))
 }
