@@ -13,7 +13,7 @@ mod scripts;
 mod showing;
 mod status;
 
-pub use cg_lines::{DeviceFault, FromRead, FromWrite, Sink};
+pub use cg_lines::{FromRead, FromWrite};
 pub use cg_runner::Gate;
 pub use cg_script::ScriptFault;
 pub use inputs::{Inputs, OpenFault};

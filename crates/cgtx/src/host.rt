@@ -1,7 +1,7 @@
 //! The inputs and outputs of this computer: standard input and files.
 ghost use Rattle.std.specs.Prelude.{None, false};
 
-use crate::new_file::{NewFile, is_at};
+use cg_new_file::{NewFile, is_at};
 use cg_program::{CreateFault, FromRead, Inputs, OpenFault, Outputs};
 use std::fs::File;
 use std::io::Read;
@@ -51,7 +51,7 @@ impl Inputs for Host<'_> {
 }
 
 impl Outputs for Host<'_> {
-    type Output = NewFile;
+    type Output = NewFile<File>;
 
     ghost nothing = { None };
 
@@ -72,16 +72,16 @@ impl Outputs for Host<'_> {
         self.is_same(name, "/dev/stdin")
     }
 
-    fn create_file(&self, name: &str) -> Result<NewFile, CreateFault> {
-        NewFile::create(self.0, name).map_err(create_fault)
+    fn create_file(&self, name: &str) -> Result<NewFile<File>, CreateFault> {
+        cg_new_file::create(self.0, name).map_err(create_fault)
     }
 
-    fn keep(&mut self, output: NewFile, _name: &str) -> Result<(), CreateFault> {
-        output.keep(self.0).map_err(create_fault)
+    fn keep(&mut self, output: NewFile<File>, _name: &str) -> Result<(), CreateFault> {
+        cg_new_file::keep(self.0, output).map_err(create_fault)
     }
 
-    fn discard(&self, output: NewFile) {
-        output.discard(self.0);
+    fn discard(&self, output: NewFile<File>) {
+        cg_new_file::discard(self.0, output);
     }
 }
 

@@ -5,7 +5,6 @@
 #![tactic(auto)]
 
 mod host;
-mod new_file;
 mod progress;
 
 use crate::host::Host;
