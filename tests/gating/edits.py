@@ -232,7 +232,8 @@ def alone(crate, edit):
     with tempfile.TemporaryDirectory(prefix="rt-kept-") as room:
         kept = f"{room}/kept"
         shutil.copytree(f"{crate.folder}/{KEPT}", kept)
-        return rt.must_fail(crate, edit.file, ["--jobs", "1"], kept)
+        kind, said = rt.must_fail(crate, edit.file, ["--jobs", "1"], kept)
+        return kind in (rt.REFUSED, rt.AT_LIMIT), said
 
 
 def try_together(crate, edits, harmless, jobs):

@@ -81,7 +81,8 @@ def crates(aside=None):
     rt.Crate = Crate
     Crate.allowed = rt.handles_of(TOP)
     if aside:
-        found = rt.crates_of(TOP, aside)
+        found = rt.crates_of(TOP)
+        rt.set_aside(TOP, os.listdir(f"{TOP}/crates"), aside)
     else:
         rtlib.Crate = Crate
         found = sorted(rtlib.crates_below(TOP), key=lambda it: len(it.below()))
