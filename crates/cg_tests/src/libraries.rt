@@ -4,6 +4,7 @@ mod commands;
 mod derived;
 mod devices;
 mod files;
+mod lists;
 mod lock_lists;
 mod locks;
 mod path_maps;

@@ -14,7 +14,17 @@ proc 10 /
 end
 ";
 
-/// Three controllers, of which the root passes two on, eight CPUs and two processes.
+/// Three controllers, of which the root passes none on, eight CPUs and two processes.
+pub(crate) const BARE: &str = "world 1
+controllers cpuset cpu memory
+online 0-7
+group / - 0 -
+proc 10 /
+proc 11 /
+end
+";
+
+/// The same, where the root passes two of the controllers on.
 pub(crate) const LARGER: &str = "world 1
 controllers cpuset cpu memory
 online 0-7

@@ -1,6 +1,9 @@
 //! The text of a machine's tree, and a second run of its history on a fresh machine.
 use crate::opening::MOST_SLOTS;
 use cg_desk::{Answer, Core, Record, World};
+use cg_lines::{FromRead, FromWrite, LineReader};
+use cg_replay::replay;
+use cg_script::{ScriptFault, write_history};
 use cg_world_text::WriteWorld;
 use std::alloc::{AllocError, Global};
 
@@ -82,4 +85,42 @@ pub(crate) fn commits_in(records: &[Record]) -> usize {
         .iter()
         .filter(|record| matches!(record.answer, Answer::Committed(_)))
         .count()
+}
+
+// What stands behind `# ` in the lines of a history's text, each on a line, and then this.
+fn answers_in(alloc: Global, text: &[u8], last: &[u8]) -> Result<Vec<u8>, AllocError> {
+    let mut answers = Vec::new(alloc);
+    for line in text.split(|byte| *byte == b'\n') {
+        if let Some(answer) = line.strip_prefix(b"# ".as_slice()) {
+            answers.extend_from_slice(answer)?;
+            answers.push(b'\n')?;
+        }
+    }
+    answers.extend_from_slice(last)?;
+    Ok(answers)
+}
+
+// What this text is answered as a schedule over that world.
+fn replayed(alloc: Global, text: &[u8], opening: World) -> Result<Vec<u8>, ScriptFault> {
+    let mut out = Vec::new(alloc);
+    let mut reader = LineReader::new(alloc, FromRead::new(text))?;
+    let mut sink = FromWrite::new(&mut out);
+    replay(alloc, &mut reader, &mut sink, opening, MOST_SLOTS)?;
+    drop(sink);
+    Ok(out)
+}
+
+/// Whether the text of the machine's history, played over this world, is answered by the lines behind `# `, and gives the
+/// machine's tree.
+pub(crate) fn is_history_answered(
+    alloc: Global,
+    core: &Core,
+    opening: World,
+) -> Result<bool, ScriptFault> {
+    let mut text = Vec::new(alloc);
+    write_history(core.history(), &mut text)?;
+    let tree = text_of(alloc, core)?;
+    let answers = answers_in(alloc, text.as_slice(), tree.as_slice())?;
+    let out = replayed(alloc, text.as_slice(), opening)?;
+    Ok(out.as_slice() == answers.as_slice())
 }

@@ -180,7 +180,7 @@ fn report_of(alloc: Global, core: &Core) -> Result<(usize, bool), Refusal> {
 
 // The machine of a desk at which all sessions made their transactions.
 fn closed<R: Threads + Wait + Clock + Sync>(rt: &R, alloc: Global) -> Result<Core, Refusal> {
-    let mut opened = Opened::open(rt, alloc, THREADS)?;
+    let mut opened = Opened::open_on(rt, alloc, LARGER, THREADS)?;
     work_all(rt, alloc, &opened.desk, opened.sessions.as_mut_slice());
     opened.close(alloc).map_err(|fault| fault.refusal)
 }

@@ -1,5 +1,5 @@
 //! Desks that were just opened.
-use crate::opening::{LARGER, MOST_SLOTS, world};
+use crate::opening::{BARE, MOST_SLOTS, world};
 use cg_desk::{CloseFault, Core, Desk, Refusal, Session, World};
 use cg_world_text::WriteWorld;
 use std::alloc::{AllocError, Global};
@@ -9,12 +9,17 @@ use std::sync::Wait;
 pub(crate) fn is_opening(alloc: Global, world: &World) -> Result<bool, AllocError> {
     let mut text = Vec::new(alloc);
     world.write(&mut text)?;
-    Ok(text.as_slice() == LARGER.as_bytes())
+    Ok(text.as_slice() == BARE.as_bytes())
 }
 
 /// A desk on that world, with a history as long as can be.
 pub(crate) fn open(alloc: Global) -> Result<Desk, Refusal> {
-    Ok(Desk::open(alloc, world(alloc, LARGER)?, MOST_SLOTS)?)
+    open_on(alloc, BARE)
+}
+
+// The same on the world that a text spells.
+fn open_on(alloc: Global, text: &str) -> Result<Desk, Refusal> {
+    Ok(Desk::open(alloc, world(alloc, text)?, MOST_SLOTS)?)
 }
 
 /// A desk, and the sessions that it is to be closed with.
@@ -41,7 +46,17 @@ fn hand_out(
 impl Opened {
     /// A desk on the world, and so many sessions that it handed out.
     pub(crate) fn open(rt: &impl Wait, alloc: Global, count: u32) -> Result<Opened, Refusal> {
-        let desk = open(alloc)?;
+        Opened::open_on(rt, alloc, BARE, count)
+    }
+
+    /// The same on the world that a text spells.
+    pub(crate) fn open_on(
+        rt: &impl Wait,
+        alloc: Global,
+        text: &str,
+        count: u32,
+    ) -> Result<Opened, Refusal> {
+        let desk = open_on(alloc, text)?;
         let sessions = hand_out(rt, alloc, &desk, count)?;
         Ok(Opened { desk, sessions })
     }

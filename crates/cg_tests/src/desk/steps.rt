@@ -1,11 +1,11 @@
 //! A step in a transaction that isn't open.
-use crate::opening::{LARGER, world};
+use crate::opening::{BARE, world};
 use cg_desk::{Answer, Core, Refusal, Request, SessionId, TxnNumber, step_for};
 use std::alloc::Global;
 
 // What undo in a transaction is answered on a fresh machine.
 fn undo(alloc: Global) -> Result<Answer, Refusal> {
-    let mut core = Core::open(alloc, world(alloc, LARGER)?, 8)?;
+    let mut core = Core::open(alloc, world(alloc, BARE)?, 8)?;
     let answer = step_for(alloc, &mut core, SessionId(1), TxnNumber(7), Request::Undo);
     drop(core);
     Ok(answer)

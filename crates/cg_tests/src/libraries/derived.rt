@@ -86,6 +86,15 @@ nofile
 nofile
 "max\n"
 "2\n"
+nogroup
+nogroup
+nogroup
+nogroup
+nogroup
+nogroup
+nogroup
+nogroup
+nogroup
 "#;
 
 // Appends those of the group at the path that a word spells.
@@ -94,11 +103,12 @@ fn write_group(alloc: Global, tree: &Tree, word: &str, out: &mut Vec<u8>) -> Res
     Ok(write_files(alloc, tree, &path, out)?)
 }
 
-// Appends those of three groups.
+// Appends those of three groups, and of a path at which there is none.
 fn write_groups(alloc: Global, tree: &Tree, out: &mut Vec<u8>) -> Result<(), Refusal> {
     write_group(alloc, tree, "/", out)?;
     write_group(alloc, tree, "/a", out)?;
-    write_group(alloc, tree, "/a/b", out)
+    write_group(alloc, tree, "/a/b", out)?;
+    write_group(alloc, tree, "/q", out)
 }
 
 // Appends those of all groups of the tree.

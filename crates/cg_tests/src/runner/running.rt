@@ -1,7 +1,7 @@
 //! Runs of scripts, and how they end as text.
 ghost use Rattle.std.specs.Prelude.{◌≤◌, IfOk, vec_len};
 
-use crate::opening::{LARGER, world};
+use crate::opening::{BARE, world};
 use crate::runner::telling::write_report;
 use cg_name::Refusal;
 use cg_runner::{Gate, RunFault, RunReport, run_scripts};
@@ -58,7 +58,7 @@ fn run<G: Gate + Sync, R: Threads + Wait + Sync>(
         rt,
         alloc,
         gate,
-        world(alloc, LARGER)?,
+        world(alloc, BARE)?,
         scripts,
         workers,
         tries,
