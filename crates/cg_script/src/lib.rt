@@ -11,6 +11,7 @@ mod session;
 mod world_reader;
 
 pub use answer::write_answer;
+pub use cg_lines::{LineReader, Sink, Source};
 pub use fault::ScriptFault;
 pub use history::{histories_are_read, write_history};
 pub use request::{

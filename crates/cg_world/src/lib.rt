@@ -6,5 +6,6 @@ mod plain;
 mod soundness;
 mod world;
 
+pub use cg_text::Settings;
 pub use plain::PlainTree;
 pub use world::World;
