@@ -91,7 +91,7 @@ commands a b =
     (told place_of 0 enum.parts (λ c. command_of (enum.make c)) _
     (also (λ x. refl) (λ x y. Decides-like _ (ap model.Create) (λ e. cc e) (paths x.0 y.0))
     (also (λ x. refl) (λ x y. Decides-like _ (ap model.Remove) (λ e. cc e) (paths x.0 y.0))
-    (also (λ x. refl) (λ x y. Decides-like _ (λ h i. model.Migrate (h.0 i) (h.1 i)) (λ e. (cc e, cc e)) (Decides-and _ _ (Decides-eqb x.0 y.0) (paths x.1.0 y.1.0)))
+    (also (λ x. refl) (λ x y. Decides-like _ (λ h i. model.Migrate (h.0 i) (h.1 i)) (λ e. (cc e, cc e)) (Decides-and _ _ (Decides-eqb x.0.number y.0.number) (paths x.1.0 y.1.0)))
     (also (λ x. refl) (λ x y. Decides-like _ (λ h i. model.Subtree (h.0 i) (h.1 i)) (λ e. (cc e, cc e)) (Decides-and _ _ (paths x.0 y.0) (operations x.1.0 y.1.0)))
     (also (λ x. refl) (λ x y. Decides-like _ (λ h i. model.Freeze (h.0 i) (h.1 i)) (λ e. (cc e, cc e)) (Decides-and _ _ (paths x.0 y.0) (booleans_Decides x.1.0 y.1.0)))
     (also (λ x. refl) (λ x y. Decides-like _ (λ h i. model.Cpus (h.0 i) (h.1 i)) (λ e. (cc e, cc e)) (Decides-and _ _ (paths x.0 y.0) (sets x.1.0 y.1.0)))

@@ -1,4 +1,5 @@
 pub mod Applied
 pub mod Meaning
 pub mod OnlineCpus
+pub mod Pid
 pub mod Subtree

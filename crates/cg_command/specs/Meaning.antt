@@ -6,7 +6,7 @@ use Rattle.cg_model.specs.Command as model
 abbrev pub command_of : rust.Command → model.Command
 command_of (commands.Create p) = model.Create p
 command_of (commands.Remove p) = model.Remove p
-command_of (commands.Migrate k p) = model.Migrate k p
+command_of (commands.Migrate k p) = model.Migrate k.number p
 command_of (commands.Subtree p ops) = model.Subtree p ops
 command_of (commands.Freeze p v) = model.Freeze p v
 command_of (commands.Cpus p v) = model.Cpus p v

@@ -18,6 +18,7 @@ use crate::checks::{
     check_subtree,
 };
 use crate::online_cpus::OnlineCpus;
+use crate::pid::Pid;
 use crate::subtree::subtree;
 use cg_cpus::CpuSet;
 use cg_inverse::Inverse;
@@ -41,8 +42,8 @@ pub enum Command {
     },
     /// Moves a process into a group.
     Migrate {
-        /// The process, from 1 to 4,194,303.
-        pid: u32,
+        /// The process.
+        pid: Pid,
         /// The group.
         path: Path,
     },
@@ -157,7 +158,7 @@ impl Command {
         match self {
             Command::Create { path } => check_create(path, tree),
             Command::Remove { path } => check_remove(path, tree),
-            Command::Migrate { pid, path } => check_migrate(*pid, path, tree),
+            Command::Migrate { pid, path } => check_migrate(pid.number, path, tree),
             Command::Subtree { path, ops } => check_subtree(path, *ops, tree),
             Command::Freeze { path, .. } => check_freeze(path, tree),
             Command::Cpus { path, .. } => check_cpus(path, tree),
@@ -193,7 +194,7 @@ impl Command {
         match self {
             Command::Create { path } => create(path, alloc, tree),
             Command::Remove { path } => remove(path, alloc, tree),
-            Command::Migrate { pid, path } => migrate(*pid, path, alloc, tree),
+            Command::Migrate { pid, path } => migrate(pid.number, path, alloc, tree),
             Command::Subtree { path, ops } => subtree(path, *ops, alloc, tree),
             Command::Freeze { path, value } => freeze(path, *value, alloc, tree),
             Command::Cpus { path, cpus } => apply::cpus(path, *cpus, alloc, tree),

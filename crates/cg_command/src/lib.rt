@@ -6,7 +6,9 @@ mod checks;
 mod command;
 mod limits;
 mod online_cpus;
+mod pid;
 mod subtree;
 
 pub use command::{Command, Outcome};
 pub use online_cpus::OnlineCpus;
+pub use pid::Pid;

@@ -1,9 +1,11 @@
 //! The ten commands as words of a line: read and written.
 #![tactic(auto)]
 
+mod asked;
 pub mod laws;
 mod reading;
 mod writing;
 
+pub use asked::commands_can_be_asked_for;
 pub use reading::read_command;
 pub use writing::write_command;

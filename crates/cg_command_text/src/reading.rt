@@ -16,7 +16,7 @@ ghost use Rattle.cg_command.specs.Meaning.{command_of};
 ghost use Rattle.cg_command_text.specs.CommandText.{SpellsCommand, SpellsCpuWords};
 ghost use Rattle.cg_command_text.specs.Read.{ReadsCommand};
 
-use cg_command::{Command, OnlineCpus};
+use cg_command::{Command, OnlineCpus, Pid};
 use cg_cpus::CpuSet;
 use cg_name::{Controller, Path, Refusal};
 use cg_text::{ControlOps, FileName, read_flag, read_limit, read_pid};
@@ -77,7 +77,9 @@ fn read_migrate(alloc: Global, words: &[&str]) -> Result<Command, Refusal>
 {
     match words {
         [pid, path] => Ok(Command::Migrate {
-            pid: read_pid(pid)?,
+            pid: Pid {
+                number: read_pid(pid)?,
+            },
             path: Path::read(alloc, path)?,
         }),
         _ => Err(Refusal::Syntax),

@@ -37,7 +37,7 @@ fn append_command(command: &Command, out: &mut Vec<u8>) -> Result<(), AllocError
     match command {
         Command::Create { path } => append_at("create", path, out),
         Command::Remove { path } => append_at("remove", path, out),
-        Command::Migrate { pid, path } => append_migrate(*pid, path, out),
+        Command::Migrate { pid, path } => append_migrate(pid.number, path, out),
         Command::Subtree { path, ops } => append_subtree(path, ops, out),
         Command::Freeze { path, value } => append_freeze(path, *value, out),
         Command::Cpus { path, cpus } => append_cpus(path, cpus, out),

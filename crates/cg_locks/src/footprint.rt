@@ -47,7 +47,7 @@ impl Footprint {
         match command {
             Command::Create { path } => with_counts(alloc, path, tree),
             Command::Remove { path } => with_counts(alloc, path, tree),
-            Command::Migrate { pid, path } => of_migration(alloc, *pid, path, tree),
+            Command::Migrate { pid, path } => of_migration(alloc, pid.number, path, tree),
             Command::Subtree { path, .. } => of_change(alloc, path),
             Command::Freeze { path, .. } => of_change(alloc, path),
             Command::Cpus { path, .. } => of_change(alloc, path),

@@ -1,7 +1,8 @@
 //! The texts of scripts.
-ghost use Rattle.std.specs.Prelude.{◌≡◌, ◌<◌, ◌⊎◌, IfErr, IfOk, IfSome, length, map, vec_len};
+ghost use Rattle.std.specs.Prelude.{◌≡◌, ◌<◌, ◌≤◌, ◌⊎◌, IfErr, IfOk, IfSome, length, map, vec_len};
 ghost use Rattle.std.specs.List.{AllZip};
 ghost use Rattle.std.specs.Result.{IsErrOf};
+ghost use Rattle.cg_lines.specs.Device.{Failed};
 ghost use Rattle.cg_script.specs.ScriptOf.{SpellsAs, SpellsNoScript};
 ghost use Rattle.cg_script.specs.declared.fault.ScriptFault.TheVariants as faults;
 ghost use Rattle.cg_program.specs.Batch.{SomeSpellsNone};
@@ -11,11 +12,13 @@ use cg_name::Refusal;
 use cg_script::{LONGEST_SCRIPT, Script, ScriptFault, read_script};
 use std::alloc::Global;
 
-/// All that is left of the text of a script: `Syntax` where that is longer than the text of a script may be, 16,777,216 bytes,
-/// `Memory` where there is none for it, and `ReadFault` where the source fails, or after 67,108,864 reads.
+/// All that is left of the text of a script: `Syntax` exactly where that is longer than the text of a script may be, 16,777,216
+/// bytes, `Memory` where there is none for it, and `ReadFault` where a read of the source fails.
 pub fn read_all<S: Source>(alloc: Global, source: &mut S) -> Result<Vec<u8>, ScriptFault>
     ensures value { IfOk result (λ text. IfSome (S.left source.old) (λ left. text.items ≡ left)) }
+    ensures bound { IfOk result (λ text. vec_len text ≤ 16777216) }
     ensures long { IsErrOf result faults.Syntax → IfSome (S.left source.old) (λ left. 16777216 < length left) }
+    ensures reads { IsErrOf result faults.ReadFault → Failed (S.failed source.old) (S.failed source.new) }
     ensures writes { ¬ (IsErrOf result faults.WriteFault) }
 {
     match read_at_most(alloc, source, LONGEST_SCRIPT)? {

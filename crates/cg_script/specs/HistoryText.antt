@@ -48,6 +48,10 @@ renumbered h = map (λ r. (place (sessions h) r.session, r.request)) (reverse h)
 abbrev pub turns_of : List (ℕ × Request cgroups) → List Turn
 turns_of calls = flat_map (λ c. Ask c.0 c.1 ∷ Skip ∷ []) calls
 
+-- a record as code holds it: its session has a number of 32 bits, and its request can be asked for
+abbrev pub IsAsked : Record cgroups → Type 0
+IsAsked r = (r.session < 2 ^ 32) × CanBeAsked r.request
+
 -- what an answer shows is text
 abbrev pub ShowsText : Answer → Type 0
 ShowsText (Gave (Text x)) = IsUtf8 x

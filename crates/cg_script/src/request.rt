@@ -1,15 +1,16 @@
 //! The lines of a schedule.
-ghost use Rattle.std.specs.Prelude.{◌≡◌, ◌++◌, IfOk, IfErr, OnOk, OnErr, map, take, length, Option, List, ℕ};
+ghost use Rattle.std.specs.Prelude.{◌≡◌, ◌++◌, IfOk, IfErr, OnOk, OnErr, Some, map, take, length, Option, List, ℕ};
 ghost use Rattle.std.specs.Option.{option_map};
 ghost use Rattle.std.specs.Result.{IsErrOf};
 ghost use Rattle.cg_name.specs.Refusal.{IsSyntaxOrMemory};
+ghost use Rattle.cg_name.specs.SaveName.{IsSaveName};
 ghost use Rattle.cg_history.specs.Meaning.{request_of};
 ghost use Rattle.cg_model.specs.Cgroups.{cgroups};
 ghost use Rattle.cg_model.specs.History as model;
-ghost use Rattle.cg_script.specs.Request.{SpellsCall, SpellsLine, SpellsRequest, request_line, request_text, OneCall, WrittenLinesAreSpelled};
+ghost use Rattle.cg_script.specs.Request.{CanBeAsked, SpellsCall, SpellsLine, SpellsRequest, request_line, request_text, OneCall, WrittenLinesAreSpelled};
 
 use crate::session::SessionName;
-use cg_command_text::{read_command, write_command};
+use cg_command_text::{commands_can_be_asked_for, read_command, write_command};
 use cg_history::Request;
 use cg_name::{Refusal, SaveName, or_truncate};
 use cg_text::read_words;
@@ -59,15 +60,46 @@ pub(crate) fn read_request(alloc: Global, words: &[&str]) -> Result<Request, Ref
     }
 }
 
-/// Appends the line in which a session asks, without a newline: its words with single spaces. An error, where
-/// there is no memory, leaves `out` as it was.
+/// Appends the line in which a session asks, without a newline: its words with single spaces. The line says that this session
+/// asks this. An error, where there is no memory, leaves `out` as it was.
 pub fn write_line(name: SessionName, request: &Request, out: &mut Vec<u8>) -> Result<(), AllocError>
     ensures ok { OnOk result (out.new.items ≡ out.old.items ++ request_line name (request_of request.now)) }
+    ensures spelled { SpellsLine (request_line name (request_of request.now)) (Some (name, request_of request.now)) }
     ensures err { OnErr result (out.new.items ≡ out.old.items) }
 {
+    requests_can_be_asked_for(request);
+    written_lines_are_spelled();
+    tell_name(name);
     let start = out.len();
     let written = append_line(name, request, out);
     or_truncate(written, start, out)
+}
+
+/// Every request that code holds can be asked for: a savepoint has a name of 1 to 16 bytes, and of a command this says
+/// `commands_can_be_asked_for`.
+pub fn requests_can_be_asked_for(request: &Request)
+    ensures { CanBeAsked (request_of request.now) }
+{
+    match request {
+        Request::Do(command) => commands_can_be_asked_for(command),
+        Request::Save(name) => tell_save_name(name),
+        Request::Back(name) => tell_save_name(name),
+        Request::Begin | Request::Undo | Request::Commit | Request::Abort => {}
+    }
+}
+
+// A name tells what it is made of when its bytes are asked for.
+fn tell_save_name(name: &SaveName)
+    ensures { IsSaveName name.now }
+{
+    let _ = name.as_bytes();
+}
+
+// The same of a session's name.
+fn tell_name(name: SessionName)
+    ensures { IsSaveName name }
+{
+    let _ = name.as_bytes();
 }
 
 /// A line says nothing, or one session's request: never both, and never two.

@@ -1,5 +1,5 @@
 //! Commands that are asked for.
-use cg_command::{Command, OnlineCpus};
+use cg_command::{Command, OnlineCpus, Pid};
 use cg_cpus::CpuSet;
 use cg_name::{FileName, Path, Refusal};
 use cg_text::{Limit, read_ops};
@@ -18,6 +18,12 @@ pub(crate) enum Asked {
     Online,
     MaxDescendants,
     MaxDepth,
+}
+
+// A move of the process with this number.
+fn migrate(number: u32, path: Path) -> Result<Command, Refusal> {
+    let pid = Pid::try_from(number)?;
+    Ok(Command::Migrate { pid, path })
 }
 
 // A write of these operations.
@@ -44,7 +50,7 @@ fn command_at(asked: Asked, path: Path) -> Result<Command, Refusal> {
     match asked {
         Asked::Create => Ok(Command::Create { path }),
         Asked::Remove => Ok(Command::Remove { path }),
-        Asked::Migrate(pid) => Ok(Command::Migrate { pid, path }),
+        Asked::Migrate(number) => migrate(number, path),
         Asked::Subtree(text) => subtree(path, text),
         Asked::Freeze => Ok(Command::Freeze { path, value: true }),
         Asked::Cpus => cpus(path, "0-1"),
