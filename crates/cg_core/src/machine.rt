@@ -11,7 +11,7 @@ ghost use Rattle.cg_history.specs.SessionMap.{oldest};
 ghost use Rattle.cg_model.specs.Cgroups.{cgroups};
 ghost use Rattle.cg_model.specs.Machine.{step};
 ghost use Rattle.cg_model.specs.Opens.{opens, transaction_in};
-ghost use Rattle.cg_model.specs.Reply.{is_full};
+ghost use Rattle.cg_model.specs.Reply.{is_full, slots};
 ghost use Rattle.cg_model.specs.Run.{tree_of};
 ghost use Rattle.cg_model.specs.Sound.{Sound};
 
@@ -132,6 +132,25 @@ impl Core {
         self.open.oldest()
     }
 
+    /// Tells what holds of any core, whatever was asked of it. Does nothing: it is called for what its contract says.
+    pub fn laws(&self)
+        ensures opening { Sound self.now.opening }
+        ensures low { 2 ≤ self.now.bound }
+        ensures high { self.now.bound ≤ 1048576 }
+        ensures within_bound { slots self.now.history ≤ self.now.bound }
+        ensures sound { Sound (tree_of cgroups self.now.opening self.now.history) }
+        ensures reached { Reached self.now.opening self.now.bound self.now.history }
+        ensures serial { IsSerial cgroups self.now.opening (machine self.now) }
+        ensures faithful { IsFaithful cgroups self.now.opening (machine self.now) }
+        ensures room { RoomKept self.now.opening (machine self.now) }
+        ensures going_back { GoBack (machine self.now) }
+        ensures others { OthersStay cgroups (machine self.now) }
+        ensures busy { IsBusyExactly self.now.opening (machine self.now) }
+    {
+        // All of it follows from the invariant, which is known where a part is looked at.
+        let _ = &self.limit;
+    }
+
     /// Answers a request of a session. `Refused(Memory)` comes to Begin, commands and Save alone, and leaves all as it was.
     pub fn step(&mut self, alloc: Global, session: SessionId, request: Request) -> Answer
         ensures answer { OnFalse (is_memory result) (answer_of result ≡ reply self.old session.0 (request_of request)) }
@@ -174,7 +193,7 @@ impl Core {
     {
         self.tell_steps();
         let answers = self.answer(alloc, session, request);
-        self.tell();
+        self.laws();
         answers
     }
 
@@ -197,20 +216,7 @@ impl Core {
         }
     }
 
-    // A core tells what its history is when a part of it is looked at.
-    fn tell(&self)
-        ensures reached { Reached self.now.opening self.now.bound self.now.history }
-        ensures serial { IsSerial cgroups self.now.opening (machine self.now) }
-        ensures faithful { IsFaithful cgroups self.now.opening (machine self.now) }
-        ensures room { RoomKept self.now.opening (machine self.now) }
-        ensures going_back { GoBack (machine self.now) }
-        ensures others { OthersStay cgroups (machine self.now) }
-        ensures busy { IsBusyExactly self.now.opening (machine self.now) }
-    {
-        let _ = &self.limit;
-    }
-
-    // And here which step the machine of the definitions takes next.
+    // Tells which step the machine of the definitions takes next.
     fn tell_steps(&self)
         ensures { StepsAsReplied self.now }
     {
