@@ -37,7 +37,8 @@ use Rattle.cg_txn.specs.Stack.{Stack}
 use Rattle.cg_core.specs.Doing.{IsCarriedOut}
 use Rattle.cg_core.specs.Parts.{of_history, stack_item, IsCoreOf}
 use Rattle.cg_core.specs.Refusing.{IsFree, IsLeast, IsRefusedBy}
-use Rattle.cg_core.specs.Stage.{times_on, Holds}
+use Rattle.cg_core.specs.Held.{times_on}
+use Rattle.cg_core.specs.Stage.{Holds}
 use Rattle.cg_core.proofs.AtHistory.{at_history}
 use Rattle.cg_core.proofs.Begun.{full_is}
 use Rattle.cg_core.proofs.Open.{stack_written}

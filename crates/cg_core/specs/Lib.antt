@@ -4,6 +4,7 @@ pub mod Code
 pub mod Core
 pub mod Doing
 pub mod Ending
+pub mod Held
 pub mod Parts
 pub mod Refusing
 pub mod Settled

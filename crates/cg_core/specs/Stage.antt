@@ -1,5 +1,5 @@
 -- What the tree and the lock table of a core hold, while open transactions have these stacks.
-use Rattle.std.specs.Prelude.{◌≡◌, ℕ, ◌+◌, cond, List, [], ◌∷◌}
+use Rattle.std.specs.Prelude.{◌≡◌, ℕ, cond, List}
 use Rattle.cg_name.specs.Path.{Path}
 use Rattle.cg_model.specs.Tree.{Tree}
 use Rattle.cg_model.specs.Cgroups.{cgroups}
@@ -7,15 +7,9 @@ use Rattle.cg_model.specs.Footprint.{Mark}
 use Rattle.cg_model.specs.Live.{Items}
 use Rattle.cg_model.specs.Opens.{among}
 use Rattle.cg_model.specs.Room as room
-use Rattle.cg_core_laws.specs.LettingGo.{footprint_of}
 use Rattle.cg_locks.specs.Holdings.{Holdings, holdings}
-use Rattle.cg_locks.specs.Marks.{times}
 use Rattle.cg_tree.specs.Room.{TreeWithRoom, has_entry}
-
--- how often the mark stands in the footprints of these items
-abbrev pub times_on : Tree → Mark → Items cgroups → ℕ
-times_on O m [] = 0
-times_on O m (x ∷ l) = times m (footprint_of O x) + times_on O m l
+use Rattle.cg_core.specs.Held.{times_on}
 
 -- the transactions ts are open with these stacks over the tree T: the tree of the code is T, it has an entry exactly where the
 -- definitions of room say, and each transaction holds each mark as often as it stands on its stack

@@ -1,19 +1,24 @@
 //! The machine: its state.
-ghost use Rattle.std.specs.Prelude.{◌≡◌, ◌≤◌, IfOk, [], false, length, option_map};
+ghost use Rattle.std.specs.Prelude.{◌≡◌, ◌≤◌, ℕ, IfOk, [], false, length, option_map};
 ghost use Rattle.std.specs.Bool.{OnFalse, OnTrue};
 ghost use Rattle.cg_core_laws.specs.Laws.{GoBack, IsBusyExactly};
 ghost use Rattle.cg_core_laws.specs.MachineOf.{Reached};
 ghost use Rattle.cg_core_laws.specs.Room.{RoomKept};
 ghost use Rattle.cg_core_laws.specs.Serial.{IsFaithful, IsSerial, OthersStay};
 ghost use Rattle.cg_core.specs.Answers.{is_memory, takes_memory};
+ghost use Rattle.cg_core.specs.Held.{keeps_entry, times_held};
 ghost use Rattle.cg_core.specs.State.{after, machine, reply, StepsAsReplied};
 ghost use Rattle.cg_history.specs.SessionMap.{oldest};
+ghost use Rattle.cg_locks.specs.Holdings.{holdings};
 ghost use Rattle.cg_model.specs.Cgroups.{cgroups};
+ghost use Rattle.cg_model.specs.Footprint.{Mark};
 ghost use Rattle.cg_model.specs.Machine.{step};
 ghost use Rattle.cg_model.specs.Opens.{opens, transaction_in};
 ghost use Rattle.cg_model.specs.Reply.{is_full, slots};
 ghost use Rattle.cg_model.specs.Run.{tree_of};
 ghost use Rattle.cg_model.specs.Sound.{Sound};
+ghost use Rattle.cg_name.specs.Path.{Path};
+ghost use Rattle.cg_tree.specs.Room.{has_entry};
 
 use crate::answers::twice;
 use crate::ending::Ending;
@@ -86,12 +91,21 @@ impl Core {
         })
     }
 
-    /// The tree as it stands: that of the history.
+    /// The tree as it stands: that of the history. Besides its groups just those paths have an entry that going back over what
+    /// stands of the open transactions may need.
     pub fn tree(&self) -> &Tree
         ensures value { result.now.tree ≡ tree_of cgroups self.now.opening self.now.history }
         ensures sound { Sound result.now.tree }
+        ensures entries { (p : Path) → has_entry result.now p ≡ keeps_entry self.now p }
     {
         &self.tree
+    }
+
+    /// The marks that the open transactions hold: those of what stands of them.
+    pub fn locks(&self) -> &LockTable
+        ensures { (u : ℕ) (m : Mark) → holdings result.now u m ≡ times_held self.now u m }
+    {
+        &self.locks
     }
 
     /// The world that the machine was opened on.

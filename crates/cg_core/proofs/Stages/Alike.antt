@@ -14,7 +14,8 @@ use Rattle.cg_core_laws.specs.Unwind.{with_items}
 use Rattle.cg_core_laws.proofs.ControlGroups.RoomForGoingBack.{needed_alike}
 use Rattle.cg_locks.specs.Holdings.{Holdings}
 use Rattle.cg_tree.specs.Room.{TreeWithRoom}
-use Rattle.cg_core.specs.Stage.{times_on, Holds}
+use Rattle.cg_core.specs.Held.{times_on}
+use Rattle.cg_core.specs.Stage.{Holds}
 use Rattle.std.specs.Option.{is_some}
 
 module _ {O : Tree} {ts : List ℕ} (after before : ℕ → Items cgroups) {T : Tree} {R : TreeWithRoom} {H : Holdings} where

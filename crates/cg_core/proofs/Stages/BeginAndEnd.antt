@@ -13,7 +13,8 @@ use Rattle.cg_core_laws.specs.Unwind.{with_items}
 use Rattle.cg_core_laws.proofs.Interleaving.OpenTransactions.{among_without}
 use Rattle.cg_locks.specs.Holdings.{Holdings, holdings}
 use Rattle.cg_tree.specs.Room.{TreeWithRoom}
-use Rattle.cg_core.specs.Stage.{times_on, Holds}
+use Rattle.cg_core.specs.Held.{times_on}
+use Rattle.cg_core.specs.Stage.{Holds}
 
 module _ {O : Tree} {stacks : ℕ → Items cgroups} {T : Tree} {R : TreeWithRoom} {H : Holdings} where
   -- a transaction with no items is begun

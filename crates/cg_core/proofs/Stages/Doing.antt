@@ -35,7 +35,8 @@ use Rattle.cg_command.specs.Applied.{entries_after}
 use Rattle.cg_locks.specs.Holdings.{Holdings, holdings}
 use Rattle.cg_locks.specs.Marks.{times}
 use Rattle.cg_tree.specs.Room.{TreeWithRoom, has_entry}
-use Rattle.cg_core.specs.Stage.{times_on, Holds}
+use Rattle.cg_core.specs.Held.{times_on}
+use Rattle.cg_core.specs.Stage.{Holds}
 use Rattle.cg_core.proofs.Stages.LiveStacks.{compared_either_way}
 
 -- ---- entries

@@ -20,7 +20,8 @@ use Rattle.cg_core_laws.specs.LettingGo.{footprint_of, LetsGo, ComesOff}
 use Rattle.cg_locks.specs.Holdings.{Holdings, holdings}
 use Rattle.cg_locks.specs.Marks.{times}
 use Rattle.cg_tree.specs.Room.{TreeWithRoom, has_entry}
-use Rattle.cg_core.specs.Stage.{times_on, Holds}
+use Rattle.cg_core.specs.Held.{times_on}
+use Rattle.cg_core.specs.Stage.{Holds}
 use Rattle.cg_txn.specs.TakingOff.{undone_in, MayComeOff}
 use Rattle.cg_txn.specs.LettingGo.{MayLetGo, IsLetGo}
 use Rattle.cg_core.proofs.Stages.Alike.{alike}

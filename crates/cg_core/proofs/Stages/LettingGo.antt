@@ -14,7 +14,8 @@ use Rattle.cg_core_laws.specs.LettingGo.{footprint_of, holds_subtree, lets_go, L
 use Rattle.cg_locks.specs.Holdings.{Holdings, holdings}
 use Rattle.cg_locks.specs.Marks.{times}
 use Rattle.cg_tree.specs.Room.{TreeWithRoom, has_entry, MaySweepIfDead}
-use Rattle.cg_core.specs.Stage.{times_on, Holds}
+use Rattle.cg_core.specs.Held.{times_on}
+use Rattle.cg_core.specs.Stage.{Holds}
 use Rattle.cg_txn.specs.LettingGo.{goes, MayLetGo, IsLetGo}
 use Rattle.cg_core.proofs.Stages.Marked.{none_where_unmarked}
 

@@ -12,7 +12,7 @@ use Rattle.cg_model.specs.Live.{Item, Ran, AtSavepoint, Items}
 use Rattle.cg_model.specs.Run.{tree_of}
 use Rattle.cg_core_laws.specs.LettingGo.{footprint_of, holds_subtree}
 use Rattle.cg_locks.specs.Marks.{same_mark, times}
-use Rattle.cg_core.specs.Stage.{times_on}
+use Rattle.cg_core.specs.Held.{times_on}
 
 -- one after another
 times-cons : (m n : Mark) (f : List Mark) → times m (n ∷ f) ≡ cond (same_mark m n) 1 0 + times m f
