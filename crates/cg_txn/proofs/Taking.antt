@@ -36,11 +36,11 @@ commands-append (Savepoint n ∷ l) m = commands-append l m
 
 -- ---- items taken off
 
--- a step back stops at a command
-pub stops_at_command : (n : Name) (all xs : List Item) (e : Entry) (w : Option StackItem × List StackItem) → all ≡ xs ++ items.Command e ∷ [] → next_back n (stack_of all) ≡ w → (Some (command_item e), stack_of xs) ≡ w
-stops_at_command n all xs e w is to = ap (next_back n) (sym (newest_of all xs (items.Command e) is)) ∙ to
+-- what a stack comes to, by its newest item and the others: as a step back at a command, and the newest command
+pub by_newest : {A : Type 0} (f : List StackItem → A) (all xs : List Item) (x : Item) (w : A) → all ≡ xs ++ x ∷ [] → f (stack_of all) ≡ w → f (item_of x ∷ stack_of xs) ≡ w
+by_newest f all xs x w is to = ap f (sym (newest_of all xs x is)) ∙ to
 
--- and at the savepoint with the name
+-- a step back stops at the savepoint with the name
 at_savepoint : (b : Bool) (n m : Name) (l : List StackItem) → same_name m n ≡ b → next_back n (Savepoint m ∷ l) ≡ cond b (None, l) (next_back n l)
 at_savepoint b n m l e = ap (λ x. cond x (None, l) (next_back n l)) e
 
@@ -53,13 +53,6 @@ passes_savepoint n m all xs w is other to = sym (at_savepoint false n m (stack_o
 
 pub ends_empty : (n : Name) (all : List Item) (w : Option StackItem × List StackItem) → all ≡ [] → next_back n (stack_of all) ≡ w → (None, stack_of all) ≡ w
 ends_empty n all w none to = ap (λ xs. (None, stack_of xs)) none ∙ ap (λ xs. next_back n (stack_of xs)) (sym none) ∙ to
-
--- the newest command, and the others
-pub newest_command : (all xs : List Item) (e : Entry) (w : List StackItem) → all ≡ xs ++ items.Command e ∷ [] → commands (stack_of all) ≡ w → w ≡ command_item e ∷ commands (stack_of xs)
-newest_command all xs e w is to = sym to ∙ ap commands (newest_of all xs (items.Command e) is)
-
-pub newest_savepoint : (all xs : List Item) (m : Name) (w : List StackItem) → all ≡ xs ++ items.Savepoint m ∷ [] → commands (stack_of all) ≡ w → commands (stack_of xs) ≡ w
-newest_savepoint all xs m w is to = sym (ap commands (newest_of all xs (items.Savepoint m) is)) ∙ to
 
 -- ---- savepoints dropped
 

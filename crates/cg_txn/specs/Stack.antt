@@ -38,3 +38,9 @@ abbrev pub next_back : Name → List StackItem → Option StackItem × List Stac
 next_back n [] = (None, [])
 next_back n (Command k d f ∷ l) = (Some (Command k d f), l)
 next_back n (Savepoint m ∷ l) = cond (same_name m n) (None, l) (next_back n l)
+
+-- the newest command, if there is one, and what stands below it
+abbrev pub next_newest : List StackItem → Option StackItem × List StackItem
+next_newest [] = (None, [])
+next_newest (Command k d f ∷ l) = (Some (Command k d f), l)
+next_newest (Savepoint m ∷ l) = next_newest l

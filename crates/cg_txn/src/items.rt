@@ -2,7 +2,7 @@
 ghost use Rattle.std.specs.Prelude.{◌≡◌, ◌++◌, [], None};
 ghost use Rattle.cg_txn.specs.Items.{names_of, stack_of, taken_item, taken_items};
 ghost use Rattle.cg_txn.specs.Stack as model;
-ghost use Rattle.cg_txn.specs.Stack.{commands, next_back};
+ghost use Rattle.cg_txn.specs.Stack.{commands, next_back, next_newest};
 
 use crate::entry::{Entry, Item};
 use cg_name::SaveName;
@@ -49,6 +49,7 @@ pub(crate) fn take_newest(
     names: &mut IndexSet<SaveName>,
 ) -> Option<Entry>
     requires { names.old.keys ≡ names_of items.old.items }
+    ensures tail { (taken_item result, stack_of items.new.items) ≡ next_newest (stack_of items.old.items) }
     ensures value { commands (stack_of items.old.items) ≡ taken_items result ++ commands (stack_of items.new.items) }
     ensures none { result ≡ None → stack_of items.new.items ≡ [] }
     ensures names { names.new.keys ≡ names_of items.new.items }

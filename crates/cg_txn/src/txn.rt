@@ -2,7 +2,7 @@
 ghost use Rattle.std.specs.Prelude.{◌≡◌, ◌↔◌, ◌∷◌, ◌++◌, ◌⊎◌, [], IfErr, IfOk, IsOk, IsTrue, OnErr, OnOk, None, false, length, true};
 ghost use Rattle.std.specs.Result.{IsErrOf};
 ghost use Rattle.cg_txn.specs.Items.{command_item, taken_item, taken_items};
-ghost use Rattle.cg_txn.specs.Stack.{commands, ends_in_command, has_savepoint, next_back, Savepoint};
+ghost use Rattle.cg_txn.specs.Stack.{commands, ends_in_command, has_savepoint, next_back, next_newest, Savepoint};
 
 use crate::entry::{Entry, Item};
 use crate::items::{drop_savepoints, ends_in_command, take_back, take_newest, take_oldest};
@@ -177,9 +177,10 @@ impl Txn {
         Ok(take_back(&mut self.items, &mut self.names, name))
     }
 
-    /// Takes the newest command off, with the savepoints above it, after which no room is reserved; `None` where no command
-    /// stands. Takes no memory.
+    /// Takes the newest command off, with the savepoints above it, after which no room is reserved; what stands below it stays.
+    /// `None` where no command stands. Takes no memory.
     pub fn drain_newest_first(&mut self) -> Option<Entry>
+        ensures tail { (taken_item result, self.new.items) ≡ next_newest self.old.items }
         ensures value { commands self.old.items ≡ taken_items result ++ commands self.new.items }
         ensures none { result ≡ None → self.new.items ≡ [] }
         ensures number { self.new.number ≡ self.old.number }
