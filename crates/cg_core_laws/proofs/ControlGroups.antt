@@ -9,6 +9,8 @@ pub mod LiveKeysApart
 pub mod WholeMachine
 -- a step from a history goes on by the records alone
 pub mod SteppingOn
+-- what a history asked for is answered again as it was
+pub mod AnsweringAgain
 -- which groups a list of changes makes or takes away
 pub mod GroupChanges
 -- stages of unwinding: the tree is sound, and taking an item off leads to the next stage

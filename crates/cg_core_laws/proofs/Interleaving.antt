@@ -23,6 +23,8 @@ mod LogInvariantKept
 mod LogIsSerial
 -- what stands of a history, and what goes from it with a stack's newest item
 mod SelectedRecords
+-- with the record of a refusal a history is of the same tree, transactions, stacks and locks
+pub mod Refusals
 -- how the log hangs together with its history
 pub mod HistoryTie
 -- each step keeps that
@@ -59,6 +61,12 @@ pub mod CommittedScripts
 mod OneTransactionEach
 -- the aborts at the end of a schedule
 pub mod AbortsAtTheEnd
+-- what a step changes, and what it leaves
+pub mod MovesOfSteps
+-- an abort gives back the tree of its begin, where no other session changed it in between
+pub mod AbortsRestore
+-- sessions under other numbers are answered alike
+pub mod Renumbering
 -- a command that nothing later clashes with drops out of a run
 pub mod DroppingOut
 -- the newest command of an open transaction is such a one

@@ -2,9 +2,12 @@ pub mod Unwind
 pub mod Serial
 pub mod Stacks
 pub mod MachineOf
+pub mod Refusals
 pub mod Reordered
 pub mod Room
 pub mod LettingGo
 pub mod Scripts
 pub mod Ends
 pub mod Laws
+pub mod Restored
+pub mod Replayed

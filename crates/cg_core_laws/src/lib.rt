@@ -4,6 +4,9 @@
 
 ghost use Rattle.cg_core_laws.specs.Scripts.{CommittedScripts, CommitTrees, TreesOfScripts};
 ghost use Rattle.cg_core_laws.specs.MachineOf.{StepsByHistory};
+ghost use Rattle.cg_core_laws.specs.Refusals.{RefusalsLeaveAll};
+ghost use Rattle.cg_core_laws.specs.Replayed.{HistoriesAnswerAgain};
+ghost use Rattle.cg_core_laws.specs.Restored.{AbortsRestoreTrees};
 ghost use Rattle.cg_core_laws.specs.Laws.{AnswersAreSteps, BoundKept, BusyExactly, CommitsKept, Draining, Drop, Faithful, Front, GoingBack, KeysOfOthersApart, LettingGo, NewestDrop, OfHistory, OthersUntouched, Roomy, SchedulesEnd, Serial, Sweeping, WholeOfHistory};
 
 /// The tree is the opening tree changed by the surviving commands alone; every inverse fits when its turn comes, in
@@ -46,9 +49,25 @@ pub fn steps_go_on_by_the_history()
     ensures { StepsByHistory }
 {}
 
+/// What a history asked for, asked again of a machine over its opening tree and with its bound, is answered just as it was,
+/// and leads to its tree, with the same transactions open: whatever numbers its sessions have then, where these tell them apart.
+pub fn histories_answer_again()
+    ensures { HistoriesAnswerAgain }
+{}
+
+/// The record of a refusal changes nothing: tree, transactions, stacks and locks are those of the history without it.
+pub fn refusals_leave_all()
+    ensures { RefusalsLeaveAll }
+{}
+
 /// Undo, Back, Abort and Commit are never refused where they have something to do, and take off exactly their own items.
 pub fn going_back_succeeds_exactly()
     ensures { GoingBack }
+{}
+
+/// The tree after an abort is the one before the transaction's begin, where no other session changed it in between.
+pub fn aborts_restore_trees()
+    ensures { AbortsRestoreTrees }
 {}
 
 /// No step changes the stack of another session's transaction.
