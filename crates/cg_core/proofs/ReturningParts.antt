@@ -53,6 +53,10 @@ module _ {O : Tree} {b : ℕ} {h : History cgroups} {c : CoreState} (s : ℕ) (q
 pub full_told : {O : Tree} {b : ℕ} {h : History cgroups} {c : CoreState} {said full : Bool} → state O b h ≡ c → said ≡ is_full c.bound c.history → said ≡ full → is_full b h ≡ full
 full_told is told e = ap (λ (v : CoreState). is_full v.bound v.history) is ∙ sym told ∙ e
 
+-- an answer that is recorded is no reply that isn't
+pub due : (q : Request cgroups) (a p : Answer) → a ≡ p → is_recorded q a ≡ true → {X : Type 0} → is_recorded q p ≡ false → X
+due q a p is noted unnoted = absurd (true≢false (sym noted ∙ ap (is_recorded q) is ∙ unnoted))
+
 -- what the code adds to its history, which has the number, the answer and the records so far by names of its own
 pub noted_is : {s k t m : ℕ} {q : Request cgroups} {a c : Answer} {g h : History cgroups} {p : History cgroups × ℕ} → k ≡ t → a ≡ c → g ≡ h
     → p ≡ (record { session = s; transaction = k; request = q; answer = a } ∷ g, m) → p.0 ≡ record { session = s; transaction = t; request = q; answer = c } ∷ h

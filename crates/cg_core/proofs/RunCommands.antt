@@ -7,16 +7,17 @@ use Rattle.cg_name.specs.declared.refusal.Refusal.{Refusal}
 use Rattle.cg_name.specs.declared.refusal.Refusal.TheVariants.{Full, Busy}
 use Rattle.cg_model.specs.Change.{Change, done}
 use Rattle.cg_model.specs.Cgroups.{cgroups}
-use Rattle.cg_model.specs.Command.{Command, IsProper}
+use Rattle.cg_model.specs.Command.{Command, Effect, IsProper}
 use Rattle.cg_model.specs.Effect.{effect}
 use Rattle.cg_model.specs.Footprint.{Mark, footprint}
-use Rattle.cg_model.specs.History.{Do, Answer, Gave, Refused, History, is_command_refusal, is_own_check}
+use Rattle.cg_model.specs.History.{Do, Answer, Gave, Refused, History, is_command_refusal, is_own_check, is_recorded}
 use Rattle.cg_model.specs.Live.{Ran, AtSavepoint, Items, live}
 use Rattle.cg_model.specs.Machine.{Machine, StackEntry, Transaction, step_in, stack_holder, dropped, done_unless_held, accepted}
-use Rattle.cg_model.specs.Opens.{Opens, among, numbers, opens}
-use Rattle.cg_model.specs.Reply.{reply, is_full}
+use Rattle.cg_model.specs.Opens.{Opens, among, numbers, opens, without}
+use Rattle.cg_model.specs.Reply as replies
+use Rattle.cg_model.specs.Reply.{command_reply, reply, is_full}
 use Rattle.cg_model.specs.Room.{changes_of}
-use Rattle.cg_model.specs.Run.{tree_of}
+use Rattle.cg_model.specs.Run.{own_tree, tree_of}
 use Rattle.cg_model.specs.System.{Outcome, Refuse, Accept}
 use Rattle.cg_model.specs.Tree.{Tree}
 use Rattle.cg_model_laws.proofs.OwnChecks.{own_checks}
@@ -42,7 +43,7 @@ use Rattle.cg_core.specs.Stage.{Holds}
 use Rattle.cg_core.proofs.AtHistory.{at_history}
 use Rattle.cg_core.proofs.Begun.{full_is}
 use Rattle.cg_core.proofs.Open.{stack_written}
-use Rattle.cg_core.proofs.ReturningParts.{session_open, items_are, is_open, once, pairs, history_is, tree_after, stays_core}
+use Rattle.cg_core.proofs.ReturningParts.{session_open, items_are, is_open, once, pairs, replied, history_is, tree_after, stays_core}
 use Rattle.cg_core.proofs.Stages.Alike.{same_stacks, told_alike}
 use Rattle.cg_core.proofs.Stages.Doing.{IsDone, held_after_doing}
 use Rattle.cg_core.proofs.Stepping.{reply_in}
@@ -130,12 +131,25 @@ own_is_command_refusal : (r : Refusal) → is_own_check r ≡ true → is_comman
 own_is_command_refusal (Busy u) e = refl
 own_is_command_refusal _ e = e
 
+-- what a command meets is recorded
+met_noted : (c : Command) (u : Option ℕ) (e : Effect) → ((r : Refusal) → e ≡ Refuse r → is_own_check r ≡ true) → is_recorded {y = cgroups} (Do c) (command_reply u e) ≡ true
+met_noted c (Some u) e own = refl
+met_noted c None (Refuse r) own = own_is_command_refusal r (own r refl)
+met_noted c None (Accept a d) own = refl
+
 module _ {O : Tree} {b : ℕ} {h : History cgroups} {n : ℕ} {R : TreeWithRoom} {H : Holdings} {xs : List (ℕ × Stack)} (core : IsCoreOf O b h n R H xs) (s : ℕ) (x : Stack) (is : found s xs ≡ Some x) where
   abbrev st : ℕ → Items cgroups
   st u = live u h
 
   abbrev ours : Items cgroups
   ours = live x.number h
+
+  -- where the history isn't full, whatever the reply to a command is, it is recorded
+  pub command_noted : (c : Command) → is_full b h ≡ false → is_recorded {y = cgroups} (Do c) (reply cgroups O b h s (Do c)) ≡ true
+  command_noted c room =
+      let found = replies.holder cgroups O (footprint c (tree_of cgroups O h)) h (numbers (without x.number (opens h))) in
+      let own = own_tree cgroups O x.number h in
+      ap (is_recorded {y = cgroups} (Do c)) (replied core s x is (Do c) ∙ ap (λ k. cond k (Refused Full) (command_reply found (effect c own))) room) ∙ met_noted c found (effect c own) (own_checks c own)
 
   -- ---- there was no memory: holdings and stack are as they were
 

@@ -1,5 +1,5 @@
 -- A command that an open transaction asks for: it is refused, or carried out.
-use Rattle.std.specs.Prelude.{◌≡◌, ◌⊎◌, ℕ, ◌+◌, Bool, true, length}
+use Rattle.std.specs.Prelude.{◌≡◌, ◌⊎◌, ℕ, ◌+◌, Bool, true, false, length}
 use Rattle.cg_locks.specs.Holdings.{Holdings}
 use Rattle.cg_model.specs.Cgroups.{cgroups}
 use Rattle.cg_model.specs.Command.{Command}
@@ -34,6 +34,6 @@ pub record IsGranted (c : Command) (R : TreeWithRoom) (H : Holdings) (s : Stack)
 abbrev pub IsSettled : Command → TreeWithRoom → Holdings → Stack → History cgroups × ℕ → Answer → TreeWithRoom → Holdings → Stack → History cgroups × ℕ → Type 0
 IsSettled c R H s k a R' H' s' k' = IsRefused c R H s k a R' H' s' k' ⊎ IsGranted c R H s k a R' H' s' k'
 
--- why no record is due: the history is full, or memory ran out
+-- why no record is due: the history is full, or it isn't and memory ran out
 abbrev pub IsUnheard : Bool → Refusal → Type 0
-IsUnheard full r = ((r ≡ refusals.Full) × (full ≡ true)) ⊎ (r ≡ refusals.Memory)
+IsUnheard full r = ((r ≡ refusals.Full) × (full ≡ true)) ⊎ ((r ≡ refusals.Memory) × (full ≡ false))

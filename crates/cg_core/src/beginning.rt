@@ -1,8 +1,8 @@
 //! A transaction begins.
-ghost use Rattle.std.specs.Prelude.{◌≡◌};
+ghost use Rattle.std.specs.Prelude.{◌≡◌, false};
 ghost use Rattle.std.specs.Bool.{OnFalse, OnTrue};
 ghost use Rattle.cg_core.specs.Answers.{is_memory};
-ghost use Rattle.cg_core.specs.State.{after, reply};
+ghost use Rattle.cg_core.specs.State.{after, has_record, reply};
 ghost use Rattle.cg_history.specs.Meaning.{answer_of};
 ghost use Rattle.cg_model.specs.History as model;
 
@@ -18,6 +18,7 @@ impl Core {
         ensures answer { OnFalse (is_memory result) (answer_of result ≡ reply self.old session.0 model.Begin) }
         ensures state { OnFalse (is_memory result) (self.new ≡ after self.old session.0 model.Begin) }
         ensures memory { OnTrue (is_memory result) (self.new ≡ self.old) }
+        ensures unrecorded { has_record self.old session.0 model.Begin ≡ false → is_memory result ≡ false }
     {
         if self.open.get(session).is_some() {
             return Answer::Refused(Refusal::AlreadyOpen);

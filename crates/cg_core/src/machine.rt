@@ -7,7 +7,7 @@ ghost use Rattle.cg_core_laws.specs.Room.{RoomKept};
 ghost use Rattle.cg_core_laws.specs.Serial.{IsFaithful, IsSerial, OthersStay};
 ghost use Rattle.cg_core.specs.Answers.{is_memory, takes_memory};
 ghost use Rattle.cg_core.specs.Held.{keeps_entry, times_held};
-ghost use Rattle.cg_core.specs.State.{after, machine, reply, StepsAsReplied};
+ghost use Rattle.cg_core.specs.State.{after, has_record, machine, reply, StepsAsReplied};
 ghost use Rattle.cg_history.specs.SessionMap.{oldest};
 ghost use Rattle.cg_locks.specs.Holdings.{holdings};
 ghost use Rattle.cg_model.specs.Cgroups.{cgroups};
@@ -165,13 +165,15 @@ impl Core {
         let _ = &self.limit;
     }
 
-    /// Answers a request of a session. `Refused(Memory)` comes to Begin, commands and Save alone, and leaves all as it was.
+    /// Answers a request of a session. `Refused(Memory)` comes to Begin, commands and Save alone, in place of an answer that would
+    /// be recorded, and leaves all as it was. So what has no record, as `AlreadyOpen`, `Full` and `NameTaken`, is always answered.
     pub fn step(&mut self, alloc: Global, session: SessionId, request: Request) -> Answer
         ensures answer { OnFalse (is_memory result) (answer_of result ≡ reply self.old session.0 (request_of request)) }
         ensures state { OnFalse (is_memory result) (self.new ≡ after self.old session.0 (request_of request)) }
         ensures machine { OnFalse (is_memory result) (step cgroups (machine self.old) session.0 (request_of request) ≡ (machine self.new, answer_of result)) }
         ensures memory { OnTrue (is_memory result) (self.new ≡ self.old) }
         ensures infallible { takes_memory request ≡ false → is_memory result ≡ false }
+        ensures unrecorded { has_record self.old session.0 (request_of request) ≡ false → is_memory result ≡ false }
         ensures reached { Reached self.new.opening self.new.bound self.new.history }
         ensures serial { IsSerial cgroups self.new.opening (machine self.new) }
         ensures faithful { IsFaithful cgroups self.new.opening (machine self.new) }
@@ -196,6 +198,7 @@ impl Core {
         ensures machine { OnFalse (is_memory result.0) (step cgroups (machine self.old) session.0 (request_of request) ≡ (machine self.new, answer_of result.0)) }
         ensures memory { OnTrue (is_memory result.0) (self.new ≡ self.old) }
         ensures infallible { takes_memory request ≡ false → is_memory result.0 ≡ false }
+        ensures unrecorded { has_record self.old session.0 (request_of request) ≡ false → is_memory result.0 ≡ false }
         ensures copy { answer_of result.1 ≡ answer_of result.0 }
         ensures reached { Reached self.new.opening self.new.bound self.new.history }
         ensures serial { IsSerial cgroups self.new.opening (machine self.new) }
@@ -217,6 +220,7 @@ impl Core {
         ensures state { OnFalse (is_memory result.0) (self.new ≡ after self.old session.0 (request_of request)) }
         ensures memory { OnTrue (is_memory result.0) (self.new ≡ self.old) }
         ensures infallible { takes_memory request ≡ false → is_memory result.0 ≡ false }
+        ensures unrecorded { has_record self.old session.0 (request_of request) ≡ false → is_memory result.0 ≡ false }
         ensures copy { answer_of result.1 ≡ answer_of result.0 }
     {
         match request {

@@ -6,7 +6,7 @@ ghost use Rattle.cg_core.specs.Alike.{AreAlike};
 ghost use Rattle.cg_core.specs.Answers.{is_memory};
 ghost use Rattle.cg_core.specs.Refusing.{IsFree, IsRefusedBy};
 ghost use Rattle.cg_core.specs.Settled.{IsSettled, IsUnheard};
-ghost use Rattle.cg_core.specs.State.{after, reply};
+ghost use Rattle.cg_core.specs.State.{after, has_record, reply};
 ghost use Rattle.cg_history.specs.Meaning.{answer_of};
 ghost use Rattle.cg_locks.specs.Holdings.{holdings};
 ghost use Rattle.cg_model.specs.Command.{IsAccepted};
@@ -36,6 +36,7 @@ impl Core {
         ensures answer { OnFalse (is_memory result.0) (answer_of result.0 ≡ reply self.old session.0 (model.Do (command_of command))) }
         ensures state { OnFalse (is_memory result.0) (self.new ≡ after self.old session.0 (model.Do (command_of command))) }
         ensures memory { OnTrue (is_memory result.0) (self.new ≡ self.old) }
+        ensures unrecorded { has_record self.old session.0 (model.Do (command_of command)) ≡ false → is_memory result.0 ≡ false }
         ensures copy { answer_of result.1 ≡ answer_of result.0 }
     {
         let full = self.is_full();

@@ -1,8 +1,8 @@
 //! A savepoint is set.
-ghost use Rattle.std.specs.Prelude.{◌≡◌};
+ghost use Rattle.std.specs.Prelude.{◌≡◌, false};
 ghost use Rattle.std.specs.Bool.{OnFalse, OnTrue};
 ghost use Rattle.cg_core.specs.Answers.{is_memory};
-ghost use Rattle.cg_core.specs.State.{after, reply};
+ghost use Rattle.cg_core.specs.State.{after, has_record, reply};
 ghost use Rattle.cg_history.specs.Meaning.{answer_of};
 ghost use Rattle.cg_model.specs.History as model;
 
@@ -16,6 +16,7 @@ impl Core {
         ensures answer { OnFalse (is_memory result) (answer_of result ≡ reply self.old session.0 (model.Save name)) }
         ensures state { OnFalse (is_memory result) (self.new ≡ after self.old session.0 (model.Save name)) }
         ensures memory { OnTrue (is_memory result) (self.new ≡ self.old) }
+        ensures unrecorded { has_record self.old session.0 (model.Save name) ≡ false → is_memory result ≡ false }
     {
         let full = self.is_full();
         let Some(txn) = self.open.get_mut(session) else {

@@ -9,7 +9,7 @@ use Rattle.cg_history.specs.SessionMap.{found}
 use Rattle.cg_core.specs.Parts.{IsCoreOf}
 use Rattle.cg_core.proofs.Begun.{already_open, begin_full, begin_reply, begun_core, begun_record}
 use Rattle.cg_core.proofs.Open.{found_told, nothing_there, session_absent, session_none, session_there}
-use Rattle.cg_core.proofs.ReturningParts.{answer_told, state_told, full_told, noted_is, few_records}
+use Rattle.cg_core.proofs.ReturningParts.{answer_told, due, state_told, full_told, noted_is, few_records}
 use Rattle.cg_core.proofs.Stepping.{recorded, stays}
 use Rattle.cg_core.proofs.TheLaws.{steps_law}
 use Rattle.cg_core.proofs.machine.Core.begin.Goals as goal
@@ -29,6 +29,18 @@ returns-then-is_full-clause-answer c =
     let full : is_full c.self.inside.limit c.self.inside.history.0 ≡ true = full_told c.self.view_is c.is_full.ensures c.if-is_full.true in
     answer_told c.args.session.0 Begin c.self.view_is
     (begin_full c.self.inside.opening c.self.inside.limit c.self.inside.history.0 c.args.session.0 (session_absent _ _ _ _ c.self.invariant.transactions c.args.session.0 absent) full)
+
+pub returns-in_default-clause-unrecorded : goal.returns-in_default-clause-unrecorded
+returns-in_default-clause-unrecorded c =
+    let absent : found c.args.session.0 c.self.inside.open ≡ None = nothing_there _ (found_told c.get.result c.get.ensures c.is_some.ensures c.if-is_some.false) in
+    let room : is_full c.self.inside.limit c.self.inside.history.0 ≡ false = full_told c.self.view_is c.is_full.ensures c.if-is_full.false in
+    due Begin _ _ (answer_told c.args.session.0 Begin c.self.view_is (begin_reply _ _ _ c.args.session.0 (session_none _ _ _ _ c.self.invariant.transactions c.args.session.0 absent) room)) refl
+
+pub returns-in_default-insert-clause-unrecorded : goal.returns-in_default-insert-clause-unrecorded
+returns-in_default-insert-clause-unrecorded c =
+    let absent : found c.args.session.0 c.self.inside.open ≡ None = nothing_there _ (found_told c.get.result c.get.ensures c.is_some.ensures c.if-is_some.false) in
+    let room : is_full c.self.inside.limit c.self.inside.history.0 ≡ false = full_told c.self.view_is c.is_full.ensures c.if-is_full.false in
+    due Begin _ _ (answer_told c.args.session.0 Begin c.self.view_is (begin_reply _ _ _ c.args.session.0 (session_none _ _ _ _ c.self.invariant.transactions c.args.session.0 absent) room)) refl
 
 pub overflow_add-number : goal.overflow_add-number
 overflow_add-number c =

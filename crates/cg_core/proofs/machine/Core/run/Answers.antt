@@ -5,7 +5,8 @@ use Rattle.cg_command.proofs.Proper.{proper}
 use Rattle.cg_command.specs.Meaning.{command_of}
 use Rattle.cg_history.specs.SessionMap.{with_value}
 use Rattle.cg_history.specs.declared.record.Answer.TheVariants as answers
-use Rattle.cg_model.specs.History.{Do, Answer, Refused}
+use Rattle.cg_model.specs.Cgroups.{cgroups}
+use Rattle.cg_model.specs.History.{Request, Do, Answer, Refused}
 use Rattle.cg_model.specs.Reply.{is_full}
 use Rattle.cg_name.specs.declared.refusal.Refusal.{Refusal}
 use Rattle.cg_name.specs.declared.refusal.Refusal.TheVariants.{Full}
@@ -13,8 +14,9 @@ use Rattle.cg_txn.specs.Stack.{Stack}
 use Rattle.cg_core.specs.Answers.{is_memory}
 use Rattle.cg_core.specs.Parts.{IsCoreOf}
 use Rattle.cg_core.specs.Settled.{IsUnheard}
+use Rattle.cg_core.specs.State.{has_record}
 use Rattle.cg_core.proofs.ReturningParts.{answer_told, state_told, full_told, noted_is, where_lent, out_refused, history_out, few}
-use Rattle.cg_core.proofs.RunCommands.{same_core, run_full}
+use Rattle.cg_core.proofs.RunCommands.{command_noted, same_core, run_full}
 use Rattle.cg_core.proofs.Settling.{no_memory, settled_reply, settled_noted, settled_history, settled_core}
 use Rattle.cg_core.proofs.machine.Core.run.Goals as goal
 
@@ -32,7 +34,14 @@ never P false e = tt
 unheard_told : (full : Bool) (r : Refusal) (a : Answer) → IsUnheard full r → (full ≡ true → Refused Full ≡ a) → OnFalse (is_memory (answers.Refused r)) (Refused r ≡ a)
 unheard_told full r a unheard when_full = elim unheard as (λ k. OnFalse (is_memory (answers.Refused r)) (Refused r ≡ a)) [
   | inl k ↦ unless _ (ap (λ e. Refused e) k.0 ∙ when_full k.1)
-  | inr k ↦ subst (λ e. OnFalse (is_memory (answers.Refused e)) (Refused e ≡ a)) (sym k) tt
+  | inr k ↦ subst (λ e. OnFalse (is_memory (answers.Refused e)) (Refused e ≡ a)) (sym k.0) tt
+]
+
+-- what is unheard wants memory only where the reply would be recorded
+unheard_unrecorded : (full : Bool) (r : Refusal) (u : Bool) → IsUnheard full r → (full ≡ false → u ≡ true) → u ≡ false → is_memory (answers.Refused r) ≡ false
+unheard_unrecorded full r u unheard due unnoted = elim unheard as (λ k. is_memory (answers.Refused r) ≡ false) [
+  | inl k ↦ ap (λ e. is_memory (answers.Refused e)) k.0
+  | inr k ↦ absurd (true≢false (sym (due k.1) ∙ unnoted))
 ]
 
 pub returns-in_default-clause-answer : goal.returns-in_default-clause-answer
@@ -67,6 +76,14 @@ returns-in-Err-clause-answer c =
     (run_full c.self.invariant c.args.session.0 c.in-Some.txn.now (sym c.in-Some.ensures.value) (command_of c.args.command) (proper c.args.command)
     (full_told c.self.view_is c.is_full-full.ensures full)))
 
+pub returns-in-Err-clause-unrecorded : goal.returns-in-Err-clause-unrecorded
+returns-in-Err-clause-unrecorded c =
+    let q : Request cgroups = Do (command_of c.args.command) in
+    unheard_unrecorded _ c.in-Err.refusal _ c.in-Err.ensures.unheard
+    (λ room.
+    ap (λ v. has_record v c.args.session.0 q) (sym c.self.view_is)
+    ∙ command_noted c.self.invariant c.args.session.0 c.in-Some.txn.now (sym c.in-Some.ensures.value) (command_of c.args.command) (full_told c.self.view_is c.is_full-full.ensures room))
+
 -- ---- it is settled
 
 pub invariant_of-self-in-Ok : goal.invariant_of-self-in-Ok
@@ -93,6 +110,12 @@ returns-in-Ok-clause-state c =
     (state_told c.args.session.0 (Do (command_of c.args.command)) c.self.view_is
     (settled_history c.self.invariant c.args.session.0 c.in-Some.txn.now (sym c.in-Some.ensures.value) (command_of c.args.command) (proper c.args.command) room _ _ _ _ c.settle.new.history c.in-Ok.ensures.settled
     ∙ sym (noted_is c.number-number.ensures c.in-Ok.ensures.alike.recorded refl c.push.ensures)))
+
+pub returns-in-Ok-clause-unrecorded : goal.returns-in-Ok-clause-unrecorded
+returns-in-Ok-clause-unrecorded c = λ unnoted.
+    let room : is_full c.self.inside.limit c.self.inside.history.0 ≡ false = full_told c.self.view_is c.is_full-full.ensures c.in-Ok.ensures.room in
+    no_memory (command_of c.args.command) c.in-Ok.answers.given
+    (settled_noted c.self.invariant c.args.session.0 c.in-Some.txn.now (sym c.in-Some.ensures.value) (command_of c.args.command) (proper c.args.command) room _ _ _ _ c.settle.new.history c.in-Ok.ensures.settled)
 
 pub returns-in-Ok-clause-memory : goal.returns-in-Ok-clause-memory
 returns-in-Ok-clause-memory c =

@@ -5,7 +5,7 @@ use Rattle.cg_model.specs.Reply.{is_full}
 use Rattle.cg_history.specs.SessionMap.{with_value}
 use Rattle.cg_txn.specs.Stack.{Stack, has_savepoint}
 use Rattle.cg_core.specs.Parts.{IsCoreOf}
-use Rattle.cg_core.proofs.ReturningParts.{answer_told, state_told, full_told, noted_is, where_lent, out_refused, history_out, unchanged}
+use Rattle.cg_core.proofs.ReturningParts.{answer_told, due, state_told, full_told, noted_is, where_lent, out_refused, history_out, unchanged}
 use Rattle.cg_core.proofs.Savepoints.{save_taken, history_taken, save_full, history_full, save_answered, history_saved, saved_core}
 use Rattle.cg_core.proofs.machine.Core.save.Goals as goal
 
@@ -60,6 +60,18 @@ invariant_of-self-in_default-save c =
     subst₂ (λ k n. IsCoreOf c.self.inside.opening c.self.inside.limit k n c.self.inside.tree c.self.inside.locks (c.get_mut.follows.lender last))
     (sym (ap (λ p. p.0) c.release.ensures ∙ ap (λ p. p.0) c.in-Ok.ensures.ok)) (sym slots)
     (unchanged c.self.invariant c.args.session.0 c.in-Some.txn.now (sym c.in-Some.ensures.value) refl refl c.in_default-save.ensures.err (where_lent c.in-Some.is (c.get_mut.follows.holds last)))
+
+pub returns-in_default-reserve-clause-unrecorded : goal.returns-in_default-reserve-clause-unrecorded
+returns-in_default-reserve-clause-unrecorded c =
+    let room : is_full c.self.inside.limit c.self.inside.history.0 ≡ false = full_told c.self.view_is c.is_full-full.ensures c.if-full.false in
+    let free : has_savepoint c.args.name c.in-Some.txn.now.items ≡ false = sym c.has_savepoint.ensures ∙ c.if-has_savepoint.false in
+    due (Save c.args.name) _ _ (answer_told c.args.session.0 (Save c.args.name) c.self.view_is (save_answered c.self.invariant c.args.session.0 c.in-Some.txn.now (sym c.in-Some.ensures.value) c.args.name free room)) refl
+
+pub returns-in_default-save-clause-unrecorded : goal.returns-in_default-save-clause-unrecorded
+returns-in_default-save-clause-unrecorded c =
+    let room : is_full c.self.inside.limit c.self.inside.history.0 ≡ false = full_told c.self.view_is c.is_full-full.ensures c.if-full.false in
+    let free : has_savepoint c.args.name c.in-Some.txn.now.items ≡ false = sym c.has_savepoint.ensures ∙ c.if-has_savepoint.false in
+    due (Save c.args.name) _ _ (answer_told c.args.session.0 (Save c.args.name) c.self.view_is (save_answered c.self.invariant c.args.session.0 c.in-Some.txn.now (sym c.in-Some.ensures.value) c.args.name free room)) refl
 
 pub invariant_of-self-2 : goal.invariant_of-self-2
 invariant_of-self-2 c =
