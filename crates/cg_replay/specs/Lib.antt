@@ -3,3 +3,4 @@ pub mod MachineOutput
 pub mod Player
 pub mod Replay
 pub mod ReplayCode
+pub mod Waiting

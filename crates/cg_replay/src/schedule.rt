@@ -7,6 +7,7 @@ ghost use Rattle.cg_lines.specs.Lines.{pending, bytes_to_come, CanBreak, LosesOf
 ghost use Rattle.cg_replay.specs.HistoryReplay.{HistoriesAreReplayed};
 ghost use Rattle.cg_replay.specs.Replay.{opened, Answers, IsOutput, IsOutputFrom, AnswersFirst, AnswersPassed, OneOutput, SomeOutput};
 ghost use Rattle.cg_replay.specs.MachineOutput.{IsMachineOutput, OutputsAreTheMachines};
+ghost use Rattle.cg_replay.specs.Waiting.{MayWait};
 ghost use Rattle.cg_script.specs.declared.fault.ScriptFault.TheVariants as faults;
 
 use crate::player::{Player, refuse};
@@ -109,6 +110,7 @@ fn send_early<S: Source, K: Sink>(
     ensures front { OnErr result (AppendsFront (K.taken sink.old) (K.taken sink.new) out.old.items) }
     ensures fault { IfErr result (λ e. e ≡ faults.WriteFault) }
     ensures failed { OnErr result (Failed (K.failed sink.old) (K.failed sink.new)) }
+    ensures early { OnOk result (MayWait reader.now out.new.items) }
 {
     if reader.has_line() && out.len() < GATHERED {
         return Ok(());
@@ -130,13 +132,15 @@ fn send<K: Sink>(sink: &mut K, out: &mut Vec<u8>) -> Result<(), ScriptFault>
     Ok(())
 }
 
-// Answers the next line at the end of `out`. False is the end of the schedule. After a fault `out` is as it was.
+// Answers the next line at the end of `out`, which is empty where the reader may have to wait for that line. False is the end of
+// the schedule. After a fault `out` is as it was.
 fn answer_line<S: Source>(
     alloc: Global,
     reader: &mut LineReader<S>,
     player: &mut Player,
     out: &mut Vec<u8>,
 ) -> Result<bool, ScriptFault>
+    requires { MayWait reader.old out.old.items }
     ensures answered { IfOk result (λ more. more ≡ true → IfSome (pending reader.old) (λ text. (answer : List ℕ) × (out.new.items ≡ out.old.items ++ answer) × AnswersFirst player.old text answer player.new (pending reader.new))) }
     ensures ended { IfOk result (λ more. more ≡ false → IfSome (pending reader.old) (λ text. text ≡ []) × (player.new ≡ player.old) × (out.new.items ≡ out.old.items)) }
     ensures unchanged { OnErr result (out.new.items ≡ out.old.items) }
