@@ -11,6 +11,8 @@ pub mod WholeMachine
 pub mod SteppingOn
 -- what a history asked for is answered again as it was
 pub mod AnsweringAgain
+-- what a history shows is ASCII
+pub mod ShownTexts
 -- which groups a list of changes makes or takes away
 pub mod GroupChanges
 -- stages of unwinding: the tree is sound, and taking an item off leads to the next stage

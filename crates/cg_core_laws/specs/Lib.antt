@@ -11,3 +11,4 @@ pub mod Ends
 pub mod Laws
 pub mod Restored
 pub mod Replayed
+pub mod Shown

@@ -7,6 +7,7 @@ ghost use Rattle.cg_core_laws.specs.MachineOf.{StepsByHistory};
 ghost use Rattle.cg_core_laws.specs.Refusals.{RefusalsLeaveAll};
 ghost use Rattle.cg_core_laws.specs.Replayed.{HistoriesAnswerAgain};
 ghost use Rattle.cg_core_laws.specs.Restored.{AbortsRestoreTrees};
+ghost use Rattle.cg_core_laws.specs.Shown.{TextsAreAscii};
 ghost use Rattle.cg_core_laws.specs.Laws.{AnswersAreSteps, BoundKept, BusyExactly, CommitsKept, Draining, Drop, Faithful, Front, GoingBack, KeysOfOthersApart, LettingGo, NewestDrop, OfHistory, OthersUntouched, Roomy, SchedulesEnd, Serial, Sweeping, WholeOfHistory};
 
 /// The tree is the opening tree changed by the surviving commands alone; every inverse fits when its turn comes, in
@@ -53,6 +54,11 @@ pub fn steps_go_on_by_the_history()
 /// and leads to its tree, with the same transactions open: whatever numbers its sessions have then, where these tell them apart.
 pub fn histories_answer_again()
     ensures { HistoriesAnswerAgain }
+{}
+
+/// Each text that a legal history shows is ASCII.
+pub fn texts_are_ascii()
+    ensures { TextsAreAscii }
 {}
 
 /// The record of a refusal changes nothing: tree, transactions, stacks and locks are those of the history without it.

@@ -2,4 +2,5 @@ mod Endings
 pub mod HistoryReplays
 mod MachineOutputs
 pub mod OneOutput
+mod OwnHistories
 mod Playing

@@ -8,5 +8,5 @@ pub use cg_lines::{LineReader, Sink, Source};
 pub use player::{Player, refuse};
 pub use schedule::{
     a_schedule_has_an_output, a_schedule_has_one_output_at_most, histories_are_replayed,
-    outputs_are_the_machines, replay,
+    outputs_are_the_machines, own_histories_are_replayed, replay,
 };

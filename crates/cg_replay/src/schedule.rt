@@ -4,7 +4,7 @@ ghost use Rattle.std.specs.Result.{IsErrOf};
 ghost use Rattle.std.specs.Io.KnownBytes.{Appends};
 ghost use Rattle.cg_lines.specs.Device.{AppendsFront, AppendsTo, Failed};
 ghost use Rattle.cg_lines.specs.Lines.{pending, bytes_to_come, CanBreak, LosesOfLine};
-ghost use Rattle.cg_replay.specs.HistoryReplay.{HistoriesAreReplayed};
+ghost use Rattle.cg_replay.specs.HistoryReplay.{HistoriesAreReplayed, OwnHistoriesAreReplayed};
 ghost use Rattle.cg_replay.specs.Replay.{opened, Answers, IsOutput, IsOutputFrom, AnswersFirst, AnswersPassed, OneOutput, SomeOutput};
 ghost use Rattle.cg_replay.specs.MachineOutput.{IsMachineOutput, OutputsAreTheMachines};
 ghost use Rattle.cg_replay.specs.Waiting.{MayWait};
@@ -184,4 +184,11 @@ pub fn outputs_are_the_machines()
 /// The text of a history, replayed over a sound tree, is answered what the machine answers to these requests.
 pub fn histories_are_replayed()
     ensures { HistoriesAreReplayed }
+{}
+
+/// The text of a machine's own history, of which nothing is open any more, replayed over the tree that the machine was opened on
+/// and with its bound, is answered by just the answers that stand in its comments, and then its tree is written: where there are
+/// at most 4,096 sessions, the requests can be asked for, and no comment is longer than a line.
+pub fn own_histories_are_replayed()
+    ensures { OwnHistoriesAreReplayed }
 {}
