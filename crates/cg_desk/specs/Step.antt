@@ -2,7 +2,7 @@
 use Rattle.std.specs.Prelude.{◌≡◌, ℕ, Some, false}
 use Rattle.std.specs.Bool.{OnFalse, OnTrue}
 use Rattle.cg_core.specs.Answers.{is_memory, takes_memory}
-use Rattle.cg_core.specs.State.{CoreState, after, machine, reply}
+use Rattle.cg_core.specs.State.{CoreState, after, has_record, machine, reply}
 use Rattle.cg_core_laws.specs.Laws.{GoBack, IsBusyExactly}
 use Rattle.cg_core_laws.specs.MachineOf.{Reached}
 use Rattle.cg_core_laws.specs.Room.{RoomKept}
@@ -25,6 +25,7 @@ pub record IsStep (before : CoreState) (s : ℕ) (r : Request) (a : Answer) (c :
   pub by_machine : OnFalse (is_memory a) (step cgroups (machine before) s (request_of r) ≡ (machine c, answer_of a))
   pub memory : OnTrue (is_memory a) (c ≡ before)
   pub infallible : takes_memory r ≡ false → is_memory a ≡ false
+  pub unrecorded : has_record before s (request_of r) ≡ false → is_memory a ≡ false
   pub reached : Reached c.opening c.bound c.history
   pub serial : IsSerial cgroups c.opening (machine c)
   pub faithful : IsFaithful cgroups c.opening (machine c)
