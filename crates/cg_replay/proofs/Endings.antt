@@ -22,7 +22,7 @@ use Rattle.cg_core.specs.State.{CoreState, machine, reply, after}
 use Rattle.cg_history.specs.SessionMap.{oldest}
 use Rattle.cg_script.proofs.Facts.{cons_nil}
 use Rattle.cg_world_text.specs.World.{world_text}
-use Rattle.cg_replay.specs.Player.{IsReached}
+use Rattle.cg_replay.proofs.Reached.{IsReached}
 use Rattle.cg_replay.specs.Replay.{answer_line, ending_sessions, abort_lines, aborted_by, tree_now, ending_by, ending_text}
 
 -- ---- the open transactions, of which the oldest stands last
@@ -123,10 +123,3 @@ aborted c d s is least same =
 
 pub on_false : (b : Bool) {P : Type 0} → b ≡ false → OnFalse b P → P
 on_false b {P} e h = subst (λ b. OnFalse b P) e h
-
-opening_kept : (b : Bool) (c d : CoreState) (s : ℕ) (r : Request cgroups) → OnFalse b (d ≡ after c s r) → OnTrue b (d ≡ c) → d.opening ≡ c.opening
-opening_kept true c d s r h k = ap (λ (x : CoreState). x.opening) k
-opening_kept false c d s r h k = ap (λ (x : CoreState). x.opening) h
-
-pub reached_still : (b : Bool) (c d : CoreState) (s : ℕ) (r : Request cgroups) → IsReached c → OnFalse b (d ≡ after c s r) → OnTrue b (d ≡ c) → Reached d.opening d.bound d.history → IsReached d
-reached_still b c d s r is h k reached = record { sound = subst Sound (sym (opening_kept b c d s r h k)) is.sound; reached = reached }

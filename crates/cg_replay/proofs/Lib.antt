@@ -4,3 +4,4 @@ mod MachineOutputs
 pub mod OneOutput
 mod OwnHistories
 mod Playing
+mod Reached

@@ -18,7 +18,7 @@ use Rattle.cg_world_text.specs.World.{world_text}
 use Rattle.cg_script.specs.Answer.{answer_text}
 use Rattle.cg_script.specs.Turns.{Turn, Skip, Ask, Fail, AreTurns, asked}
 use Rattle.cg_replay.specs.MachineOutput.{answer_lines, written, OutputsAreTheMachines}
-use Rattle.cg_replay.specs.Player.{IsReached}
+use Rattle.cg_replay.proofs.Reached.{IsReached}
 use Rattle.cg_replay.specs.Replay.{Replay, Skips, Asks, Fails, Answers, AnswersAll, answer_line, abort_lines, aborted_by, tree_now, ending_sessions, ending_text, opened}
 use Rattle.cg_script.specs.Request.{newline, SpellsRequest}
 

@@ -1,6 +1,5 @@
 pub mod HistoryReplay
 pub mod MachineOutput
-pub mod Player
 pub mod Replay
 pub mod ReplayCode
 pub mod Waiting

@@ -41,7 +41,6 @@ impl Model for Player {
     ghost use Rattle.indexmap.specs.IndexSet.{index_set_len};
     ghost use Rattle.cg_replay.specs.Replay.{Replay};
     ghost use Rattle.cg_replay.specs.ReplayCode.{replay_code};
-    ghost use Rattle.cg_replay.specs.Player.{IsReached};
 
     ghost Value = { Replay };
 
@@ -49,7 +48,7 @@ impl Model for Player {
 
     ghost view = { λ p. record { names = p.names.keys; core = p.core } };
 
-    ghost invariant = { λ p. (index_set_len p.names ≤ 4096) × IsReached p.core };
+    ghost invariant = { λ p. index_set_len p.names ≤ 4096 };
 }
 
 impl Player {
@@ -114,6 +113,7 @@ impl Player {
         let Some(session) = self.core.oldest() else {
             return Ok(false);
         };
+        self.core.laws();
         let answer = self.core.step(alloc, session, Request::Abort);
         end_line(&answer, out)?;
         Ok(true)

@@ -21,7 +21,7 @@ returns-clause-aborted c = λ _.
     let core : CoreState = c.self.inside.core in
     let s : ℕ = c.in-Some.session.0 in
     let fine = c.step-answer.ensures.infallible refl in
-    let gone : IsAborted core s c.step-answer.new.self = aborted core c.step-answer.new.self s c.self.invariant.1 (sym c.in-Some.ensures) (on_false _ fine c.step-answer.ensures.state) in (
+    let gone : IsAborted core s c.step-answer.new.self = aborted core c.step-answer.new.self s (record { sound = c.laws.ensures.opening; reached = c.laws.ensures.reached }) (sym c.in-Some.ensures) (on_false _ fine c.step-answer.ensures.state) in (
       answer_line core s Abort,
       c.in_ok-end_line.ensures.ok ∙ ap (λ a. c.args.out.now.items ++ (answer_text a ++ newline)) (on_false _ fine c.step-answer.ensures.answer),
       subst (λ (r : Replay). ending_text r.core ≡ answer_line core s Abort ++ ending_text c.step-answer.new.self) c.self.view_is gone.text,
@@ -32,5 +32,5 @@ returns-clause-fewer c = λ _.
     let core : CoreState = c.self.inside.core in
     let s : ℕ = c.in-Some.session.0 in
     let fine = c.step-answer.ensures.infallible refl in
-    let gone : IsAborted core s c.step-answer.new.self = aborted core c.step-answer.new.self s c.self.invariant.1 (sym c.in-Some.ensures) (on_false _ fine c.step-answer.ensures.state) in
+    let gone : IsAborted core s c.step-answer.new.self = aborted core c.step-answer.new.self s (record { sound = c.laws.ensures.opening; reached = c.laws.ensures.reached }) (sym c.in-Some.ensures) (on_false _ fine c.step-answer.ensures.state) in
     subst (λ (r : Replay). length (opens c.step-answer.new.self.history) < length (opens r.core.history)) c.self.view_is gone.fewer
