@@ -1,5 +1,5 @@
 -- Which entries a core's tree has, and which marks its open transactions hold, as its history says.
-use Rattle.std.specs.Prelude.{ℕ, ◌+◌, Bool, cond, List, [], ◌∷◌}
+use Rattle.std.specs.Prelude.{ℕ, ◌+◌, Bool, cond, [], ◌∷◌}
 use Rattle.cg_name.specs.Path.{Path}
 use Rattle.cg_model.specs.Tree.{Tree}
 use Rattle.cg_model.specs.Cgroups.{cgroups}

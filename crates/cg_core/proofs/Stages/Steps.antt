@@ -1,5 +1,5 @@
 -- Steps of a list of items, one after another, keep what each of them keeps.
-use Rattle.std.proofs.Common.{ℕ, List, [], ◌∷◌, map, sym, subst₂}
+use Rattle.std.proofs.Common.{ℕ, [], ◌∷◌, map, sym, subst₂}
 use Rattle.cg_name.specs.Name.{Name}
 use Rattle.cg_model.specs.System.{Outcome}
 use Rattle.cg_model.specs.Tree.{Tree}
