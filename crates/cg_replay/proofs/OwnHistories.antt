@@ -25,8 +25,8 @@ use Rattle.cg_core_laws.proofs.ControlGroups.LawsOfGroups.{laws}
 use Rattle.cg_core_laws.proofs.ControlGroups.ShownTexts.{texts_are_ascii}
 use Rattle.cg_core_laws.proofs.Interleaving.Theorem.{faithful}
 use Rattle.cg_world_text.specs.World.{world_text}
-use Rattle.cg_script.specs.HistoryText.{sessions, place, renumbered, ShowsText, IsReadable}
-use Rattle.cg_replay.specs.HistoryReplay.{HasLines, OwnHistoriesAreReplayed}
+use Rattle.cg_script.specs.HistoryText.{sessions, place, renumbered, ShowsText, IsReadable, IsAsked}
+use Rattle.cg_replay.specs.HistoryReplay.{HasShortComment, OwnHistoriesAreReplayed}
 use Rattle.cg_replay.specs.MachineOutput.{answer_lines}
 use Rattle.cg_replay.proofs.HistoryReplays.{histories_are_replayed}
 
@@ -128,10 +128,10 @@ shows (Committed k) h = tt
 shows (Aborted t) h = tt
 shows (Refused r) h = tt
 
-readable : (h : History cgroups) → AllByRecursion HasLines h → AllByRecursion (λ r. (text : List ℕ) → r.answer ≡ Gave (Text text) → IsAscii text) h → AllByRecursion IsReadable h
-readable [] lines texts = tt
-readable (r ∷ h) lines texts =
-    (record { session = lines.0.session; request = lines.0.request; shown = shows r.answer texts.0; short = lines.0.short }, readable h lines.1 texts.1)
+readable : (h : History cgroups) → AllByRecursion IsAsked h → AllByRecursion HasShortComment h → AllByRecursion (λ r. (text : List ℕ) → r.answer ≡ Gave (Text text) → IsAscii text) h → AllByRecursion IsReadable h
+readable [] asked short texts = tt
+readable (r ∷ h) asked short texts =
+    (record { session = asked.0.0; request = asked.0.1; shown = shows r.answer texts.0; short = short.0 }, readable h asked.1 short.1 texts.1)
 
 -- ---- where nothing is open, nothing is aborted
 
@@ -145,12 +145,12 @@ abbrev aborting : Opens → List (ℕ × Request cgroups)
 aborting ps = map (λ p. (p.0, Abort)) (reverse ps)
 
 pub own_histories_are_replayed : OwnHistoriesAreReplayed
-own_histories_are_replayed h T limit out sound reached closed few lines is =
+own_histories_are_replayed h T limit out sound reached closed few asked_for short is =
     let legal : Legal cgroups T limit h = (subst (IsFaithful cgroups T) reached.leads (faithful cgroups laws T sound limit reached.requests reached.proper)).legal in
     let again : AnswersAgain T limit h (number (sessions h)) = histories_answer_again T limit h (number (sessions h)) sound reached (tells_apart (sessions h)) in
     let a : Answered = answers cgroups (opened cgroups T limit) (asked_again (number (sessions h)) h) in
     let none : opens a.1.history ≡ [] = again.transactions ∙ ap (map (λ (p : ℕ × ℕ). (number (sessions h) p.0, p.1))) closed in
-    histories_are_replayed h few (readable h lines (texts_are_ascii T limit h legal)) T limit out sound is
+    histories_are_replayed h few (readable h asked_for short (texts_are_ascii T limit h legal)) T limit out sound is
     ∙ ap (λ calls. let o = output cgroups (opened cgroups T limit) calls in answer_lines o.0 ++ world_text o.1.tree) (sym (asked_is h))
     ∙ ap (λ (ps : Opens). let o = ended a (aborting ps) in answer_lines o.0 ++ world_text o.1.tree) none
     ∙ ap (λ (l : List Answer). answer_lines l ++ world_text a.1.tree) (append-nil a.0 ∙ again.same)
