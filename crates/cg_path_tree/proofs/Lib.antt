@@ -1,0 +1,12 @@
+pub mod Adding
+pub mod Changing
+pub mod Counting
+pub mod Finding
+pub mod Indexed
+pub mod Linking
+pub mod Parents
+pub mod Places
+pub mod Prefixes
+pub mod Removing
+pub mod Seen
+pub mod Texts

@@ -1,0 +1,183 @@
+-- What is seen of a tree says what its nodes hold.
+use Rattle.std.proofs.Common.{◌≡◌, ◌≢◌, ℕ, zero, suc, ◌-◌, ◌≤◌, Bool, true, false, List, [], ◌∷◌, length, take, Option, None, Some, IsSome, is_some, String, string_bytes, option_map, not, inl, inr, refl, sym, ap, subst, ◌∙◌, arith, length-append, length-take, true≢false}
+use Rattle.std.specs.List.{slice_get}
+use Rattle.std.specs.FinMap.Entries.{find}
+use Rattle.std.proofs.Math.Seq.{take-append_seam, take-length}
+use Rattle.std.proofs.lemmas.List.{take-take}
+use Rattle.std.proofs.lemmas.Bool.{cases_eq}
+use Rattle.cg_name.proofs.Packing.{prefix_rest}
+use Rattle.cg_name.specs.Packed.{names_in, IsPacked}
+use Rattle.slab.specs.Slab as slab
+use Rattle.cg_maps.specs.FiniteMap.{get, len, retain}
+use Rattle.cg_name.specs.Path.{Path, path_cmp, is_root, is_parent}
+use Rattle.cg_path_tree.specs.declared.node.Node.{Node}
+use Rattle.cg_path_tree.specs.declared.node.NodeKey.{NodeKey}
+use Rattle.cg_path_tree.specs.Nodes.{Nodes, parent_path, AreClosed, IsKey, IsLeaf, HaveOnePath}
+use Rattle.cg_path_tree.specs.Linked.{paths_of, children_in, node_in, value_of, IsNodeAt, IsLinked, seen}
+use Rattle.cg_path_tree.proofs.Places.{same_some, some_not_none}
+use Rattle.cg_path_tree.proofs.Finding.{place_of, absent_by}
+use Rattle.cg_path_tree.proofs.Indexed.{get_by_find, length-by_paths, by_path, at_place, packed_at}
+use Rattle.cg_path_tree.proofs.Parents.{none_counted}
+use Rattle.cg_path_tree.proofs.Counting.{count_is, len-from_entries, distinct_from_once}
+use Rattle.cg_path_tree.proofs.Linking.{value_there, has_nodes, get-values, node_found, node_there, one_path}
+
+module _ {V Z : Type 0} (es : List (String Z × NodeKey)) (nodes : slab.Slab (Node V)) (l : IsLinked es nodes) (g : Nodes V) (is : seen es nodes ≡ g) where
+  abbrev count : Path → ℕ
+  count = children_in (paths_of es)
+
+  pub found_is : (p : Path) → find path_cmp p (paths_of es) ≡ get g.keys p
+  found_is p = sym (get_by_find (paths_of es) p) ∙ ap (λ v. get v.keys p) is
+
+  pub value_is : (p : Path) → value_there (node_in nodes) (find path_cmp p (paths_of es)) ≡ get g.values p
+  value_is p = sym (get-values (node_in nodes) (paths_of es) (has_nodes (paths_of es) (node_in nodes) count l.tree) p) ∙ ap (λ v. get v.values p) is
+
+  -- the node with the key of a path
+  pub node_of_key : (p : Path) (k : NodeKey) → get g.keys p ≡ Some k → (n : Node V) × (node_in nodes k ≡ Some n)
+  node_of_key p k h = let x = node_found count (paths_of es) (node_in nodes) l.tree p k (found_is p ∙ h) in (x.1, x.3)
+
+  pub key_there : (k : NodeKey) → IsKey g.keys k → IsSome (node_in nodes k)
+  key_there k key = let x = node_of_key key.0 k key.1 in ap is_some x.1
+
+  pub node_at : (p : Path) (k : NodeKey) (n : Node V) → get g.keys p ≡ Some k → node_in nodes k ≡ Some n → (j : ℕ) × (slice_get (paths_of es) j ≡ Some (p, k)) × IsNodeAt count (paths_of es) j p n
+  node_at p k n h at = node_there count (paths_of es) (node_in nodes) l.tree p k n (found_is p ∙ h) at
+
+  pub value_at : (p : Path) (k : NodeKey) (n : Node V) → get g.keys p ≡ Some k → node_in nodes k ≡ Some n → get g.values p ≡ Some n.value
+  value_at p k n h at = sym (value_is p) ∙ ap (value_there (node_in nodes)) (found_is p ∙ h) ∙ ap value_of at
+
+  pub depth_at : (p : Path) (k : NodeKey) (n : Node V) → get g.keys p ≡ Some k → node_in nodes k ≡ Some n → n.depth ≡ length p
+  depth_at p k n h at = (node_at p k n h at).2.depth
+
+  pub parent_at : (p : Path) (k : NodeKey) (n : Node V) → get g.keys p ≡ Some k → node_in nodes k ≡ Some n → is_root p ≡ false → Some n.parent ≡ get g.keys (parent_path p)
+  parent_at p k n h at r = sym ((node_at p k n h at).2.parent r) ∙ found_is (parent_path p)
+
+  pub children_at : (p : Path) (k : NodeKey) (n : Node V) → get g.keys p ≡ Some k → node_in nodes k ≡ Some n → n.children ≡ len (retain g.keys (is_parent p))
+  children_at p k n h at = (node_at p k n h at).2.children ∙ count_is (is_parent p) (paths_of es) l.tree.once ∙ ap (λ v. len (retain v.keys (is_parent p))) is
+
+  pub leaf_at : (p : Path) (k : NodeKey) (n : Node V) → get g.keys p ≡ Some k → node_in nodes k ≡ Some n → n.children ≡ 0 → IsLeaf g.keys p
+  leaf_at p k n h at none q below = absent_by (get g.keys q) (λ x there.
+      let at_q = place_of (paths_of es) q x (found_is q ∙ there) in
+      let zero_count : count p ≡ 0 = sym ((node_at p k n h at).2.children) ∙ none in
+      true≢false (sym below ∙ none_counted (λ (e : Path × NodeKey). is_parent p e.0) (paths_of es) zero_count at_q.0 (q, x) at_q.1))
+
+  pub len_is : len g.keys ≡ length es
+  len_is = ap (λ v. len v.keys) (sym is) ∙ len-from_entries (paths_of es) (distinct_from_once (paths_of es) l.tree.once) ∙ length-by_paths (λ k. string_bytes k) es
+
+  pub have_one_path : HaveOnePath g.keys
+  have_one_path p q k a b = one_path count (paths_of es) (node_in nodes) l.tree p q k (found_is p ∙ a) (found_is q ∙ b)
+
+  both_so : (o : Option NodeKey) → ((k : NodeKey) → o ≡ Some k → IsSome (node_in nodes k)) → is_some (value_there (node_in nodes) o) ≡ is_some o
+  both_so None h = refl
+  both_so (Some k) h = valued (node_in nodes k) (h k refl)
+    where
+      valued : (o : Option (Node V)) → IsSome o → is_some (value_of o) ≡ true
+      valued None h = h
+      valued (Some n) h = refl
+
+  pub both_there : (p : Path) → is_some (get g.values p) ≡ is_some (get g.keys p)
+  both_there p =
+      ap is_some (sym (value_is p)) ∙ both_so (find path_cmp p (paths_of es)) (λ k h. key_there k (p, sym (found_is p) ∙ h)) ∙ ap is_some (found_is p)
+
+  -- ---- where there is a node, there is one at each prefix
+
+  parent_there : (p : Path) → IsSome (get g.keys p) → is_root p ≡ false → IsSome (get g.keys (parent_path p))
+  parent_there p h r = by (get g.keys p) refl h
+    where
+      by : (o : Option NodeKey) → get g.keys p ≡ o → IsSome o → IsSome (get g.keys (parent_path p))
+      by None e some = absurd (true≢false (sym some))
+      by (Some k) e some = let x = node_of_key p k e in ap is_some (sym (parent_at p k x.0 e x.1 r))
+
+  -- the path that is so many names shorter
+  upward : (d : ℕ) (q : Path) → IsSome (get g.keys q) → IsSome (get g.keys (take (length q - d) q))
+  upward zero q h = subst (λ p. IsSome (get g.keys p)) (sym (whole q)) h
+    where
+      whole : (q : Path) → take (length q - 0) q ≡ q
+      whole q = let same : length q - 0 ≡ length q = omega arith in ap (λ n. take n q) same ∙ take-length q
+  upward (suc d) q h = by (is_root (take (length q - d) q)) refl (upward d q h)
+    where
+      p : Path
+      p = take (length q - d) q
+
+      shorter : take (length q - suc d) q ≡ parent_path p
+      shorter =
+          let low : length p - 1 ≡ length q - suc d = omega (arith, length-take (length q - d) q) in
+          let fits : length q - suc d ≤ length q - d = omega arith in
+          sym (take-take (length q - suc d) (length q - d) q fits) ∙ ap (λ n. take n p) (sym low)
+
+      root_stays : (x : Path) → is_root x ≡ true → parent_path x ≡ x
+      root_stays [] r = refl
+      root_stays (m ∷ x) r = absurd (true≢false (sym r))
+
+      by : (b : Bool) → is_root p ≡ b → IsSome (get g.keys p) → IsSome (get g.keys (take (length q - suc d) q))
+      by true r some = subst (λ x. IsSome (get g.keys x)) (sym (root_stays p r) ∙ sym shorter) some
+      by false r some = subst (λ x. IsSome (get g.keys x)) (sym shorter) (parent_there p some r)
+
+  pub prefix_there : (d : ℕ) (q : Path) → d ≤ length q → IsSome (get g.keys q) → IsSome (get g.keys (take d q))
+  prefix_there d q low h =
+      let back : length q - (length q - d) ≡ d = omega arith in
+      subst (λ n. IsSome (get g.keys (take n q))) back (upward (length q - d) q h)
+
+  pub are_closed : AreClosed g.keys
+  are_closed p q prefix h =
+      let rest = prefix_rest p q prefix in
+      let first : take (length p) q ≡ p = ap (take (length p)) rest.1 ∙ take-append_seam p rest.0 in
+      let low : length p ≤ length q = omega (arith, ap length rest.1, length-append p rest.0) in
+      subst (λ x. IsSome (get g.keys x)) first (prefix_there (length p) q low h)
+
+  -- ---- the root is the path with no name
+
+  pub root_by_depth : (p : Path) (k : NodeKey) (n : Node V) → get g.keys p ≡ Some k → node_in nodes k ≡ Some n → n.depth ≡ 0 → is_root p ≡ true
+  root_by_depth p k n h at none = empty p (sym (depth_at p k n h at) ∙ none)
+    where
+      empty : (x : Path) → length x ≡ 0 → is_root x ≡ true
+      empty [] e = refl
+      empty (m ∷ x) e = absurd (omega arith)
+
+  pub deep_by_depth : (p : Path) (k : NodeKey) (n : Node V) → get g.keys p ≡ Some k → node_in nodes k ≡ Some n → n.depth ≢ 0 → is_root p ≡ false
+  deep_by_depth p k n h at some = nonempty p (λ e. some (depth_at p k n h at ∙ e))
+    where
+      nonempty : (x : Path) → length x ≢ 0 → is_root x ≡ false
+      nonempty [] e = absurd (e refl)
+      nonempty (m ∷ x) e = refl
+
+  -- ---- the entry of a node
+
+  -- the entry whose place the node with a key knows
+  pub record IsEntryOf (k : NodeKey) (e : String Z × NodeKey) : Type 0 where
+    pub packed : IsPacked (string_bytes e.0)
+    pub found : get g.keys (names_in (string_bytes e.0)) ≡ Some k
+
+  entry_at : (k : NodeKey) (n : Node V) (key : IsKey g.keys k) → node_in nodes k ≡ Some n → option_map (by_path (λ s. string_bytes s)) (slice_get es n.place) ≡ Some (key.0, k)
+  entry_at k n key at =
+      let x = node_at key.0 k n key.1 at in
+      ap (λ j. option_map (by_path (λ s. string_bytes s)) (slice_get es j)) x.2.place ∙ sym (at_place (λ s. string_bytes s) es x.0) ∙ x.1
+
+  pub entry_there : (k : NodeKey) (n : Node V) → IsKey g.keys k → node_in nodes k ≡ Some n → slice_get es n.place ≢ None
+  entry_there k n key at none = some_not_none (key.0, k) None (sym (ap (option_map (by_path (λ s. string_bytes s))) none) ∙ entry_at k n key at) refl
+
+  pub entry_of : (k : NodeKey) (n : Node V) → IsKey g.keys k → node_in nodes k ≡ Some n → (e : String Z × NodeKey) → slice_get es n.place ≡ Some e → IsEntryOf k e
+  entry_of k n key at e there =
+      let same : by_path (λ s. string_bytes s) e ≡ (key.0, k) =
+      same_some (by_path (λ s. string_bytes s) e) (key.0, k) (sym (ap (option_map (by_path (λ s. string_bytes s))) there) ∙ entry_at k n key at) in
+      record {
+        packed = packed_at (λ s. string_bytes s) es l.packed n.place e there;
+        found = ap (λ (f : Path × NodeKey). get g.keys f.0) same ∙ key.1;
+      }
+
+  -- what a node says of its parent is so
+  pub parent_so : (p : Path) (k : NodeKey) (n : Node V) → get g.keys p ≡ Some k → node_in nodes k ≡ Some n → (o : Option NodeKey) → (n.depth ≡ 0 → o ≡ None) → (n.depth ≢ 0 → o ≡ Some n.parent)
+      → (is_some o ≡ not (is_root p)) × (is_root p ≡ false → o ≡ get g.keys (parent_path p))
+  parent_so p k n h at o root value = elim (cases_eq n.depth 0) [
+    | inl none ↦
+        let r = root_by_depth p k n h at none in
+        (ap is_some (root none) ∙ sym (ap not r), λ deep. absurd (true≢false (sym r ∙ deep)))
+    | inr some ↦
+        let r = deep_by_depth p k n h at some in
+        (ap is_some (value some) ∙ sym (ap not r), λ deep. value some ∙ parent_at p k n h at deep)
+  ]
+
+  pub the_entry : (k : NodeKey) (n : Node V) → IsKey g.keys k → node_in nodes k ≡ Some n → (e : String Z × NodeKey) × (slice_get es n.place ≡ Some e)
+  the_entry k n key at = by (slice_get es n.place) refl
+    where
+      by : (o : Option (String Z × NodeKey)) → slice_get es n.place ≡ o → (e : String Z × NodeKey) × (slice_get es n.place ≡ Some e)
+      by None none = absurd (entry_there k n key at none)
+      by (Some e) some = (e, some)

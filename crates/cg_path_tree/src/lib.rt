@@ -1,0 +1,10 @@
+//! Trees of paths with a value at each.
+#![tactic(auto)]
+
+mod entering;
+mod node;
+mod path_text;
+mod path_tree;
+
+pub use node::NodeKey;
+pub use path_tree::PathTree;

@@ -1,0 +1,224 @@
+//! Trees of paths.
+ghost use Rattle.std.specs.Prelude.{◌≡◌, true, false, ◌-◌, ◌+◌, ◌<◌, ◌≤◌, ℕ, List, length, take, not, is_some, slice_get, IfOk, IfErr, IfNone, IfSome, OnOk, OnErr, None, Some, if◌then◌else◌, ◌++◌, ◌∷◌, []};
+ghost use Rattle.std.specs.Borrow.{sem};
+ghost use Rattle.std.specs.HashMap.{get_by_text};
+ghost use Rattle.cg_maps.specs.FiniteMap.{empty, get, len, retain, set_at};
+ghost use Rattle.cg_name.specs.Path.{is_parent, is_root};
+ghost use Rattle.cg_path_tree.specs.Nodes.{parent_path, path_of, AreClosed, HaveOnePath, HasParent, IsKey, IsLeaf};
+
+use crate::entering::{enter, leave};
+use crate::node::{Node, NodeKey, add_child, remove_child};
+use crate::path_text::{prefix_text, text};
+use cg_name::{Path, PathRef};
+use indexmap::IndexMap;
+use slab::Slab;
+use std::alloc::{AllocFailed, Global};
+use std::marker::Model;
+
+/// A tree of paths with a value at each. Where it has a node it has one at each prefix of its path. A node is found by its
+/// path in one look-up, and then known by its key, from which its value and its parent are a step away.
+#[derive(Drop)]
+pub struct PathTree<V> {
+    // The node of each path, by its text. The texts stand here alone, and a node knows the place of its own.
+    index: IndexMap<String, NodeKey>,
+    nodes: Slab<Node<V>>,
+}
+
+impl<V> Model for PathTree<V> {
+    ghost use Rattle.cg_path_tree.specs.Nodes.{Nodes, nodes_code};
+
+    ghost Value = { Nodes V };
+
+    ghost coded = { nodes_code V.code };
+
+    ghost use Rattle.cg_path_tree.specs.Linked.{seen, IsLinked};
+
+    ghost view = { λ t. seen t.index.entries t.nodes };
+
+    ghost invariant = { λ t. IsLinked t.index.entries t.nodes };
+}
+
+impl<V: Drop> PathTree<V> {
+    ghost use Rattle.cg_path_tree.specs.Lends.{lends_value};
+
+    /// A tree with no node.
+    pub fn new(alloc: Global) -> PathTree<V>
+        ensures values { result.values ≡ empty }
+        ensures keys { result.keys ≡ empty }
+    {
+        PathTree {
+            index: IndexMap::new(alloc),
+            nodes: Slab::new(alloc),
+        }
+    }
+
+    /// What holds of every tree: where it has a node it has one at each prefix, no key is that of two paths, and the same
+    /// paths have keys and values. Does nothing.
+    pub fn laws(&self)
+        ensures closed { AreClosed self.now.keys }
+        ensures one_path { HaveOnePath self.now.keys }
+        ensures both { (p : List (List ℕ)) → is_some (get self.now.values p) ≡ is_some (get self.now.keys p) }
+    {
+        let _ = &self.index;
+    }
+
+    /// How many nodes there are.
+    pub fn len(&self) -> usize
+        ensures { result ≡ len self.now.keys }
+    {
+        self.index.len()
+    }
+
+    /// The node at the path, if there is one. Takes no memory.
+    pub fn find(&self, path: &Path) -> Option<NodeKey>
+        ensures { result ≡ get self.now.keys path.now }
+    {
+        self.index.get(text(path)).copied()
+    }
+
+    /// The node at the path of the first `depth` names, or of all where there are fewer, if there is one. Takes no memory.
+    pub fn find_prefix(&self, path: &Path, depth: u32) -> Option<NodeKey>
+        ensures { result ≡ get self.now.keys (take depth path.now) }
+    {
+        self.index.get(prefix_text(path, depth)).copied()
+    }
+
+    /// The deepest node on the path, and how many names it has, if there is any. Looks at few prefixes, by halving, and
+    /// takes no memory.
+    pub fn deepest(&self, path: &Path) -> Option<(NodeKey, u32)>
+        ensures none { IfNone result ((d : ℕ) → get self.now.keys (take d path.now) ≡ None) }
+        ensures within { IfSome result (λ r. r.1 ≤ length path.now) }
+        ensures found { IfSome result (λ r. get self.now.keys (take r.1 path.now) ≡ Some r.0) }
+        ensures deepest { IfSome result (λ r. (d : ℕ) → r.1 < d → d ≤ length path.now → get self.now.keys (take d path.now) ≡ None) }
+    {
+        self.laws();
+        let mut found = self.find_prefix(path, 0)?;
+        let mut depth = 0;
+        let mut above = path.depth() + 1;
+        // There is a node at `depth` names, and none from `above` on.
+        while above - depth > 1 {
+            let middle = depth + (above - depth) / 2;
+            match self.find_prefix(path, middle) {
+                Some(key) => {
+                    found = key;
+                    depth = middle;
+                }
+                None => {
+                    above = middle;
+                }
+            }
+        }
+        Some((found, depth))
+    }
+
+    /// The value of the node with that key.
+    pub fn get(&self, key: NodeKey) -> &V
+        requires { IsKey self.now.keys key }
+        ensures { (p : List (List ℕ)) → get self.now.keys p ≡ Some key → get self.now.values p ≡ Some result.now }
+    {
+        &self.nodes[key.number()].value
+    }
+
+    /// The value of the node with that key, to be written.
+    pub fn get_mut(&mut self, key: NodeKey) -> &mut V
+        requires { IsKey self.old.keys key }
+        ensures* writes_back { sem 𝓛 (lends_value V.row self.entry key result) }
+        ensures path { (p : List (List ℕ)) → get self.old.keys p ≡ Some key → path_of self.old.keys key ≡ p }
+        ensures value { (p : List (List ℕ)) → get self.old.keys p ≡ Some key → get self.old.values p ≡ Some result.now }
+    {
+        &mut self.nodes[key.number()].value
+    }
+
+    /// The node one name shorter; `None` for the root's alone.
+    pub fn parent(&self, key: NodeKey) -> Option<NodeKey>
+        requires { IsKey self.now.keys key }
+        ensures root { (p : List (List ℕ)) → get self.now.keys p ≡ Some key → is_some result ≡ not (is_root p) }
+        ensures value { (p : List (List ℕ)) → get self.now.keys p ≡ Some key → is_root p ≡ false → result ≡ get self.now.keys (parent_path p) }
+    {
+        let node = &self.nodes[key.number()];
+        node.parent()
+    }
+
+    /// How many names the path of the node has, from 0 to 64.
+    pub fn depth(&self, key: NodeKey) -> u32
+        requires { IsKey self.now.keys key }
+        ensures { (p : List (List ℕ)) → get self.now.keys p ≡ Some key → result ≡ length p }
+    {
+        self.nodes[key.number()].depth
+    }
+
+    /// How many nodes lie right below the one with that key.
+    pub fn child_count(&self, key: NodeKey) -> u32
+        requires { IsKey self.now.keys key }
+        ensures count { (p : List (List ℕ)) → get self.now.keys p ≡ Some key → result ≡ len (retain self.now.keys (is_parent p)) }
+        ensures leaf { (p : List (List ℕ)) → get self.now.keys p ≡ Some key → result ≡ 0 → IsLeaf self.now.keys p }
+    {
+        self.nodes[key.number()].children
+    }
+
+    /// The path of the node with that key.
+    pub fn path(&self, key: NodeKey) -> PathRef<'_>
+        requires { IsKey self.now.keys key }
+        ensures { get self.now.keys result ≡ Some key }
+    {
+        match self
+            .index
+            .get_index(self.nodes[key.number()].place as usize)
+        {
+            Some((text, _)) => PathRef::new(text.as_bytes()),
+            None => unreachable!(),
+        }
+    }
+
+    /// Puts a node with that value at a path that has none, the root's or right below a node. Where there is no memory for
+    /// it the value is handed back, and all is as it was.
+    pub fn add(&mut self, alloc: Global, path: &Path, value: V) -> Result<NodeKey, AllocFailed<V>>
+        requires absent { get self.old.keys path.now ≡ None }
+        requires parent { HasParent self.old.keys path.now }
+        ensures keys { IfOk result (λ key. self.new.keys ≡ set_at self.old.keys path.now (Some key)) }
+        ensures values { OnOk result (self.new.values ≡ set_at self.old.values path.now (Some value)) }
+        ensures fresh { IfOk result (λ key. ¬ (IsKey self.old.keys key)) }
+        ensures value_returned { IfErr result (λ failed. failed.value ≡ value) }
+        ensures err { OnErr result (self.new ≡ self.old) }
+    {
+        let parent = self.parent_of(path);
+        let Ok((key, place)) = enter(&mut self.index, &mut self.nodes, alloc, path) else {
+            return Err(AllocFailed { value });
+        };
+        self.nodes.insert_reserved(Node {
+            place,
+            parent: parent.unwrap_or(key),
+            depth: path.depth(),
+            children: 0,
+            value,
+        });
+        add_child(&mut self.nodes, parent);
+        Ok(key)
+    }
+
+    // The node of the path one name shorter; `None` for the root.
+    fn parent_of(&self, path: &Path) -> Option<NodeKey>
+        ensures root { is_root path.now ≡ true → result ≡ None }
+        ensures value { is_root path.now ≡ false → result ≡ get self.now.keys (parent_path path.now) }
+    {
+        if path.is_root() {
+            return None;
+        }
+        let depth = path.depth();
+        self.find_prefix(path, depth.saturating_sub(1))
+    }
+
+    /// Takes out a node that has none right below, and gives its value. Takes no memory.
+    pub fn remove(&mut self, key: NodeKey) -> V
+        requires there { IsKey self.old.keys key }
+        requires leaf { (p : List (List ℕ)) → get self.old.keys p ≡ Some key → IsLeaf self.old.keys p }
+        ensures keys { (p : List (List ℕ)) → get self.old.keys p ≡ Some key → self.new.keys ≡ set_at self.old.keys p None }
+        ensures values { (p : List (List ℕ)) → get self.old.keys p ≡ Some key → self.new.values ≡ set_at self.old.values p None }
+        ensures value { (p : List (List ℕ)) → get self.old.keys p ≡ Some key → get self.old.values p ≡ Some result }
+    {
+        let node = self.nodes.remove(key.number());
+        leave(&mut self.index, &mut self.nodes, node.place);
+        remove_child(&mut self.nodes, node.parent());
+        node.value
+    }
+}
