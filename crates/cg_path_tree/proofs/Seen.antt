@@ -15,7 +15,7 @@ use Rattle.cg_path_tree.specs.declared.node.NodeKey.{NodeKey}
 use Rattle.cg_path_tree.specs.Nodes.{Nodes, parent_path, AreClosed, IsKey, IsLeaf, HaveOnePath}
 use Rattle.cg_path_tree.specs.Linked.{paths_of, children_in, node_in, value_of, IsNodeAt, IsLinked, seen}
 use Rattle.cg_path_tree.proofs.Places.{same_some, some_not_none}
-use Rattle.cg_path_tree.proofs.Finding.{place_of, absent_by}
+use Rattle.cg_path_tree.proofs.Finding.{found_at, place_of, absent_by}
 use Rattle.cg_path_tree.proofs.Indexed.{get_by_find, length-by_paths, by_path, at_place, packed_at}
 use Rattle.cg_path_tree.proofs.Parents.{none_counted}
 use Rattle.cg_path_tree.proofs.Counting.{count_is, len-from_entries, distinct_from_once}
@@ -181,3 +181,18 @@ module _ {V Z : Type 0} (es : List (String Z × NodeKey)) (nodes : slab.Slab (No
       by : (o : Option (String Z × NodeKey)) → slice_get es n.place ≡ o → (e : String Z × NodeKey) × (slice_get es n.place ≡ Some e)
       by None none = absurd (entry_there k n key at none)
       by (Some e) some = (e, some)
+
+  -- ---- a key is that of a node where the entry at the node's place has it
+
+  pub key_from_entry : (k : NodeKey) (n : Node V) (e : String Z × NodeKey) → slice_get es n.place ≡ Some e → e.1 ≡ k → IsKey g.keys k
+  key_from_entry k n e there own =
+      let path = by_path (λ s. string_bytes s) e in
+      let at : slice_get (paths_of es) n.place ≡ Some path = at_place (λ s. string_bytes s) es n.place ∙ ap (option_map (by_path (λ s. string_bytes s))) there in
+      (path.0, sym (found_is path.0) ∙ found_at (paths_of es) l.tree.once n.place path at ∙ ap Some own)
+
+  pub key_of_entry : (k : NodeKey) (n : Node V) → IsKey g.keys k → node_in nodes k ≡ Some n → (e : String Z × NodeKey) → slice_get es n.place ≡ Some e → e.1 ≡ k
+  key_of_entry k n key at e there =
+      ap (λ (f : Path × NodeKey). f.1) (same_some (by_path (λ s. string_bytes s) e) (key.0, k) (sym (ap (option_map (by_path (λ s. string_bytes s))) there) ∙ entry_at k n key at))
+
+  pub no_key : (k : NodeKey) → node_in nodes k ≡ None → ¬ (IsKey g.keys k)
+  no_key k none key = true≢false (sym (key_there k key) ∙ ap is_some none)

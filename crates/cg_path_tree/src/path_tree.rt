@@ -1,7 +1,6 @@
 //! Trees of paths.
-ghost use Rattle.std.specs.Prelude.{◌≡◌, true, false, ◌-◌, ◌+◌, ◌<◌, ◌≤◌, ℕ, List, length, take, not, is_some, slice_get, IfOk, IfErr, IfNone, IfSome, OnOk, OnErr, None, Some, if◌then◌else◌, ◌++◌, ◌∷◌, []};
+ghost use Rattle.std.specs.Prelude.{◌≡◌, ◌↔◌, ◌==◌, false, true, ◌<◌, ◌≤◌, ℕ, List, length, take, not, is_some, IsTrue, IfOk, IfErr, IfNone, IfSome, OnOk, OnErr, None, Some};
 ghost use Rattle.std.specs.Borrow.{sem};
-ghost use Rattle.std.specs.HashMap.{get_by_text};
 ghost use Rattle.cg_maps.specs.FiniteMap.{empty, get, len, retain, set_at};
 ghost use Rattle.cg_name.specs.Path.{is_parent, is_root};
 ghost use Rattle.cg_path_tree.specs.Nodes.{parent_path, path_of, AreClosed, HaveOnePath, HasParent, IsKey, IsLeaf};
@@ -17,11 +16,17 @@ use std::marker::Model;
 
 /// A tree of paths with a value at each. Where it has a node it has one at each prefix of its path. A node is found by its
 /// path in one look-up, and then known by its key, from which its value and its parent are a step away.
-#[derive(Drop)]
 pub struct PathTree<V> {
     // The node of each path, by its text. The texts stand here alone, and a node knows the place of its own.
     index: IndexMap<String, NodeKey>,
     nodes: Slab<Node<V>>,
+}
+
+// By hand, so that whoever drops one calls this, and doesn't drop each thing in it: that makes proofs shorter.
+impl<V: Drop> Drop for PathTree<V> {
+    fn drop(self) {
+        let PathTree { index: _, nodes: _ } = self;
+    }
 }
 
 impl<V> Model for PathTree<V> {
@@ -69,6 +74,13 @@ impl<V: Drop> PathTree<V> {
         self.index.len()
     }
 
+    /// Whether there is no node.
+    pub fn is_empty(&self) -> bool
+        ensures { result ≡ (len self.now.keys == 0) }
+    {
+        self.len() == 0
+    }
+
     /// The node at the path, if there is one. Takes no memory.
     pub fn find(&self, path: &Path) -> Option<NodeKey>
         ensures { result ≡ get self.now.keys path.now }
@@ -109,6 +121,19 @@ impl<V: Drop> PathTree<V> {
             }
         }
         Some((found, depth))
+    }
+
+    /// Whether the key is that of a node. One that `find` gave is, until its node is removed.
+    pub fn is_live_key(&self, key: NodeKey) -> bool
+        ensures { IsTrue result ↔ IsKey self.now.keys key }
+    {
+        let Some(node) = self.nodes.get(key.number()) else {
+            return false;
+        };
+        match self.index.get_index(node.place as usize) {
+            Some((_, own)) => *own == key,
+            None => false,
+        }
     }
 
     /// The value of the node with that key.
