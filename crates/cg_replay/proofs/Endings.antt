@@ -1,20 +1,19 @@
 -- At the end of a schedule the open transaction with the least number is aborted, and then the others in turn.
-use Rattle.std.proofs.Common.{◌≡◌, ℕ, ◌<◌, ◌==◌, true, false, Bool, cond, List, [], ◌∷◌, ◌++◌, length, map, reverse, get_or, Option, Some, None, refl, sym, ap, subst, ◌∙◌, arith, append_assoc, length-append, ne_eqb}
+use Rattle.std.proofs.Common.{◌≡◌, ℕ, ◌<◌, ◌==◌, false, Bool, cond, List, [], ◌∷◌, ◌++◌, length, map, reverse, get_or, Option, Some, None, refl, sym, ap, subst, ◌∙◌, arith, append_assoc, length-append, ne_eqb}
 use Rattle.std.proofs.lemmas.Option.{none-some, same_Some}
 use Rattle.std.proofs.lemmas.Bool.{eq-eqb}
 use Rattle.std.specs.List.{AllByRecursion}
 use Rattle.std.proofs.lemmas.List.{reverse-append}
 use Rattle.cg_name.specs.declared.refusal.Refusal.{Refusal}
-use Rattle.std.specs.Bool.{OnFalse, OnTrue}
+use Rattle.std.specs.Bool.{OnFalse}
 use Rattle.cg_model.specs.Cgroups.{cgroups}
-use Rattle.cg_model.specs.Sound.{Sound}
-use Rattle.cg_model.specs.History.{Request, Abort, Answer, Saved, Aborted, Refused, is_recorded, named_in}
+use Rattle.cg_model.specs.History.{Abort, Answer, Saved, Aborted, Refused, is_recorded, named_in}
 use Rattle.cg_model.specs.Machine.{step}
 use Rattle.cg_model.specs.Opens.{Opens, numbers, without, transaction_in, opens}
 use Rattle.cg_model.specs.Output.{answers}
 use Rattle.cg_model.specs.Reply.{reply_at}
 use Rattle.cg_core_laws.specs.Ends.{GoDown, EndsAll}
-use Rattle.cg_core_laws.specs.MachineOf.{Reached, with_record}
+use Rattle.cg_core_laws.specs.MachineOf.{with_record}
 use Rattle.cg_core_laws.proofs.ControlGroups.LawsOfGroups.{laws}
 use Rattle.cg_core_laws.proofs.ControlGroups.SteppingOn.{steps_by_history}
 use Rattle.cg_core_laws.proofs.Interleaving.AbortsAtTheEnd.{ends_all}

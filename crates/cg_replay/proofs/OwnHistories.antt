@@ -1,5 +1,5 @@
 -- The text of a machine's own history, replayed over its opening tree, is answered as its comments say.
-use Rattle.std.proofs.Common.{◌≡◌, ℕ, ◌+◌, ◌<◌, ◌≤◌, ◌||◌, nat_eq, Bool, true, false, not, cond, List, [], ◌∷◌, ◌++◌, length, map, reverse, refl, sym, ap, subst, ◌∙◌, true≢false, arith}
+use Rattle.std.proofs.Common.{◌≡◌, ℕ, ◌+◌, ◌≤◌, ◌||◌, nat_eq, Bool, true, false, not, cond, List, [], ◌∷◌, ◌++◌, length, map, reverse, refl, sym, ap, subst, ◌∙◌, true≢false, arith}
 use Rattle.std.proofs.lemmas.Bool.{cond_both, eq-eqb, eqb-true}
 use Rattle.std.proofs.lemmas.List.{append-nil}
 use Rattle.std.proofs.lemmas.List.Folds.{list_any-append}
@@ -13,11 +13,8 @@ use Rattle.cg_model.specs.Machine.{Machine, opened}
 use Rattle.cg_model.specs.Opens.{Opens, opens}
 use Rattle.cg_model.specs.Output.{answers, output}
 use Rattle.cg_model.specs.Reply.{Legal}
-use Rattle.cg_model.specs.Run.{tree_of}
-use Rattle.cg_model.specs.Sound.{Sound}
 use Rattle.cg_model.specs.System.{Done, Text}
 use Rattle.cg_model.specs.Tree.{Tree}
-use Rattle.cg_core_laws.specs.MachineOf.{machine_of, Reached}
 use Rattle.cg_core_laws.specs.Replayed.{asked_again, recorded_answers, TellsApart, AnswersAgain}
 use Rattle.cg_core_laws.specs.Serial.{IsFaithful}
 use Rattle.cg_core_laws.proofs.ControlGroups.AnsweringAgain.{histories_answer_again}

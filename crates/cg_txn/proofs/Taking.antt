@@ -1,8 +1,7 @@
 -- Items, the oldest first, as a stack.
-use Rattle.std.proofs.Common.{◌≡◌, ℕ, ◌+◌, ◌-◌, ◌<◌, Bool, true, false, cond, List, [], ◌∷◌, ◌++◌, filter, length, slice_index_or, Option, Some, None, refl, sym, ap, ◌∙◌, arith}
+use Rattle.std.proofs.Common.{◌≡◌, ℕ, ◌+◌, ◌-◌, ◌<◌, Bool, true, false, cond, List, [], ◌∷◌, ◌++◌, filter, length, slice_index_or, Option, None, refl, sym, ap, ◌∙◌, arith}
 use Rattle.std.proofs.lemmas.List.{append-nil, length-append}
 use Rattle.cg_name.specs.Name.{Name, same_name}
-use Rattle.cg_txn.specs.declared.entry.Entry.{Entry}
 use Rattle.cg_txn.specs.declared.entry.Item.{Item}
 use Rattle.cg_txn.specs.declared.entry.Item.TheVariants as items
 use Rattle.cg_txn.specs.Items.{command_item, is_command, item_of, names_of, stack_of}
