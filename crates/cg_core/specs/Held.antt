@@ -12,7 +12,8 @@ use Rattle.cg_core_laws.specs.LettingGo.{footprint_of}
 use Rattle.cg_locks.specs.Marks.{times}
 use Rattle.cg_core.specs.State.{CoreState}
 
--- a path has an entry: it is a group's, or going back over a live command of an open transaction may need it
+-- a path has an entry: it is a group's, or a live command of an open transaction made a group there or took it away, so that
+-- going back may need it
 abbrev pub keeps_entry : CoreState → Path → Bool
 keeps_entry c p = has_entry c.opening (λ t. live t c.history) (numbers (opens c.history)) (tree_of cgroups c.opening c.history) p
 
