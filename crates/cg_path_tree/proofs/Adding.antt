@@ -9,7 +9,7 @@ use Rattle.cg_path_tree.specs.declared.node.Node.{Node}
 use Rattle.cg_path_tree.specs.declared.node.NodeKey.{NodeKey}
 use Rattle.cg_path_tree.specs.Nodes.{Nodes, parent_path, HasParent, IsKey}
 use Rattle.cg_path_tree.specs.Linked.{paths_of, children_in, node_in, value_of, values_at, HavePaths, IsNodeAt, IsTree, IsLinked, seen}
-use Rattle.cg_path_tree.proofs.Places.{some_not_none}
+use Rattle.cg_path_tree.proofs.ListChanges.{some_not_none}
 use Rattle.cg_path_tree.proofs.Finding.{find-push}
 use Rattle.cg_path_tree.proofs.Indexed.{length-by_paths}
 use Rattle.cg_path_tree.proofs.Parents.{parent_is, not_root, no_child, root_no_child, below_parent, count-push, count_none}
@@ -23,7 +23,7 @@ given (Some x) d h = refl
 
 module _ {V Z : Type 0} (es fs : List (String Z × NodeKey)) (nodes : slab.Slab (Node V)) (l : IsLinked es nodes) (g : Nodes V) (is : seen es nodes ≡ g) (p : Path) (k : NodeKey) (m : Node V) (absent : get g.keys p ≡ None) (below : HasParent g.keys p)
     (entered : paths_of fs ≡ paths_of es ++ (p, k) ∷ []) (packed : HavePaths fs) (grown put : slab.Slab (Node V)) (kept : (i : NodeKey) → node_in grown i ≡ node_in nodes i) (vacant : node_in nodes k ≡ None) (up : slab.Updates grown put k.0 (Some m))
-    (place : m.place ≡ length es) (depth : m.depth ≡ length p) (childless : m.children ≡ 0) (parent : Option NodeKey) (root : is_root p ≡ true → parent ≡ None) (value : is_root p ≡ false → parent ≡ get g.keys (parent_path p)) (own : m.parent ≡ unwrap_or parent k) where
+    (entry : m.entry ≡ length es) (depth : m.depth ≡ length p) (childless : m.children ≡ 0) (parent : Option NodeKey) (root : is_root p ≡ true → parent ≡ None) (value : is_root p ≡ false → parent ≡ get g.keys (parent_path p)) (own : m.parent ≡ unwrap_or parent k) where
   others : (i : NodeKey) → i ≢ k → node_in put i ≡ node_in nodes i
   others i ne = up.others i.0 (other_number i k ne) ∙ kept i
 
@@ -50,7 +50,7 @@ module _ {V Z : Type 0} (es fs : List (String Z × NodeKey)) (nodes : slab.Slab 
   pushed : IsTree (children_in (paths_of es)) (paths_of es ++ (p, k) ∷ []) (node_in put)
   pushed =
       tree-push (children_in (paths_of es)) (paths_of es) (node_in nodes) (node_in put) p k m l.tree not_found vacant up.changed others
-      (place ∙ sym (length-by_paths (λ s. string_bytes s) es)) depth (childless ∙ sym no_children) parent_found
+      (entry ∙ sym (length-by_paths (λ s. string_bytes s) es)) depth (childless ∙ sym no_children) parent_found
 
   counted : (q : Path) → children_in (paths_of es ++ (p, k) ∷ []) q ≡ children_in (paths_of es) q + cond (is_parent q p) 1 0
   counted q = count-push (λ (e : Path × NodeKey). is_parent q e.0) (paths_of es) (p, k)
@@ -76,9 +76,9 @@ module _ {V Z : Type 0} (es fs : List (String Z × NodeKey)) (nodes : slab.Slab 
   children_before kp n e at =
       (node_there (children_in (paths_of es)) (paths_of es ++ (p, k) ∷ []) (node_in put) pushed (parent_path p) kp n (parent_after kp e) at).2.children
 
-  pub parent_room : m.place < 4294967295 → (kp : NodeKey) (n : Node V) → parent ≡ Some kp → node_in put kp ≡ Some n → n.children < 4294967295
+  pub parent_room : m.entry < 4294967295 → (kp : NodeKey) (n : Node V) → parent ≡ Some kp → node_in put kp ≡ Some n → n.children < 4294967295
   parent_room low kp n e at =
-      omega (arith, children_before kp n e at, count_by-le-length (λ (x : Path × NodeKey). is_parent (parent_path p) x.0) (paths_of es), length-by_paths (λ s. string_bytes s) es, place)
+      omega (arith, children_before kp n e at, count_by-le-length (λ (x : Path × NodeKey). is_parent (parent_path p) x.0) (paths_of es), length-by_paths (λ s. string_bytes s) es, entry)
 
   module _ (later : slab.Slab (Node V)) (none : parent ≡ None → later ≡ put)
       (some : (kp : NodeKey) (n : Node V) → parent ≡ Some kp → node_in put kp ≡ Some n → slab.Updates put later kp.0 (Some (record n { children = n.children + 1 }))) where

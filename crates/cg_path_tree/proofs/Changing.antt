@@ -43,7 +43,7 @@ module _ {V Z : Type 0} (es : List (String Z × NodeKey)) (nodes : slab.Slab (No
   -- ---- a value is written
 
   module _ (later : slab.Slab (Node V)) (p : Path) (k : NodeKey) (n m : Node V) (h : get g.keys p ≡ Some k) (at : node_in nodes k ≡ Some n) (up : slab.Updates nodes later k.0 (Some m))
-      (place : m.place ≡ n.place) (depth : m.depth ≡ n.depth) (parent : m.parent ≡ n.parent) (children : m.children ≡ n.children) where
+      (entry : m.entry ≡ n.entry) (depth : m.depth ≡ n.depth) (parent : m.parent ≡ n.parent) (children : m.children ≡ n.children) where
     others : (i : NodeKey) → i ≢ k → node_in later i ≡ node_in nodes i
     others i ne = up.others i.0 (other_number i k ne)
 
@@ -52,7 +52,7 @@ module _ {V Z : Type 0} (es : List (String Z × NodeKey)) (nodes : slab.Slab (No
 
     tree_written : IsTree (children_in (paths_of es)) (paths_of es) (node_in later)
     tree_written =
-        tree-write (node_in nodes) (node_in later) k n m at up.changed others (children_in (paths_of es)) (children_in (paths_of es)) (paths_of es) p l.tree there place depth parent
+        tree-write (node_in nodes) (node_in later) k n m at up.changed others (children_in (paths_of es)) (children_in (paths_of es)) (paths_of es) p l.tree there entry depth parent
         (children ∙ (node_at es nodes l g is p k n h at).2.children) (λ q ne. refl)
 
     pub linked-written : IsLinked es later

@@ -6,7 +6,7 @@ use Rattle.cg_maps.specs.FiniteMap.{FiniteMap, empty, from_entries, get, set_at,
 use Rattle.cg_maps.proofs.Maps.{same_map, get-retain}
 use Rattle.cg_name.specs.Order.{path_cmp_total, path_cmp_exact}
 use Rattle.cg_name.specs.Path.{Path, path_cmp}
-use Rattle.cg_path_tree.proofs.Finding.{Once, once-rest, absent_by, place_of}
+use Rattle.cg_path_tree.proofs.Finding.{Once, once-rest, absent_by, standing_of}
 use Rattle.cg_path_tree.proofs.Indexed.{get_by_find}
 use Rattle.cg_path_tree.proofs.Parents.{count-cons}
 
@@ -24,7 +24,7 @@ module _ {X : Type 0} where
   distinct_from_once [] once = tt
   distinct_from_once (e ∷ es) once = (
     absent_by (find path_cmp e.0 es) (λ x h.
-        let at = place_of es e.0 x h in
+        let at = standing_of es e.0 x h in
         let no : zero ≡ suc at.0 = once zero (suc at.0) e (e.0, x) refl at.1 refl in
         absurd (omega arith)),
     distinct_from_once es (once-rest e es once),

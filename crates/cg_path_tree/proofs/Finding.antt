@@ -6,7 +6,7 @@ use Rattle.std.specs.FinMap.Entries.{find, find-append}
 use Rattle.cg_maps.proofs.Maps.{here, is_same, apart, cases}
 use Rattle.cg_name.specs.Order.{path_cmp_total, path_cmp_exact}
 use Rattle.cg_name.specs.Path.{Path, path_cmp}
-use Rattle.cg_path_tree.proofs.Places.{same_some, some_not_none, pushed_cases, LosesAt, left_cases, still_there}
+use Rattle.cg_path_tree.proofs.ListChanges.{same_some, some_not_none, pushed_cases, LosesAt, left_cases, still_there}
 
 pub tell : (q p : Path) → (q ≡ p) ⊎ (q ≢ p)
 tell = cases path_cmp_total path_cmp_exact
@@ -36,9 +36,9 @@ module _ {X : Type 0} where
       ap (λ b. cond b (Some f.1) (find path_cmp e.0 es)) (differs e.0 f.0 ne) ∙ found_at es (once-rest f es once) j e h
 
   -- and what is found stands somewhere
-  pub place_of : (es : List (Path × X)) (p : Path) (x : X) → find path_cmp p es ≡ Some x → (j : ℕ) × (slice_get es j ≡ Some (p, x))
-  place_of [] p x h = absurd (some_not_none x None h refl)
-  place_of (f ∷ es) p x h = by (eq_by_cmp path_cmp p f.0) refl (place_of es p x)
+  pub standing_of : (es : List (Path × X)) (p : Path) (x : X) → find path_cmp p es ≡ Some x → (j : ℕ) × (slice_get es j ≡ Some (p, x))
+  standing_of [] p x h = absurd (some_not_none x None h refl)
+  standing_of (f ∷ es) p x h = by (eq_by_cmp path_cmp p f.0) refl (standing_of es p x)
     where
       by : (b : Bool) → eq_by_cmp path_cmp p f.0 ≡ b → (find path_cmp p es ≡ Some x → (j : ℕ) × (slice_get es j ≡ Some (p, x))) → (j : ℕ) × (slice_get (f ∷ es) j ≡ Some (p, x))
       by true e rest =
@@ -95,17 +95,17 @@ module _ {X : Type 0} where
 
     gone : find path_cmp p fs ≡ None
     gone = absent_by (find path_cmp p fs) (λ y found.
-        let there = place_of fs p y found in
+        let there = standing_of fs p y found in
         let was = before there.0 (p, y) there.1 in
         was.1 (once was.0 i (p, y) (p, x) was.2 at refl))
 
     same_as : (q : Path) → q ≢ p → (o : Option X) → find path_cmp q es ≡ o → find path_cmp q fs ≡ o
     same_as q ne None absent = absent_by (find path_cmp q fs) (λ y found.
-        let there = place_of fs q y found in
+        let there = standing_of fs q y found in
         let was = before there.0 (q, y) there.1 in
         some_not_none y (find path_cmp q es) (found_at es once was.0 (q, y) was.2) absent)
     same_as q ne (Some y) found =
-        let there = place_of es q y found in
+        let there = standing_of es q y found in
         let other : there.0 ≢ i = λ same. ne (ap (λ (e : Path × X). e.0) (same_some (q, y) (p, x) (sym there.1 ∙ ap (slice_get es) same ∙ at))) in
         let now = still_there es fs i loses there.0 (q, y) there.1 other in
         found_at fs once-lose now.0 (q, y) now.1

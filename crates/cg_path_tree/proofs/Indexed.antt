@@ -17,7 +17,7 @@ use Rattle.cg_name.specs.Packed.{names_in, BeginsName, IsPacked}
 use Rattle.cg_name.proofs.PackedOrder.{packed_order}
 use Rattle.cg_path_map.specs.PathEntries.{by_paths, map_by_paths, ArePacked}
 use Rattle.cg_path_tree.proofs.Parents.{count-cons}
-use Rattle.cg_path_tree.proofs.Places.{same_some, some_not_none, LosesAt}
+use Rattle.cg_path_tree.proofs.ListChanges.{same_some, some_not_none, LosesAt}
 
 pub get_by_find : {X : Type 0} (es : List (Path × X)) (q : Path) → get (from_entries path_cmp es) q ≡ find path_cmp q es
 get_by_find es q = get-from_entries path_cmp_total path_cmp_exact es q
@@ -37,10 +37,10 @@ module _ {K X : Type 0} (text : K → List ℕ) where
   abbrev pub by_path : K × X → Path × X
   by_path e = (names_in (text e.0), e.1)
 
-  pub at_place : (es : List (K × X)) (j : ℕ) → slice_get (by_paths text es) j ≡ option_map by_path (slice_get es j)
-  at_place [] j = refl
-  at_place (e ∷ es) zero = refl
-  at_place (e ∷ es) (suc j) = at_place es j
+  pub same_at : (es : List (K × X)) (j : ℕ) → slice_get (by_paths text es) j ≡ option_map by_path (slice_get es j)
+  same_at [] j = refl
+  same_at (e ∷ es) zero = refl
+  same_at (e ∷ es) (suc j) = same_at es j
 
   pub length-by_paths : (es : List (K × X)) → length (by_paths text es) ≡ length es
   length-by_paths [] = refl
@@ -55,9 +55,9 @@ module _ {K X : Type 0} (text : K → List ℕ) where
     len = length-by_paths es ∙ l.len ∙ ap suc (sym (length-by_paths fs));
     within = rw (length-by_paths fs) l.within;
     moved = λ low.
-        at_place fs i ∙ ap (option_map by_path) (l.moved (rw (length-by_paths fs) at low))
-        ∙ sym (at_place es (length fs)) ∙ ap (slice_get (by_paths text es)) (sym (length-by_paths fs));
-    kept = λ j low apart. at_place fs j ∙ ap (option_map by_path) (l.kept j (rw (length-by_paths fs) at low) apart) ∙ sym (at_place es j);
+        same_at fs i ∙ ap (option_map by_path) (l.moved (rw (length-by_paths fs) at low))
+        ∙ sym (same_at es (length fs)) ∙ ap (slice_get (by_paths text es)) (sym (length-by_paths fs));
+    kept = λ j low apart. same_at fs j ∙ ap (option_map by_path) (l.kept j (rw (length-by_paths fs) at low) apart) ∙ sym (same_at es j);
   }
 
   pub count-by_paths : (test : Path × X → Bool) (es : List (K × X)) → count_by test (by_paths text es) ≡ count_by (λ e. test (by_path e)) es
@@ -71,16 +71,16 @@ module _ {K X : Type 0} (text : K → List ℕ) where
   packed_at (f ∷ es) a zero e h = subst (λ (x : K × X). IsPacked (text x.0)) (same_some f e h) a.0
   packed_at (f ∷ es) a (suc j) e h = packed_at es a.1 j e h
 
-  packed_from_places : (es : List (K × X)) → ((j : ℕ) (e : K × X) → slice_get es j ≡ Some e → IsPacked (text e.0)) → ArePacked text es
-  packed_from_places [] h = tt
-  packed_from_places (e ∷ es) h = (h 0 e refl, packed_from_places es (λ j. h (suc j)))
+  packed_from_each : (es : List (K × X)) → ((j : ℕ) (e : K × X) → slice_get es j ≡ Some e → IsPacked (text e.0)) → ArePacked text es
+  packed_from_each [] h = tt
+  packed_from_each (e ∷ es) h = (h 0 e refl, packed_from_each es (λ j. h (suc j)))
 
   pub packed-push : (es : List (K × X)) (e : K × X) → ArePacked text es → IsPacked (text e.0) → ArePacked text (es ++ e ∷ [])
   packed-push [] e a h = (h, tt)
   packed-push (f ∷ es) e a h = (a.0, packed-push es e a.1 h)
 
   pub packed-lose : (es fs : List (K × X)) → ((j : ℕ) (e : K × X) → slice_get fs j ≡ Some e → (k : ℕ) × (slice_get es k ≡ Some e)) → ArePacked text es → ArePacked text fs
-  packed-lose es fs was a = packed_from_places fs (λ j e h. packed_at es a (was j e h).0 e (was j e h).1)
+  packed-lose es fs was a = packed_from_each fs (λ j e h. packed_at es a (was j e h).0 e (was j e h).1)
 
 -- ---- a new text goes last
 

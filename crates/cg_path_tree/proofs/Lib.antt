@@ -4,8 +4,8 @@ pub mod Counting
 pub mod Finding
 pub mod Indexed
 pub mod Linking
+pub mod ListChanges
 pub mod Parents
-pub mod Places
 pub mod Prefixes
 pub mod Removing
 pub mod Seen

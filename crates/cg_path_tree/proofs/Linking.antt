@@ -12,8 +12,8 @@ use Rattle.cg_path_tree.specs.declared.node.Node.{Node}
 use Rattle.cg_path_tree.specs.declared.node.NodeKey.{NodeKey}
 use Rattle.cg_path_tree.specs.Nodes.{parent_path}
 use Rattle.cg_path_tree.specs.Linked.{value_of, valued, values_at, IsNodeAt, IsTree}
-use Rattle.cg_path_tree.proofs.Places.{same_some, some_not_none, pushed_cases, LosesAt, left_cases}
-use Rattle.cg_path_tree.proofs.Finding.{tell, itself, differs, found_at, place_of, find-push, once-push, find-lose, once-lose}
+use Rattle.cg_path_tree.proofs.ListChanges.{same_some, some_not_none, pushed_cases, LosesAt, left_cases}
+use Rattle.cg_path_tree.proofs.Finding.{tell, itself, differs, found_at, standing_of, find-push, once-push, find-lose, once-lose}
 use Rattle.cg_path_tree.proofs.Indexed.{get_by_find}
 use Rattle.cg_path_tree.proofs.Parents.{below_parent}
 
@@ -60,7 +60,7 @@ module _ {V : Type 0} where
     -- the node that is found at a path
     pub node_found : (p : Path) (k : NodeKey) → find path_cmp p es ≡ Some k → (j : ℕ) × (n : Node V) × (slice_get es j ≡ Some (p, k)) × (node k ≡ Some n) × IsNodeAt count es j p n
     node_found p k h =
-        let at = place_of es p k h in
+        let at = standing_of es p k h in
         let there = t.node_of at.0 (p, k) at.1 in
         (at.0, there.0, at.1, there.1, there.2)
 
@@ -69,15 +69,15 @@ module _ {V : Type 0} where
         let x = node_found q k a in
         let y = node_found p k b in
         let same : x.1 ≡ y.1 = same_some x.1 y.1 (sym x.3 ∙ y.3) in
-        let place : x.0 ≡ y.0 = sym x.4.place ∙ ap (λ (n : Node V). n.place) same ∙ y.4.place in
-        ap (λ (e : Path × NodeKey). e.0) (same_some (q, k) (p, k) (sym x.2 ∙ ap (slice_get es) place ∙ y.2))
+        let entry : x.0 ≡ y.0 = sym x.4.entry ∙ ap (λ (n : Node V). n.entry) same ∙ y.4.entry in
+        ap (λ (e : Path × NodeKey). e.0) (same_some (q, k) (p, k) (sym x.2 ∙ ap (slice_get es) entry ∙ y.2))
 
     -- no key stands twice
-    pub one_place : (i j : ℕ) (e f : Path × NodeKey) → slice_get es i ≡ Some e → slice_get es j ≡ Some f → e.1 ≡ f.1 → i ≡ j
-    one_place i j e f a b same =
+    pub one_entry : (i j : ℕ) (e f : Path × NodeKey) → slice_get es i ≡ Some e → slice_get es j ≡ Some f → e.1 ≡ f.1 → i ≡ j
+    one_entry i j e f a b same =
         let x = t.node_of i e a in
         let y = t.node_of j f b in
-        sym x.2.place ∙ ap (λ (n : Node V). n.place) (same_some x.0 y.0 (sym x.1 ∙ ap node same ∙ y.1)) ∙ y.2.place
+        sym x.2.entry ∙ ap (λ (n : Node V). n.entry) (same_some x.0 y.0 (sym x.1 ∙ ap node same ∙ y.1)) ∙ y.2.entry
 
     -- the node with the key of a path
     pub node_there : (p : Path) (k : NodeKey) (n : Node V) → find path_cmp p es ≡ Some k → node k ≡ Some n → (j : ℕ) × (slice_get es j ≡ Some (p, k)) × IsNodeAt count es j p n
@@ -119,9 +119,9 @@ module _ {V : Type 0} where
 
   module _ (node later : NodeKey → Option (Node V)) (k : NodeKey) (n m : Node V) (at : node k ≡ Some n) (changed : later k ≡ Some m) (others : (i : NodeKey) → i ≢ k → later i ≡ node i) where
     -- the counts may change at the path of that node alone
-    pub tree-write : (count counts : Path → ℕ) (es : List (Path × NodeKey)) (p : Path) → IsTree count es node → find path_cmp p es ≡ Some k → m.place ≡ n.place → m.depth ≡ n.depth → m.parent ≡ n.parent → m.children ≡ counts p
+    pub tree-write : (count counts : Path → ℕ) (es : List (Path × NodeKey)) (p : Path) → IsTree count es node → find path_cmp p es ≡ Some k → m.entry ≡ n.entry → m.depth ≡ n.depth → m.parent ≡ n.parent → m.children ≡ counts p
         → ((q : Path) → q ≢ p → counts q ≡ count q) → IsTree counts es later
-    tree-write count counts es p t there place depth parent children same = record {
+    tree-write count counts es p t there entry depth parent children same = record {
       once = t.once;
       node_of = λ j e h.
           let x = t.node_of j e h in
@@ -133,7 +133,7 @@ module _ {V : Type 0} where
                   m,
                   ap later is ∙ changed,
                   record {
-                    place = place ∙ ap (λ (z : Node V). z.place) own ∙ x.2.place;
+                    entry = entry ∙ ap (λ (z : Node V). z.entry) own ∙ x.2.entry;
                     depth = depth ∙ ap (λ (z : Node V). z.depth) own ∙ x.2.depth;
                     children = children ∙ ap counts (sym path);
                     parent = λ r. x.2.parent r ∙ ap (λ (z : Node V). Some z.parent) (sym own) ∙ ap Some (sym parent);
@@ -143,7 +143,7 @@ module _ {V : Type 0} where
                 let apart : e.0 ≢ p = λ path. ne (same_some e.1 k (sym found ∙ ap (λ q. find path_cmp q es) path ∙ there)) in (
                   x.0,
                   others e.1 ne ∙ x.1,
-                  record { place = x.2.place; depth = x.2.depth; children = x.2.children ∙ sym (same e.0 apart); parent = x.2.parent },
+                  record { entry = x.2.entry; depth = x.2.depth; children = x.2.children ∙ sym (same e.0 apart); parent = x.2.parent },
                 )
           ];
     }
@@ -161,7 +161,7 @@ module _ {V : Type 0} where
     once = t.once;
     node_of = λ j e h.
         let x = t.node_of j e h in
-        (x.0, x.1, record { place = x.2.place; depth = x.2.depth; children = x.2.children ∙ sym (same e.0); parent = x.2.parent });
+        (x.0, x.1, record { entry = x.2.entry; depth = x.2.depth; children = x.2.children ∙ sym (same e.0); parent = x.2.parent });
   }
 
   -- ---- a new node
@@ -177,8 +177,8 @@ module _ {V : Type 0} where
           λ same. some_not_none x.1 (node i) x.3 (ap node same ∙ vacant),
         )
 
-    pub tree-push : m.place ≡ length es → m.depth ≡ length p → m.children ≡ count p → (is_root p ≡ false → find path_cmp (parent_path p) es ≡ Some m.parent) → IsTree count (es ++ (p, k) ∷ []) later
-    tree-push place depth children parent = record {
+    pub tree-push : m.entry ≡ length es → m.depth ≡ length p → m.children ≡ count p → (is_root p ≡ false → find path_cmp (parent_path p) es ≡ Some m.parent) → IsTree count (es ++ (p, k) ∷ []) later
+    tree-push entry depth children parent = record {
       once = once-push es p k absent t.once;
       node_of = λ j e h.
           elim (pushed_cases es (p, k) j e h) [
@@ -187,13 +187,13 @@ module _ {V : Type 0} where
                 let other : e.1 ≢ k = (still_found e.0 e.1 (found_at es t.once j e old)).1 in (
                   x.0,
                   others e.1 other ∙ x.1,
-                  record { place = x.2.place; depth = x.2.depth; children = x.2.children; parent = λ r. (still_found (parent_path e.0) x.0.parent (x.2.parent r)).0 },
+                  record { entry = x.2.entry; depth = x.2.depth; children = x.2.children; parent = λ r. (still_found (parent_path e.0) x.0.parent (x.2.parent r)).0 },
                 )
             | inr new ↦ (
               m,
               ap (λ (f : Path × NodeKey). later f.1) (sym new.1) ∙ changed,
               record {
-                place = place ∙ sym new.0;
+                entry = entry ∙ sym new.0;
                 depth = depth ∙ ap (λ (f : Path × NodeKey). length f.0) new.1;
                 children = children ∙ ap (λ (f : Path × NodeKey). count f.0) new.1;
                 parent = λ r.
@@ -204,7 +204,7 @@ module _ {V : Type 0} where
           ];
     }
 
-  -- ---- a node goes, and another takes its entry's place
+  -- ---- a node goes, and another entry gets its entry's number
 
   module _ (count : Path → ℕ) (es fs : List (Path × NodeKey)) (i : ℕ) (node mid later : NodeKey → Option (Node V)) (p : Path) (k : NodeKey) (t : IsTree count es node)
       (at : slice_get es i ≡ Some (p, k)) (loses : LosesAt es fs i) (others : (x : NodeKey) → x ≢ k → mid x ≡ node x) where
@@ -214,7 +214,7 @@ module _ {V : Type 0} where
         let x = t.node_of j e h in
         let y = t.node_of i (p, k) at in
         let own : x.0 ≡ y.0 = same_some x.0 y.0 (sym x.1 ∙ ap node same ∙ y.1) in
-        apart (sym x.2.place ∙ ap (λ (n : Node V). n.place) own ∙ y.2.place)
+        apart (sym x.2.entry ∙ ap (λ (n : Node V). n.entry) own ∙ y.2.entry)
 
     -- no node lies right below the path that goes
     pub leaf_there : ((q : Path) → is_parent p q ≡ true → find path_cmp q es ≡ None) → (j : ℕ) (e : Path × NodeKey) → slice_get es j ≡ Some e → is_root e.0 ≡ false → parent_path e.0 ≢ p
@@ -222,7 +222,7 @@ module _ {V : Type 0} where
         some_not_none e.1 (find path_cmp e.0 es) (found_at es t.once j e h) (leaf e.0 (ap (λ q. is_parent q e.0) (sym same) ∙ below_parent e.0 r))
 
     pub tree-lose : ((q : Path) → is_parent p q ≡ true → find path_cmp q es ≡ None)
-        → ((e : Path × NodeKey) (n : Node V) → slice_get fs i ≡ Some e → mid e.1 ≡ Some n → (m : Node V) × (later e.1 ≡ Some m) × (m.place ≡ i) × (m.depth ≡ n.depth) × (m.children ≡ n.children) × (m.parent ≡ n.parent))
+        → ((e : Path × NodeKey) (n : Node V) → slice_get fs i ≡ Some e → mid e.1 ≡ Some n → (m : Node V) × (later e.1 ≡ Some m) × (m.entry ≡ i) × (m.depth ≡ n.depth) × (m.children ≡ n.children) × (m.parent ≡ n.parent))
         → ((j : ℕ) (e : Path × NodeKey) → slice_get fs j ≡ Some e → j ≢ i → later e.1 ≡ mid e.1)
         → IsTree count fs later
     tree-lose leaf moved kept = record {
@@ -242,7 +242,7 @@ module _ {V : Type 0} where
                   now.0,
                   now.1,
                   record {
-                    place = now.2 ∙ sym a.0;
+                    entry = now.2 ∙ sym a.0;
                     depth = now.3 ∙ x.2.depth;
                     children = now.4 ∙ x.2.children;
                     parent = λ r. gives (length fs) a.2 x.0 x.2 r ∙ ap Some (sym now.5);
@@ -252,7 +252,7 @@ module _ {V : Type 0} where
                 let x = t.node_of j e a.2 in (
                   x.0,
                   kept j e h a.0 ∙ others e.1 (left_key j e a.2 a.0) ∙ x.1,
-                  record { place = x.2.place; depth = x.2.depth; children = x.2.children; parent = gives j a.2 x.0 x.2 },
+                  record { entry = x.2.entry; depth = x.2.depth; children = x.2.children; parent = gives j a.2 x.0 x.2 },
                 )
           ];
     }

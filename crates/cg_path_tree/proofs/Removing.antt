@@ -13,11 +13,11 @@ use Rattle.cg_path_tree.specs.declared.node.Node.{Node}
 use Rattle.cg_path_tree.specs.declared.node.NodeKey.{NodeKey}
 use Rattle.cg_path_tree.specs.Nodes.{Nodes, parent_path, IsLeaf}
 use Rattle.cg_path_tree.specs.Linked.{paths_of, children_in, node_in, value_of, values_at, HavePaths, IsTree, IsLinked, seen}
-use Rattle.cg_path_tree.proofs.Places.{same_some, some_not_none, LosesAt, loses-swap_remove, left_cases}
+use Rattle.cg_path_tree.proofs.ListChanges.{same_some, some_not_none, LosesAt, loses-swap_remove, left_cases}
 use Rattle.cg_path_tree.proofs.Finding.{find-lose, once-lose, before, differs}
-use Rattle.cg_path_tree.proofs.Indexed.{by_path, at_place, loses-by_paths, packed-lose, count-by_paths}
+use Rattle.cg_path_tree.proofs.Indexed.{by_path, same_at, loses-by_paths, packed-lose, count-by_paths}
 use Rattle.cg_path_tree.proofs.Parents.{no_child, root_no_child, below_parent, length-parent}
-use Rattle.cg_path_tree.proofs.Linking.{has_nodes, node_found, node_there, one_path, one_place, left_key, tree-lose, tree-write, tree-recount, values-write, keys-changed, values-changed}
+use Rattle.cg_path_tree.proofs.Linking.{has_nodes, node_found, node_there, one_path, one_entry, left_key, tree-lose, tree-write, tree-recount, values-write, keys-changed, values-changed}
 use Rattle.cg_path_tree.proofs.Changing.{other_number}
 use Rattle.cg_path_tree.proofs.Seen.{found_is, node_at, root_by_depth, deep_by_depth}
 
@@ -27,44 +27,44 @@ unmapped f (Some x) e = absurd (some_not_none (f x) (Some (f x)) refl e)
 
 module _ {V Z : Type 0} (es : List (String Z × NodeKey)) (nodes : slab.Slab (Node V)) (l : IsLinked es nodes) (g : Nodes V) (is : seen es nodes ≡ g) (p : Path) (k : NodeKey) (n : Node V) (h : get g.keys p ≡ Some k) (at : node_in nodes k ≡ Some n) where
   -- the entry of the node
-  pub its_entry : slice_get (paths_of es) n.place ≡ Some (p, k)
-  its_entry = let x = node_at es nodes l g is p k n h at in ap (slice_get (paths_of es)) x.2.place ∙ x.1
+  pub its_entry : slice_get (paths_of es) n.entry ≡ Some (p, k)
+  its_entry = let x = node_at es nodes l g is p k n h at in ap (slice_get (paths_of es)) x.2.entry ∙ x.1
 
   module _ (mid : slab.Slab (Node V)) (up : slab.Updates nodes mid k.0 None) where
     others : (i : NodeKey) → i ≢ k → node_in mid i ≡ node_in nodes i
     others i ne = up.others i.0 (other_number i k ne)
 
-    module _ (e : String Z × NodeKey) (there : slice_get es n.place ≡ Some e) where
+    module _ (e : String Z × NodeKey) (there : slice_get es n.entry ≡ Some e) where
       e_is : by_path (λ s. string_bytes s) e ≡ (p, k)
-      e_is = same_some (by_path (λ s. string_bytes s) e) (p, k) (sym (at_place (λ s. string_bytes s) es n.place ∙ ap (option_map (by_path (λ s. string_bytes s))) there) ∙ its_entry)
+      e_is = same_some (by_path (λ s. string_bytes s) e) (p, k) (sym (same_at (λ s. string_bytes s) es n.entry ∙ ap (option_map (by_path (λ s. string_bytes s))) there) ∙ its_entry)
 
-      loses : LosesAt es (swap_remove es n.place e) n.place
-      loses = loses-swap_remove es n.place e there
+      loses : LosesAt es (swap_remove es n.entry e) n.entry
+      loses = loses-swap_remove es n.entry e there
 
-      losing : LosesAt (paths_of es) (paths_of (swap_remove es n.place e)) n.place
-      losing = loses-by_paths (λ s. string_bytes s) es (swap_remove es n.place e) n.place loses
+      losing : LosesAt (paths_of es) (paths_of (swap_remove es n.entry e)) n.entry
+      losing = loses-by_paths (λ s. string_bytes s) es (swap_remove es n.entry e) n.entry loses
 
       -- an entry that is left stood elsewhere before, and its node is still there
-      left_before : (j : ℕ) (f : Path × NodeKey) → slice_get (paths_of (swap_remove es n.place e)) j ≡ Some f → (i : ℕ) × (i ≢ n.place) × (slice_get (paths_of es) i ≡ Some f)
-      left_before = before (paths_of es) (paths_of (swap_remove es n.place e)) n.place p k losing its_entry l.tree.once
+      left_before : (j : ℕ) (f : Path × NodeKey) → slice_get (paths_of (swap_remove es n.entry e)) j ≡ Some f → (i : ℕ) × (i ≢ n.entry) × (slice_get (paths_of es) i ≡ Some f)
+      left_before = before (paths_of es) (paths_of (swap_remove es n.entry e)) n.entry p k losing its_entry l.tree.once
 
-      still_node : (j : ℕ) (f : Path × NodeKey) → slice_get (paths_of (swap_remove es n.place e)) j ≡ Some f → (m : Node V) × (node_in mid f.1 ≡ Some m)
+      still_node : (j : ℕ) (f : Path × NodeKey) → slice_get (paths_of (swap_remove es n.entry e)) j ≡ Some f → (m : Node V) × (node_in mid f.1 ≡ Some m)
       still_node j f left =
           let was = left_before j f left in
           let x = l.tree.node_of was.0 f was.2 in
-          let apart = left_key (children_in (paths_of es)) (paths_of es) (paths_of (swap_remove es n.place e)) n.place (node_in nodes) (node_in mid) (node_in mid) p k l.tree its_entry losing others was.0 f was.2 was.1 in
+          let apart = left_key (children_in (paths_of es)) (paths_of es) (paths_of (swap_remove es n.entry e)) n.entry (node_in nodes) (node_in mid) (node_in mid) p k l.tree its_entry losing others was.0 f was.2 was.1 in
           (x.0, others f.1 apart ∙ x.1)
 
       -- the entry that moves has a node
-      pub moved_node : (f : String Z × NodeKey) → slice_get (swap_remove es n.place e) n.place ≡ Some f → IsSome (node_in mid f.1)
+      pub moved_node : (f : String Z × NodeKey) → slice_get (swap_remove es n.entry e) n.entry ≡ Some f → IsSome (node_in mid f.1)
       moved_node f left =
-          let x = still_node n.place (by_path (λ s. string_bytes s) f) (at_place (λ s. string_bytes s) (swap_remove es n.place e) n.place ∙ ap (option_map (by_path (λ s. string_bytes s))) left) in
+          let x = still_node n.entry (by_path (λ s. string_bytes s) f) (same_at (λ s. string_bytes s) (swap_remove es n.entry e) n.entry ∙ ap (option_map (by_path (λ s. string_bytes s))) left) in
           ap is_some x.1
 
-      module _ (fs : List (String Z × NodeKey)) (left : fs ≡ swap_remove es n.place e) (leaf : IsLeaf g.keys p) (placed : slab.Slab (Node V))
-          (moved : (f : String Z × NodeKey) (m : Node V) → slice_get fs n.place ≡ Some f → node_in mid f.1 ≡ Some m → slab.Updates mid placed f.1.0 (Some (record m { place = n.place }))) (unmoved : slice_get fs n.place ≡ None → placed ≡ mid) where
-        losing_fs : LosesAt (paths_of es) (paths_of fs) n.place
-        losing_fs = subst (λ xs. LosesAt (paths_of es) (paths_of xs) n.place) (sym left) losing
+      module _ (fs : List (String Z × NodeKey)) (left : fs ≡ swap_remove es n.entry e) (leaf : IsLeaf g.keys p) (placed : slab.Slab (Node V))
+          (moved : (f : String Z × NodeKey) (m : Node V) → slice_get fs n.entry ≡ Some f → node_in mid f.1 ≡ Some m → slab.Updates mid placed f.1.0 (Some (record m { entry = n.entry }))) (unmoved : slice_get fs n.entry ≡ None → placed ≡ mid) where
+        losing_fs : LosesAt (paths_of es) (paths_of fs) n.entry
+        losing_fs = subst (λ xs. LosesAt (paths_of es) (paths_of xs) n.entry) (sym left) losing
 
         node_left : (j : ℕ) (f : Path × NodeKey) → slice_get (paths_of fs) j ≡ Some f → (m : Node V) × (node_in mid f.1 ≡ Some m)
         node_left j f there = still_node j f (ap (λ xs. slice_get (paths_of xs) j) (sym left) ∙ there)
@@ -72,56 +72,56 @@ module _ {V Z : Type 0} (es : List (String Z × NodeKey)) (nodes : slab.Slab (No
         no_leaf : (q : Path) → is_parent p q ≡ true → find path_cmp q (paths_of es) ≡ None
         no_leaf q below = found_is es nodes l g is q ∙ leaf q below
 
-        moved_so : (f : Path × NodeKey) (m : Node V) → slice_get (paths_of fs) n.place ≡ Some f → node_in mid f.1 ≡ Some m → (o : Option (String Z × NodeKey)) → slice_get fs n.place ≡ o → slab.Updates mid placed f.1.0 (Some (record m { place = n.place }))
+        moved_so : (f : Path × NodeKey) (m : Node V) → slice_get (paths_of fs) n.entry ≡ Some f → node_in mid f.1 ≡ Some m → (o : Option (String Z × NodeKey)) → slice_get fs n.entry ≡ o → slab.Updates mid placed f.1.0 (Some (record m { entry = n.entry }))
         moved_so f m there node None none =
-            absurd (some_not_none f (slice_get (paths_of fs) n.place) there (at_place (λ s. string_bytes s) fs n.place ∙ ap (option_map (by_path (λ s. string_bytes s))) none))
+            absurd (some_not_none f (slice_get (paths_of fs) n.entry) there (same_at (λ s. string_bytes s) fs n.entry ∙ ap (option_map (by_path (λ s. string_bytes s))) none))
         moved_so f m there node (Some d) some =
             let same : by_path (λ s. string_bytes s) d ≡ f =
-            same_some (by_path (λ s. string_bytes s) d) f (sym (at_place (λ s. string_bytes s) fs n.place ∙ ap (option_map (by_path (λ s. string_bytes s))) some) ∙ there) in
+            same_some (by_path (λ s. string_bytes s) d) f (sym (same_at (λ s. string_bytes s) fs n.entry ∙ ap (option_map (by_path (λ s. string_bytes s))) some) ∙ there) in
             let key : d.1 ≡ f.1 = ap (λ (x : Path × NodeKey). x.1) same in
-            subst (λ (x : NodeKey). slab.Updates mid placed x.0 (Some (record m { place = n.place }))) key (moved d m some (ap (node_in mid) key ∙ node))
+            subst (λ (x : NodeKey). slab.Updates mid placed x.0 (Some (record m { entry = n.entry }))) key (moved d m some (ap (node_in mid) key ∙ node))
 
         left_once : (i j : ℕ) (a b : Path × NodeKey) → slice_get (paths_of fs) i ≡ Some a → slice_get (paths_of fs) j ≡ Some b → a.0 ≡ b.0 → i ≡ j
-        left_once = once-lose (paths_of es) (paths_of fs) n.place p k losing_fs its_entry l.tree.once
+        left_once = once-lose (paths_of es) (paths_of fs) n.entry p k losing_fs its_entry l.tree.once
 
-        one_left : (j : ℕ) (f d : Path × NodeKey) → slice_get (paths_of fs) j ≡ Some f → slice_get (paths_of fs) n.place ≡ Some d → f.1 ≡ d.1 → j ≡ n.place
+        one_left : (j : ℕ) (f d : Path × NodeKey) → slice_get (paths_of fs) j ≡ Some f → slice_get (paths_of fs) n.entry ≡ Some d → f.1 ≡ d.1 → j ≡ n.entry
         one_left j f d there some same =
-            let a = before (paths_of es) (paths_of fs) n.place p k losing_fs its_entry l.tree.once j f there in
-            let b = before (paths_of es) (paths_of fs) n.place p k losing_fs its_entry l.tree.once n.place d some in
-            let place = one_place (children_in (paths_of es)) (paths_of es) (node_in nodes) l.tree a.0 b.0 f d a.2 b.2 same in
-            left_once j n.place f d there some (ap (λ (x : Path × NodeKey). x.0) (same_some f d (sym a.2 ∙ ap (slice_get (paths_of es)) place ∙ b.2)))
+            let a = before (paths_of es) (paths_of fs) n.entry p k losing_fs its_entry l.tree.once j f there in
+            let b = before (paths_of es) (paths_of fs) n.entry p k losing_fs its_entry l.tree.once n.entry d some in
+            let entry = one_entry (children_in (paths_of es)) (paths_of es) (node_in nodes) l.tree a.0 b.0 f d a.2 b.2 same in
+            left_once j n.entry f d there some (ap (λ (x : Path × NodeKey). x.0) (same_some f d (sym a.2 ∙ ap (slice_get (paths_of es)) entry ∙ b.2)))
 
-        kept_so : (j : ℕ) (f : Path × NodeKey) → slice_get (paths_of fs) j ≡ Some f → j ≢ n.place → (o : Option (Path × NodeKey)) → slice_get (paths_of fs) n.place ≡ o → node_in placed f.1 ≡ node_in mid f.1
-        kept_so j f there ne None none = ap (λ s. node_in s f.1) (unmoved (unmapped (by_path (λ s. string_bytes s)) (slice_get fs n.place) (sym (at_place (λ s. string_bytes s) fs n.place) ∙ none)))
+        kept_so : (j : ℕ) (f : Path × NodeKey) → slice_get (paths_of fs) j ≡ Some f → j ≢ n.entry → (o : Option (Path × NodeKey)) → slice_get (paths_of fs) n.entry ≡ o → node_in placed f.1 ≡ node_in mid f.1
+        kept_so j f there ne None none = ap (λ s. node_in s f.1) (unmoved (unmapped (by_path (λ s. string_bytes s)) (slice_get fs n.entry) (sym (same_at (λ s. string_bytes s) fs n.entry) ∙ none)))
         kept_so j f there ne (Some d) some =
-            let x = node_left n.place d some in
-            let up' = moved_so d x.0 some x.1 (slice_get fs n.place) refl in
+            let x = node_left n.entry d some in
+            let up' = moved_so d x.0 some x.1 (slice_get fs n.entry) refl in
             let apart : f.1 ≢ d.1 = λ same. ne (one_left j f d there some same) in
             up'.others f.1.0 (other_number f.1 d.1 apart)
 
         lost : IsTree (children_in (paths_of es)) (paths_of fs) (node_in placed)
         lost =
-            tree-lose (children_in (paths_of es)) (paths_of es) (paths_of fs) n.place (node_in nodes) (node_in mid) (node_in placed) p k l.tree its_entry losing_fs others no_leaf
-            (λ f m there node. let up' = moved_so f m there node (slice_get fs n.place) refl in (record m { place = n.place }, up'.changed, refl, refl, refl, refl))
-            (λ j f there ne. kept_so j f there ne (slice_get (paths_of fs) n.place) refl)
+            tree-lose (children_in (paths_of es)) (paths_of es) (paths_of fs) n.entry (node_in nodes) (node_in mid) (node_in placed) p k l.tree its_entry losing_fs others no_leaf
+            (λ f m there node. let up' = moved_so f m there node (slice_get fs n.entry) refl in (record m { entry = n.entry }, up'.changed, refl, refl, refl, refl))
+            (λ j f there ne. kept_so j f there ne (slice_get (paths_of fs) n.entry) refl)
 
         -- no value changed but that of the node that goes
-        same_value : (i : NodeKey) → i ≢ k → (o : Option (Path × NodeKey)) → slice_get (paths_of fs) n.place ≡ o → value_of (node_in placed i) ≡ value_of (node_in nodes i)
-        same_value i ne None none = ap (λ s. value_of (node_in s i)) (unmoved (unmapped (by_path (λ s. string_bytes s)) (slice_get fs n.place) (sym (at_place (λ s. string_bytes s) fs n.place) ∙ none))) ∙ ap value_of (others i ne)
+        same_value : (i : NodeKey) → i ≢ k → (o : Option (Path × NodeKey)) → slice_get (paths_of fs) n.entry ≡ o → value_of (node_in placed i) ≡ value_of (node_in nodes i)
+        same_value i ne None none = ap (λ s. value_of (node_in s i)) (unmoved (unmapped (by_path (λ s. string_bytes s)) (slice_get fs n.entry) (sym (same_at (λ s. string_bytes s) fs n.entry) ∙ none))) ∙ ap value_of (others i ne)
         same_value i ne (Some d) some =
-            let x = node_left n.place d some in
-            let up' = moved_so d x.0 some x.1 (slice_get fs n.place) refl in
-            values-write (node_in mid) (node_in placed) d.1 x.0 (record x.0 { place = n.place }) x.1 up'.changed (λ y apart. up'.others y.0 (other_number y d.1 apart)) refl i ∙ ap value_of (others i ne)
+            let x = node_left n.entry d some in
+            let up' = moved_so d x.0 some x.1 (slice_get fs n.entry) refl in
+            values-write (node_in mid) (node_in placed) d.1 x.0 (record x.0 { entry = n.entry }) x.1 up'.changed (λ y apart. up'.others y.0 (other_number y d.1 apart)) refl i ∙ ap value_of (others i ne)
 
         counted : (q : Path) → children_in (paths_of fs) q + cond (is_parent q p) 1 0 ≡ children_in (paths_of es) q
         counted q =
-            let low : n.place < length es = slice_get_within es n.place e there in
+            let low : n.entry < length es = slice_get_within es n.entry e there in
             let test : String Z × NodeKey → Bool = λ f. is_parent q (names_in (string_bytes f.0)) in
-            let path : names_in (string_bytes (get_or es n.place e).0) ≡ p = ap (λ (f : String Z × NodeKey). names_in (string_bytes f.0)) (get_or_from_slice_get es n.place e e there) ∙ ap (λ (x : Path × NodeKey). x.0) e_is in
+            let path : names_in (string_bytes (get_or es n.entry e).0) ≡ p = ap (λ (f : String Z × NodeKey). names_in (string_bytes f.0)) (get_or_from_slice_get es n.entry e e there) ∙ ap (λ (x : Path × NodeKey). x.0) e_is in
             ap (λ xs. children_in (paths_of xs) q + cond (is_parent q p) 1 0) left
-            ∙ ap (λ c. c + cond (is_parent q p) 1 0) (count-by_paths (λ s. string_bytes s) (λ (f : Path × NodeKey). is_parent q f.0) (swap_remove es n.place e))
-            ∙ ap (λ r. count_by test (swap_remove es n.place e) + cond (is_parent q r) 1 0) (sym path)
-            ∙ sum_by-swap_remove (λ f. cond (test f) 1 0) es n.place e low
+            ∙ ap (λ c. c + cond (is_parent q p) 1 0) (count-by_paths (λ s. string_bytes s) (λ (f : Path × NodeKey). is_parent q f.0) (swap_remove es n.entry e))
+            ∙ ap (λ r. count_by test (swap_remove es n.entry e) + cond (is_parent q r) 1 0) (sym path)
+            ∙ sum_by-swap_remove (λ f. cond (test f) 1 0) es n.entry e low
             ∙ sym (count-by_paths (λ s. string_bytes s) (λ (f : Path × NodeKey). is_parent q f.0) es)
 
         module _ (parent : Option NodeKey) (root : n.depth ≡ 0 → parent ≡ None) (value : n.depth ≢ 0 → parent ≡ Some n.parent) where
@@ -133,7 +133,7 @@ module _ {V Z : Type 0} (es : List (String Z × NodeKey)) (nodes : slab.Slab (No
               let r = not_the_root kp e in
               let ne : parent_path p ≢ p = λ same. absurd (omega (arith, length-parent p r, ap length same)) in
               let deep : n.depth ≢ 0 = λ none. some_not_none kp parent e (root none) in
-              find-lose (paths_of es) (paths_of fs) n.place p k losing_fs its_entry l.tree.once (parent_path p)
+              find-lose (paths_of es) (paths_of fs) n.entry p k losing_fs its_entry l.tree.once (parent_path p)
               ∙ ap (λ b. cond b None (find path_cmp (parent_path p) (paths_of es))) (differs (parent_path p) p ne)
               ∙ (node_at es nodes l g is p k n h at).2.parent r ∙ sym (value deep) ∙ e
 
@@ -189,7 +189,7 @@ module _ {V Z : Type 0} (es : List (String Z × NodeKey)) (nodes : slab.Slab (No
             still_packed : HavePaths fs
             still_packed =
                 packed-lose (λ s. string_bytes s) es fs (λ j f there_f.
-                elim (left_cases es fs n.place (subst (λ xs. LosesAt es xs n.place) (sym left) loses) j f there_f) [
+                elim (left_cases es fs n.entry (subst (λ xs. LosesAt es xs n.entry) (sym left) loses) j f there_f) [
                   | inl a ↦ (length fs, a.2)
                   | inr a ↦ (j, a.2)
                 ]) l.packed
@@ -198,7 +198,7 @@ module _ {V Z : Type 0} (es : List (String Z × NodeKey)) (nodes : slab.Slab (No
             linked-removed = record { packed = still_packed; tree = removed.tree }
 
             found : (q : Path) → find path_cmp q (paths_of fs) ≡ cond (eq_by_cmp path_cmp q p) None (find path_cmp q (paths_of es))
-            found = find-lose (paths_of es) (paths_of fs) n.place p k losing_fs its_entry l.tree.once
+            found = find-lose (paths_of es) (paths_of fs) n.entry p k losing_fs its_entry l.tree.once
 
             pub keys-removed : from_entries path_cmp (paths_of fs) ≡ set_at g.keys p None
             keys-removed =
@@ -212,5 +212,5 @@ module _ {V Z : Type 0} (es : List (String Z × NodeKey)) (nodes : slab.Slab (No
                 (has_nodes (paths_of fs) (node_in later) (children_in (paths_of fs)) removed.tree) found refl
                 (λ q i ne there_q.
                 let apart : i ≢ k = λ same. ne (one_path (children_in (paths_of es)) (paths_of es) (node_in nodes) l.tree q p k (there_q ∙ ap Some same) (found_is es nodes l g is p ∙ h)) in
-                removed.values i ∙ same_value i apart (slice_get (paths_of fs) n.place) refl)
+                removed.values i ∙ same_value i apart (slice_get (paths_of fs) n.entry) refl)
                 ∙ ap (λ v. set_at v.values p None) is

@@ -14,9 +14,9 @@ use Rattle.cg_path_tree.specs.declared.node.Node.{Node}
 use Rattle.cg_path_tree.specs.declared.node.NodeKey.{NodeKey}
 use Rattle.cg_path_tree.specs.Nodes.{Nodes, parent_path, AreClosed, IsKey, IsLeaf, HaveOnePath}
 use Rattle.cg_path_tree.specs.Linked.{paths_of, children_in, node_in, value_of, IsNodeAt, IsLinked, seen}
-use Rattle.cg_path_tree.proofs.Places.{same_some, some_not_none}
-use Rattle.cg_path_tree.proofs.Finding.{found_at, place_of, absent_by}
-use Rattle.cg_path_tree.proofs.Indexed.{get_by_find, length-by_paths, by_path, at_place, packed_at}
+use Rattle.cg_path_tree.proofs.ListChanges.{same_some, some_not_none}
+use Rattle.cg_path_tree.proofs.Finding.{found_at, standing_of, absent_by}
+use Rattle.cg_path_tree.proofs.Indexed.{get_by_find, length-by_paths, by_path, same_at, packed_at}
 use Rattle.cg_path_tree.proofs.Parents.{none_counted}
 use Rattle.cg_path_tree.proofs.Counting.{count_is, len-from_entries, distinct_from_once}
 use Rattle.cg_path_tree.proofs.Linking.{value_there, has_nodes, get-values, node_found, node_there, one_path}
@@ -55,7 +55,7 @@ module _ {V Z : Type 0} (es : List (String Z × NodeKey)) (nodes : slab.Slab (No
 
   pub leaf_at : (p : Path) (k : NodeKey) (n : Node V) → get g.keys p ≡ Some k → node_in nodes k ≡ Some n → n.children ≡ 0 → IsLeaf g.keys p
   leaf_at p k n h at none q below = absent_by (get g.keys q) (λ x there.
-      let at_q = place_of (paths_of es) q x (found_is q ∙ there) in
+      let at_q = standing_of (paths_of es) q x (found_is q ∙ there) in
       let zero_count : count p ≡ 0 = sym ((node_at p k n h at).2.children) ∙ none in
       true≢false (sym below ∙ none_counted (λ (e : Path × NodeKey). is_parent p e.0) (paths_of es) zero_count at_q.0 (q, x) at_q.1))
 
@@ -141,25 +141,25 @@ module _ {V Z : Type 0} (es : List (String Z × NodeKey)) (nodes : slab.Slab (No
 
   -- ---- the entry of a node
 
-  -- the entry whose place the node with a key knows
+  -- the entry whose number the node with a key knows
   pub record IsEntryOf (k : NodeKey) (e : String Z × NodeKey) : Type 0 where
     pub packed : IsPacked (string_bytes e.0)
     pub found : get g.keys (names_in (string_bytes e.0)) ≡ Some k
 
-  entry_at : (k : NodeKey) (n : Node V) (key : IsKey g.keys k) → node_in nodes k ≡ Some n → option_map (by_path (λ s. string_bytes s)) (slice_get es n.place) ≡ Some (key.0, k)
+  entry_at : (k : NodeKey) (n : Node V) (key : IsKey g.keys k) → node_in nodes k ≡ Some n → option_map (by_path (λ s. string_bytes s)) (slice_get es n.entry) ≡ Some (key.0, k)
   entry_at k n key at =
       let x = node_at key.0 k n key.1 at in
-      ap (λ j. option_map (by_path (λ s. string_bytes s)) (slice_get es j)) x.2.place ∙ sym (at_place (λ s. string_bytes s) es x.0) ∙ x.1
+      ap (λ j. option_map (by_path (λ s. string_bytes s)) (slice_get es j)) x.2.entry ∙ sym (same_at (λ s. string_bytes s) es x.0) ∙ x.1
 
-  pub entry_there : (k : NodeKey) (n : Node V) → IsKey g.keys k → node_in nodes k ≡ Some n → slice_get es n.place ≢ None
+  pub entry_there : (k : NodeKey) (n : Node V) → IsKey g.keys k → node_in nodes k ≡ Some n → slice_get es n.entry ≢ None
   entry_there k n key at none = some_not_none (key.0, k) None (sym (ap (option_map (by_path (λ s. string_bytes s))) none) ∙ entry_at k n key at) refl
 
-  pub entry_of : (k : NodeKey) (n : Node V) → IsKey g.keys k → node_in nodes k ≡ Some n → (e : String Z × NodeKey) → slice_get es n.place ≡ Some e → IsEntryOf k e
+  pub entry_of : (k : NodeKey) (n : Node V) → IsKey g.keys k → node_in nodes k ≡ Some n → (e : String Z × NodeKey) → slice_get es n.entry ≡ Some e → IsEntryOf k e
   entry_of k n key at e there =
       let same : by_path (λ s. string_bytes s) e ≡ (key.0, k) =
       same_some (by_path (λ s. string_bytes s) e) (key.0, k) (sym (ap (option_map (by_path (λ s. string_bytes s))) there) ∙ entry_at k n key at) in
       record {
-        packed = packed_at (λ s. string_bytes s) es l.packed n.place e there;
+        packed = packed_at (λ s. string_bytes s) es l.packed n.entry e there;
         found = ap (λ (f : Path × NodeKey). get g.keys f.0) same ∙ key.1;
       }
 
@@ -175,22 +175,22 @@ module _ {V Z : Type 0} (es : List (String Z × NodeKey)) (nodes : slab.Slab (No
         (ap is_some (value some) ∙ sym (ap not r), λ deep. value some ∙ parent_at p k n h at deep)
   ]
 
-  pub the_entry : (k : NodeKey) (n : Node V) → IsKey g.keys k → node_in nodes k ≡ Some n → (e : String Z × NodeKey) × (slice_get es n.place ≡ Some e)
-  the_entry k n key at = by (slice_get es n.place) refl
+  pub the_entry : (k : NodeKey) (n : Node V) → IsKey g.keys k → node_in nodes k ≡ Some n → (e : String Z × NodeKey) × (slice_get es n.entry ≡ Some e)
+  the_entry k n key at = by (slice_get es n.entry) refl
     where
-      by : (o : Option (String Z × NodeKey)) → slice_get es n.place ≡ o → (e : String Z × NodeKey) × (slice_get es n.place ≡ Some e)
+      by : (o : Option (String Z × NodeKey)) → slice_get es n.entry ≡ o → (e : String Z × NodeKey) × (slice_get es n.entry ≡ Some e)
       by None none = absurd (entry_there k n key at none)
       by (Some e) some = (e, some)
 
-  -- ---- a key is that of a node where the entry at the node's place has it
+  -- ---- a key is that of a node where the entry with the node's number has it
 
-  pub key_from_entry : (k : NodeKey) (n : Node V) (e : String Z × NodeKey) → slice_get es n.place ≡ Some e → e.1 ≡ k → IsKey g.keys k
+  pub key_from_entry : (k : NodeKey) (n : Node V) (e : String Z × NodeKey) → slice_get es n.entry ≡ Some e → e.1 ≡ k → IsKey g.keys k
   key_from_entry k n e there own =
       let path = by_path (λ s. string_bytes s) e in
-      let at : slice_get (paths_of es) n.place ≡ Some path = at_place (λ s. string_bytes s) es n.place ∙ ap (option_map (by_path (λ s. string_bytes s))) there in
-      (path.0, sym (found_is path.0) ∙ found_at (paths_of es) l.tree.once n.place path at ∙ ap Some own)
+      let at : slice_get (paths_of es) n.entry ≡ Some path = same_at (λ s. string_bytes s) es n.entry ∙ ap (option_map (by_path (λ s. string_bytes s))) there in
+      (path.0, sym (found_is path.0) ∙ found_at (paths_of es) l.tree.once n.entry path at ∙ ap Some own)
 
-  pub key_of_entry : (k : NodeKey) (n : Node V) → IsKey g.keys k → node_in nodes k ≡ Some n → (e : String Z × NodeKey) → slice_get es n.place ≡ Some e → e.1 ≡ k
+  pub key_of_entry : (k : NodeKey) (n : Node V) → IsKey g.keys k → node_in nodes k ≡ Some n → (e : String Z × NodeKey) → slice_get es n.entry ≡ Some e → e.1 ≡ k
   key_of_entry k n key at e there =
       ap (λ (f : Path × NodeKey). f.1) (same_some (by_path (λ s. string_bytes s) e) (key.0, k) (sym (ap (option_map (by_path (λ s. string_bytes s))) there) ∙ entry_at k n key at))
 

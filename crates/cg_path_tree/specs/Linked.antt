@@ -39,14 +39,14 @@ module _ {V : Type 0} where
   values_at node [] = []
   values_at node (e ∷ es) = valued e.0 (node e.1) (values_at node es)
 
-  -- the node of the entry with this path at this place, where paths have so many children
+  -- the node of the entry with this number and this path, where paths have so many children
   pub record IsNodeAt (count : Path → ℕ) (es : List (Path × NodeKey)) (j : ℕ) (p : Path) (n : Node V) : Type 0 where
-    pub place : n.place ≡ j
+    pub entry : n.entry ≡ j
     pub depth : n.depth ≡ length p
     pub children : n.children ≡ count p
     pub parent : is_root p ≡ false → find path_cmp (parent_path p) es ≡ Some n.parent
 
-  -- each entry has a node, which knows its place, its parent and the number of its children, and no path stands twice
+  -- each entry has a node, which knows its number, its parent and the number of its children, and no path stands twice
   pub record IsTree (count : Path → ℕ) (es : List (Path × NodeKey)) (node : NodeKey → Option (Node V)) : Type 0 where
     pub once : (i j : ℕ) (e f : Path × NodeKey) → slice_get es i ≡ Some e → slice_get es j ≡ Some f → e.0 ≡ f.0 → i ≡ j
     pub node_of : (j : ℕ) (e : Path × NodeKey) → slice_get es j ≡ Some e → (n : Node V) × (node e.1 ≡ Some n) × IsNodeAt count es j e.0 n

@@ -6,7 +6,7 @@ ghost use Rattle.cg_name.specs.Path.{path_cmp};
 ghost use Rattle.cg_path_tree.specs.declared.node.Node.{Node};
 ghost use Rattle.cg_path_tree.specs.Linked.{node_in, paths_of, HavePaths};
 
-use crate::node::{Node, NodeKey, set_place};
+use crate::node::{Node, NodeKey, set_entry};
 use crate::path_text::text;
 use cg_name::Path;
 use indexmap::IndexMap;
@@ -25,7 +25,7 @@ fn narrow(number: usize) -> Result<u32, AllocError>
 }
 
 // Puts an entry for the path, which has none, behind the others, and makes room for its node: gives that node's key and
-// the entry's place. Where there is no memory for them, the entries stay as they are.
+// the entry's number. Where there is no memory for them, the entries stay as they are.
 pub(crate) fn enter<V: Drop>(
     index: &mut IndexMap<String, NodeKey>,
     nodes: &mut Slab<Node<V>>,
@@ -36,7 +36,7 @@ pub(crate) fn enter<V: Drop>(
     requires absent { find path_cmp path.now (paths_of index.old.entries) ≡ None }
     ensures entries { IfOk result (λ r. paths_of index.new.entries ≡ paths_of index.old.entries ++ (path.now, r.0) ∷ []) }
     ensures packed { HavePaths index.new.entries }
-    ensures place { IfOk result (λ r. r.1 ≡ length index.old.entries) }
+    ensures entry { IfOk result (λ r. r.1 ≡ length index.old.entries) }
     ensures below { IfOk result (λ r. r.1 < 4294967295) }
     ensures key { IfOk result (λ r. r.0.0 ≡ nodes.old.vacant_key) }
     ensures vacant { IfOk result (λ r. node_in nodes.old r.0 ≡ None) }
@@ -44,28 +44,28 @@ pub(crate) fn enter<V: Drop>(
     ensures slots { nodes.new ≡ record nodes.old { capacity = nodes.new.capacity } }
     ensures err { OnErr result (index.new.entries ≡ index.old.entries) }
 {
-    let place = narrow(index.len())?;
+    let entry = narrow(index.len())?;
     let key = NodeKey::new(narrow(nodes.vacant_key())?);
     nodes.reserve(1)?;
     let text = String::from_str(alloc, text(path))?;
     index.insert(text, key)?;
-    Ok((key, place))
+    Ok((key, entry))
 }
 
-// Takes out the entry at the place. The last one moves there, and its node learns of it.
+// Takes out the entry with that number. The last one gets the number, and its node learns of it.
 pub(crate) fn leave<V: Drop>(
     index: &mut IndexMap<String, NodeKey>,
     nodes: &mut Slab<Node<V>>,
-    place: u32,
+    entry: u32,
 )
-    requires within { place < length index.old.entries }
-    requires moved { (e f : _) → slice_get index.old.entries place ≡ Some e → slice_get (swap_remove index.old.entries place e) place ≡ Some f → IsSome (node_in nodes.old f.1) }
-    ensures entries { (e : _) → slice_get index.old.entries place ≡ Some e → index.new.entries ≡ swap_remove index.old.entries place e }
-    ensures moved { (e : _) (n : Node V) → slice_get index.new.entries place ≡ Some e → node_in nodes.old e.1 ≡ Some n → slab.Updates nodes.old nodes.new e.1.0 (Some (record n { place = place })) }
-    ensures unmoved { slice_get index.new.entries place ≡ None → nodes.new ≡ nodes.old }
+    requires within { entry < length index.old.entries }
+    requires moved { (e f : _) → slice_get index.old.entries entry ≡ Some e → slice_get (swap_remove index.old.entries entry e) entry ≡ Some f → IsSome (node_in nodes.old f.1) }
+    ensures entries { (e : _) → slice_get index.old.entries entry ≡ Some e → index.new.entries ≡ swap_remove index.old.entries entry e }
+    ensures moved { (e : _) (n : Node V) → slice_get index.new.entries entry ≡ Some e → node_in nodes.old e.1 ≡ Some n → slab.Updates nodes.old nodes.new e.1.0 (Some (record n { entry = entry })) }
+    ensures unmoved { slice_get index.new.entries entry ≡ None → nodes.new ≡ nodes.old }
 {
-    let _ = index.swap_remove_index(place as usize);
-    if let Some((_, moved)) = index.get_index(place as usize) {
-        set_place(nodes, *moved, place);
+    let _ = index.swap_remove_index(entry as usize);
+    if let Some((_, moved)) = index.get_index(entry as usize) {
+        set_entry(nodes, *moved, entry);
     }
 }

@@ -14,8 +14,8 @@ pub struct NodeKey(u32);
 // What is kept at one path.
 #[derive(Drop)]
 pub(crate) struct Node<V> {
-    // Where the path's entry stands in the index.
-    pub(crate) place: u32,
+    // The number of the path's entry in the index.
+    pub(crate) entry: u32,
     // The node of the path one name shorter; of the root, its own.
     pub(crate) parent: NodeKey,
     // How many names the path has.
@@ -54,12 +54,12 @@ impl<V> Node<V> {
     }
 }
 
-// Notes that the entry of the node's path now stands at another place.
-pub(crate) fn set_place<V: Drop>(nodes: &mut Slab<Node<V>>, key: NodeKey, place: u32)
+// Notes that the entry of the node's path now has another number.
+pub(crate) fn set_entry<V: Drop>(nodes: &mut Slab<Node<V>>, key: NodeKey, entry: u32)
     requires { IsSome (node_in nodes.old key) }
-    ensures { (n : Node V) → node_in nodes.old key ≡ Some n → Updates nodes.old nodes.new key.0 (Some (record n { place = place })) }
+    ensures { (n : Node V) → node_in nodes.old key ≡ Some n → Updates nodes.old nodes.new key.0 (Some (record n { entry = entry })) }
 {
-    nodes[key.number()].place = place;
+    nodes[key.number()].entry = entry;
 }
 
 // Notes that one node more lies right below, if there is a node that it lies below.

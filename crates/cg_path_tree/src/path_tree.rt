@@ -17,7 +17,8 @@ use std::marker::Model;
 /// A tree of paths with a value at each. Where it has a node it has one at each prefix of its path. A node is found by its
 /// path in one look-up, and then known by its key, from which its value and its parent are a step away.
 pub struct PathTree<V> {
-    // The node of each path, by its text. The texts stand here alone, and a node knows the place of its own.
+    // The node of each path, by its text. The texts stand here alone, and a node knows the number of
+    // its entry.
     index: IndexMap<String, NodeKey>,
     nodes: Slab<Node<V>>,
 }
@@ -123,6 +124,13 @@ impl<V: Drop> PathTree<V> {
         Some((found, depth))
     }
 
+    /// Whether the path is the root's, or there is a node at the path one name shorter. Takes no memory.
+    pub fn has_parent(&self, path: &Path) -> bool
+        ensures { IsTrue result ↔ HasParent self.now.keys path.now }
+    {
+        path.is_root() || self.parent_of(path).is_some()
+    }
+
     /// Whether the key is that of a node. One that `find` gave is, until its node is removed.
     pub fn is_live_key(&self, key: NodeKey) -> bool
         ensures { IsTrue result ↔ IsKey self.now.keys key }
@@ -130,7 +138,7 @@ impl<V: Drop> PathTree<V> {
         let Some(node) = self.nodes.get(key.number()) else {
             return false;
         };
-        match self.index.get_index(node.place as usize) {
+        match self.index.get_index(node.entry as usize) {
             Some((_, own)) => *own == key,
             None => false,
         }
@@ -186,10 +194,8 @@ impl<V: Drop> PathTree<V> {
         requires { IsKey self.now.keys key }
         ensures { get self.now.keys result ≡ Some key }
     {
-        match self
-            .index
-            .get_index(self.nodes[key.number()].place as usize)
-        {
+        let node = &self.nodes[key.number()];
+        match self.index.get_index(node.entry as usize) {
             Some((text, _)) => PathRef::new(text.as_bytes()),
             None => unreachable!(),
         }
@@ -207,11 +213,11 @@ impl<V: Drop> PathTree<V> {
         ensures err { OnErr result (self.new ≡ self.old) }
     {
         let parent = self.parent_of(path);
-        let Ok((key, place)) = enter(&mut self.index, &mut self.nodes, alloc, path) else {
+        let Ok((key, entry)) = enter(&mut self.index, &mut self.nodes, alloc, path) else {
             return Err(AllocFailed { value });
         };
         self.nodes.insert_reserved(Node {
-            place,
+            entry,
             parent: parent.unwrap_or(key),
             depth: path.depth(),
             children: 0,
@@ -242,7 +248,7 @@ impl<V: Drop> PathTree<V> {
         ensures value { (p : List (List ℕ)) → get self.old.keys p ≡ Some key → get self.old.values p ≡ Some result }
     {
         let node = self.nodes.remove(key.number());
-        leave(&mut self.index, &mut self.nodes, node.place);
+        leave(&mut self.index, &mut self.nodes, node.entry);
         remove_child(&mut self.nodes, node.parent());
         node.value
     }

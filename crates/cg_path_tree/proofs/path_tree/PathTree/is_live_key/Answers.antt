@@ -1,4 +1,4 @@
--- The entry at the node's place has the key, or the key is that of no node.
+-- The entry with the node's number has the key, or the key is that of no node.
 use Rattle.std.proofs.Common.{◌≡◌, option_map, sym, ap, ◌∙◌, true≢false, eq-eqb}
 use Rattle.std.proofs.lemmas.Bool.{eqb-true}
 use Rattle.std.specs.Map.Iter.{deref_pair}

@@ -1,4 +1,4 @@
--- A node goes, the last entry takes the place of its own, and its parent counts one less.
+-- A node goes, the last entry gets the number of its own, and its parent counts one less.
 use Rattle.std.proofs.Common.{None, IsSome, sym, ap, subst, ◌∙◌}
 use Rattle.std.proofs.lemmas.Option.{slice_get_within}
 use Rattle.slab.specs.Slab as slab
@@ -14,7 +14,7 @@ remove-node-requires g c =
 pub leave-requires-clause-within : goal.leave-requires-clause-within
 leave-requires-clause-within g c =
     let entry = the_entry c.self.inside.index.entries c.self.inside.nodes c.self.invariant c.args.self.now c.self.view_is c.args.key c.remove-node.result c.requires.there (ap (slab.get c.self.inside.nodes) (sym c.number.ensures) ∙ c.remove-node.ensures.value) in
-    slice_get_within c.self.inside.index.entries c.remove-node.result.place entry.0 entry.1
+    slice_get_within c.self.inside.index.entries c.remove-node.result.entry entry.0 entry.1
 
 pub leave-requires-clause-moved : goal.leave-requires-clause-moved
 leave-requires-clause-moved g c e f there left =
