@@ -8,6 +8,7 @@ mod lists;
 mod lock_lists;
 mod locks;
 mod path_maps;
+mod path_trees;
 mod paths;
 mod plain_locks;
 mod transactions;
