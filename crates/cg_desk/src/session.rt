@@ -1,5 +1,6 @@
 //! Sessions.
-ghost use Rattle.std.specs.Prelude.{◌≡◌, ◌⊎◌, IfErr, IfOk, map};
+ghost use Rattle.std.specs.Prelude.{◌≡◌, ◌+◌, ◌≤◌, ◌⊎◌, IfErr, IfOk, map, vec_len};
+ghost use Rattle.std.specs.Vec.{vec_capacity};
 ghost use Rattle.cg_desk.specs.Transactions.{session_of, txn_number};
 ghost use Rattle.cg_log.specs.Call.{after_call};
 ghost use Rattle.cg_log.specs.CallOf.{call_of};
@@ -64,6 +65,7 @@ impl Session {
         desk: &'s Desk,
     ) -> Result<Transaction<'s>, Refusal>
         ensures* refused { sem 𝓛 (RestsIfErr the_row self.entry (λ t. t.session.ghost_name) result (λ s. s ≡ self.old)) }
+        ensures borrows { IfOk result (λ t. t.session.ghost_name ≡ self.entry.ghost_name) }
         ensures begun { IfOk result (λ t. session_of t ≡ after_call self.old model.Begin (model.Begun (txn_number t))) }
         ensures refusals { IfErr result (λ e. (e ≡ refusals.AlreadyOpen) ⊎ (e ≡ refusals.Full) ⊎ (e ≡ refusals.Memory)) }
     {
@@ -71,7 +73,7 @@ impl Session {
         if self.log.reserve(2).is_err() {
             return Err(Refusal::Memory);
         }
-        let number = begin_at(rt, alloc, desk, self.number)?;
+        let number = begin_at(rt, alloc, desk, self.number, &self.log)?;
         let calls = mem::replace(&mut self.log, Vec::new(alloc));
         let log = Log::open(calls, number);
         Ok(Transaction {
@@ -83,15 +85,18 @@ impl Session {
     }
 }
 
-// The transaction that the desk's machine begins for the session.
+// The transaction that the desk's machine begins for the session, whose log has room for the Begin and the end.
 fn begin_at(
     rt: &impl Wait,
     alloc: Global,
     desk: &Desk,
     session: SessionId,
+    log: &Vec<Call>,
 ) -> Result<TxnNumber, Refusal>
+    requires { vec_len log.now + 2 ≤ vec_capacity log.now }
     ensures { IfErr result (λ e. (e ≡ refusals.AlreadyOpen) ⊎ (e ≡ refusals.Full) ⊎ (e ≡ refusals.Memory)) }
 {
+    prove!(log.len() + 2 <= log.capacity());
     let mut locked = desk.locked.lock(rt);
     match locked.core.step(alloc, session, Request::Begin) {
         Answer::Begun(number) => Ok(number),

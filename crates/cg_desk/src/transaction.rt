@@ -1,5 +1,5 @@
 //! Transactions, which have to be spent.
-ghost use Rattle.std.specs.Prelude.{◌≡◌, ◌≤◌, false, true};
+ghost use Rattle.std.specs.Prelude.{◌≡◌, ◌+◌, ◌≤◌, false, length, true};
 ghost use Rattle.cg_command.specs.Meaning.{command_of};
 ghost use Rattle.cg_core.specs.Answers.{is_memory, takes_memory};
 ghost use Rattle.cg_desk.specs.Replies.{MayAnswer};
@@ -145,8 +145,9 @@ impl<'s> Transaction<'s> {
         answer
     }
 
-    // One step of the desk's machine, under its lock.
+    // One step of the desk's machine, under its lock. A request that may want memory has room in the log before.
     fn step(&self, rt: &impl Wait, alloc: Global, request: Request) -> (Answer, Answer)
+        requires { takes_memory request ≡ true → length self.now.log.calls + self.now.log.reserved + 2 ≤ self.now.log.capacity }
         ensures copy { answer_of result.1 ≡ answer_of result.0 }
         ensures answers { MayAnswer (txn_number self.now) (request_of request) (answer_of result.0) }
         ensures infallible { takes_memory request ≡ false → is_memory result.0 ≡ false }
