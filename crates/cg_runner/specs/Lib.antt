@@ -1,2 +1,7 @@
 pub mod Closed
 pub mod End
+pub mod EndOf
+pub mod Happened
+pub mod Runs
+pub mod Trying
+pub mod Workers

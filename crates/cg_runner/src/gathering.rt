@@ -1,77 +1,63 @@
-//! The results of all scripts, put in order.
-ghost use Rattle.std.specs.Prelude.{◌≡◌, IfOk, length};
-ghost use Rattle.std.specs.List.{AllZip};
-ghost use Rattle.cg_runner.specs.End.{CanEnd};
+//! What all workers tell, put in order.
+ghost use Rattle.std.specs.Prelude.{◌≡◌, [], ◌∷◌, None, IfOk, OnOk, Some, map};
+ghost use Rattle.std.specs.List.{AllByRecursion};
+ghost use Rattle.cg_runner.specs.Workers.{told_by, AreEnds, ArePut};
 
 use crate::end::ScriptEnd;
 use crate::fault::RunFault;
-use crate::message::{Finished, Outline};
-use cg_script::Script;
-use crossbeam_channel::Receiver;
+use crate::worker::{Finished, Worker};
 use std::alloc::Global;
-use std::sync::Wait;
 
-// The ends of the scripts, in their order, where there is one result for each; else `Disagree`, or `Memory`.
+// The ends of so many scripts, in their order, where there is one for each; else `Disagree`, `Memory`, or a worker's fault.
 pub(crate) fn gather(
-    rt: &impl Wait,
     alloc: Global,
-    results: &Receiver<Finished>,
-    scripts: &[Script],
-    tries: u32,
+    workers: &[Worker],
+    scripts: usize,
 ) -> Result<Vec<ScriptEnd>, RunFault>
-    ensures { IfOk result (λ ends. AllZip (CanEnd tries) scripts.now ends.items) }
+    ensures faultless { OnOk result (AllByRecursion (λ w. w.fault ≡ None) workers.now) }
+    ensures ends { IfOk result (λ ends. AreEnds scripts (told_by workers.now) ends.items) }
 {
-    let mut places = vec![in alloc; None; scripts.len()]?;
-    for finished in results.iter(rt) {
-        put(places.as_mut_slice(), finished)?;
+    let mut places = vec![in alloc; None; scripts]?;
+    for worker in workers {
+        if let Some(fault) = worker.fault {
+            return Err(fault);
+        }
+        put_all(places.as_mut_slice(), worker.finished.as_slice())?;
     }
-    ends_of(alloc, places.as_slice(), scripts, tries)
+    ends_of(alloc, places.as_slice())
 }
 
-// Puts a result at its script's place, where there is none yet.
-fn put(places: &mut [Option<Finished>], finished: Finished) -> Result<(), RunFault>
-    ensures { length places.new ≡ length places.old }
+// Puts each end at its script's place, where there is none yet.
+fn put_all(places: &mut [Option<ScriptEnd>], finished: &[Finished]) -> Result<(), RunFault>
+    ensures { OnOk result (ArePut finished.now places.old places.new) }
 {
-    let Some(place) = (finished.number as usize).checked_sub(1) else {
+    for one in finished {
+        put(places, one)?;
+    }
+    Ok(())
+}
+
+// Puts an end at its script's place, where there is none yet.
+fn put(places: &mut [Option<ScriptEnd>], finished: &Finished) -> Result<(), RunFault>
+    ensures { OnOk result (ArePut (finished.now ∷ []) places.old places.new) }
+{
+    let Some(None) = places.get(finished.place) else {
         return Err(RunFault::Disagree);
     };
-    match places.get_mut(place) {
-        Some(slot) if slot.is_none() => {
-            *slot = Some(finished);
-            Ok(())
-        }
-        _ => Err(RunFault::Disagree),
-    }
+    places[finished.place] = Some(finished.end);
+    Ok(())
 }
 
-// The ends at all places, each that of the script there.
-fn ends_of(
-    alloc: Global,
-    places: &[Option<Finished>],
-    scripts: &[Script],
-    tries: u32,
-) -> Result<Vec<ScriptEnd>, RunFault>
-    ensures { IfOk result (λ ends. AllZip (CanEnd tries) scripts.now ends.items) }
+// The ends at all places, where each has one.
+fn ends_of(alloc: Global, places: &[Option<ScriptEnd>]) -> Result<Vec<ScriptEnd>, RunFault>
+    ensures { IfOk result (λ ends. map Some ends.items ≡ places.now) }
 {
-    let mut ends = Vec::with_capacity(alloc, scripts.len())?;
-    for (place, script) in scripts.iter().enumerate() {
-        let end = end_at(places, place, script, tries)?;
+    let mut ends = Vec::with_capacity(alloc, places.len())?;
+    for place in places {
+        let Some(end) = *place else {
+            return Err(RunFault::Disagree);
+        };
         ends.push(end)?;
     }
     Ok(ends)
-}
-
-// The end at a place, where there is one, and of this script.
-fn end_at(
-    places: &[Option<Finished>],
-    place: usize,
-    script: &Script,
-    tries: u32,
-) -> Result<ScriptEnd, RunFault>
-    ensures { IfOk result (CanEnd tries script.now) }
-{
-    match places.get(place) {
-        Some(Some(finished)) if finished.outline == Outline::of(script, tries) => Ok(finished.end),
-        _ => Err(RunFault::Disagree),
-    }
 }

@@ -1,8 +1,10 @@
 //! One script on one session, begun anew where another transaction is in its way.
-ghost use Rattle.std.specs.Prelude.{◌≡◌, ◌≤◌, vec_len};
-ghost use Rattle.cg_runner.specs.End.{tries_of, Fits};
+ghost use Rattle.std.specs.Prelude.{◌≤◌, IfOk};
+ghost use Rattle.cg_runner.specs.End.{CanEnd};
+ghost use Rattle.cg_runner.specs.Trying.{Ran};
 
 use crate::end::ScriptEnd;
+use crate::fault::RunFault;
 use crate::gate::Gate;
 use crate::passage::Passage;
 use crate::trying::try_script;
@@ -11,7 +13,7 @@ use cg_script::Script;
 use std::alloc::Global;
 use std::sync::Wait;
 
-// Runs the script, which is begun at most `tries` times.
+// Runs the script, which is begun at most `tries` times. `Disagree`, where a transaction can't be aborted.
 pub(crate) fn run_script<G: Gate>(
     rt: &impl Wait,
     alloc: Global,
@@ -20,17 +22,16 @@ pub(crate) fn run_script<G: Gate>(
     session: &mut Session,
     script: &Script,
     tries: u32,
-) -> ScriptEnd
+) -> Result<ScriptEnd, RunFault>
     requires { 1 ≤ tries }
-    ensures begun { 1 ≤ tries_of result }
-    ensures bounded { tries_of result ≤ tries }
-    ensures fits { Fits (vec_len script.now.requests) script.now.aborts result }
+    ensures can { IfOk result (CanEnd tries script.now) }
+    ensures ran { IfOk result (Ran script.now session.old session.new) }
 {
-    for tried in 1..=tries {
-        let ended = try_script(rt, alloc, &mut passage, desk, session, script, tried);
+    for tried in 0..tries {
+        let ended = try_script(rt, alloc, &mut passage, desk, session, script, tried + 1)?;
         if let Some(end) = ended {
-            return end;
+            return Ok(end);
         }
     }
-    ScriptEnd::GaveUp { tries }
+    Ok(ScriptEnd::GaveUp { tries })
 }

@@ -1,9 +1,18 @@
 //! One try of a script: one transaction.
-ghost use Rattle.std.specs.Prelude.{◌≡◌, ◌+◌, ◌≤◌, ◌∷◌, [], ℕ, Bool, IfErr, IfSome, length, vec_len};
+ghost use Rattle.std.specs.Prelude.{◌≡◌, ◌+◌, ◌≤◌, ◌∷◌, [], ℕ, IfErr, IfNone, IfOk, IfSome, List, OnOk, false, length, map, true, vec_len};
+ghost use Rattle.cg_desk.specs.Replies.{MayAnswer};
+ghost use Rattle.cg_desk.specs.Transactions.{session_left, session_of, txn_number, IsSame};
+ghost use Rattle.cg_history.specs.Meaning.{answer_of, request_of};
+ghost use Rattle.cg_log.specs.Call.{after_call, Call};
+ghost use Rattle.cg_model.specs.History as model;
 ghost use Rattle.cg_script.specs.Script.{AreScriptRequests};
-ghost use Rattle.cg_runner.specs.End.{tries_of, Fits};
+ghost use Rattle.cg_runner.specs.End.{tries_of};
+ghost use Rattle.cg_runner.specs.EndOf.{is_busy, vain_of, AreAccepted, IsRefused, MayRefuse};
+ghost use Rattle.cg_runner.specs.Trying.{ending, ending_call, Asked, CanEndBehind, Made, TriedInVain, TriedLast};
+ghost use Rattle.cg_runner.specs.declared.end.ScriptEnd.TheVariants as ends;
 
 use crate::end::ScriptEnd;
+use crate::fault::RunFault;
 use crate::gate::Gate;
 use crate::passage::Passage;
 use cg_desk::{Answer, Desk, Refusal, Request, Session, Transaction};
@@ -19,7 +28,7 @@ struct Stop {
 }
 
 // Runs the script in one transaction, which has ended then; how the script ends by this try, which has this number, if it isn't
-// to be begun anew.
+// to be begun anew. `Disagree`, where the transaction can't be aborted.
 pub(crate) fn try_script<G: Gate>(
     rt: &impl Wait,
     alloc: Global,
@@ -28,36 +37,45 @@ pub(crate) fn try_script<G: Gate>(
     session: &mut Session,
     script: &Script,
     tries: u32,
-) -> Option<ScriptEnd>
-    ensures tries { IfSome result (λ end. tries_of end ≡ tries) }
-    ensures fits { IfSome result (λ end. Fits (vec_len script.now.requests) script.now.aborts end) }
+) -> Result<Option<ScriptEnd>, RunFault>
+    requires { 1 ≤ tries }
+    ensures tries { IfOk result (λ o. IfSome o (λ end. (tries_of end ≡ tries) × (vain_of end + 1 ≡ tries))) }
+    ensures last { IfOk result (λ o. IfSome o (TriedLast script.now session.old session.new)) }
+    ensures vain { IfOk result (λ o. IfNone o (TriedInVain script.now session.old session.new)) }
 {
     passage.enter();
     let begun = session.begin(rt, alloc, desk);
     passage.leave();
     let mut transaction = match begun {
         Ok(transaction) => transaction,
-        Err(refusal) => return refused(0, refusal, tries),
+        Err(refusal) => {
+            return Ok(Some(ScriptEnd::Failed {
+                line: 0,
+                refusal,
+                tries,
+            }));
+        }
     };
-    match ask_all(
+    let asked = ask_all(
         rt,
         alloc,
         passage,
         &mut transaction,
         script.requests.as_slice(),
-    ) {
-        Ok(()) => finish(rt, alloc, passage, transaction, script, tries),
-        Err(stop) => {
-            end(rt, alloc, passage, transaction, true);
-            refused(stop.line, stop.refusal, tries)
-        }
+    );
+    match asked {
+        Ok(()) => Ok(Some(finish(rt, alloc, passage, transaction, script, tries))),
+        Err(stop) => match end(rt, alloc, passage, transaction, true) {
+            Answer::Aborted(_) => Ok(refused(stop.line, stop.refusal, tries)),
+            _ => Err(RunFault::Disagree),
+        },
     }
 }
 
 // How a script ends whose line is refused, if it isn't to be begun anew.
 fn refused(line: u32, refusal: Refusal, tries: u32) -> Option<ScriptEnd>
-    ensures tries { IfSome result (λ end. tries_of end ≡ tries) }
-    ensures fits { (requests : ℕ) (aborts : Bool) → line ≤ requests + 1 → IfSome result (Fits requests aborts) }
+    ensures busy { IfNone result (is_busy refusal ≡ true) }
+    ensures other { IfSome result (λ end. (is_busy refusal ≡ false) × (end ≡ ends.Failed line refusal tries)) }
 {
     match refusal {
         Refusal::Busy(_) => None,
@@ -79,7 +97,9 @@ fn ask_all<G: Gate>(
 ) -> Result<(), Stop>
     requires few { length requests.now ≤ 65536 }
     requires own { AreScriptRequests requests.now }
-    ensures { IfErr result (λ stop. stop.line ≤ length requests.now) }
+    ensures same { IsSame transaction.old transaction.new }
+    ensures accepted { OnOk result ((calls : List Call) × AreAccepted (map request_of requests.now) calls × Made (session_of transaction.old) (session_of transaction.new) calls) }
+    ensures refused { IfErr result (λ stop. (calls : List Call) × IsRefused (map request_of requests.now) stop.line stop.refusal calls × Made (session_of transaction.old) (session_of transaction.new) calls) }
 {
     let mut line = 0;
     for request in requests {
@@ -100,18 +120,16 @@ fn ask<G: Gate>(
     request: &Request,
 ) -> Option<Refusal>
     requires { AreScriptRequests (request.now ∷ []) }
+    ensures same { IsSame transaction.old transaction.new }
+    ensures accepted { IfNone result (Asked (session_of transaction.old) (session_of transaction.new) (request_of request.now)) }
+    ensures may { IfSome result (MayRefuse (request_of request.now)) }
+    ensures refused { IfSome result (λ e. session_of transaction.new ≡ after_call (session_of transaction.old) (request_of request.now) (model.Refused e)) }
 {
     let Ok(copy) = request.copy(alloc) else {
         return Some(Refusal::Memory);
     };
     passage.enter();
-    let answer = match copy {
-        Request::Do(command) => transaction.run(rt, alloc, command),
-        Request::Save(name) => transaction.save(rt, alloc, name),
-        Request::Back(name) => transaction.back(rt, alloc, name),
-        Request::Undo => transaction.undo(rt, alloc),
-        Request::Begin | Request::Commit | Request::Abort => unreachable!(),
-    };
+    let answer = answer_to(rt, alloc, transaction, copy);
     passage.leave();
     match answer {
         Answer::Refused(refusal) => Some(refusal),
@@ -119,7 +137,28 @@ fn ask<G: Gate>(
     }
 }
 
-// Ends the transaction as the script says; how the script ends so, if it isn't to be begun anew.
+// The answer to the request in the transaction.
+fn answer_to(
+    rt: &impl Wait,
+    alloc: Global,
+    transaction: &mut Transaction,
+    request: Request,
+) -> Answer
+    requires { AreScriptRequests (request ∷ []) }
+    ensures same { IsSame transaction.old transaction.new }
+    ensures answers { MayAnswer (txn_number transaction.old) (request_of request) (answer_of result) }
+    ensures logged { session_of transaction.new ≡ after_call (session_of transaction.old) (request_of request) (answer_of result) }
+{
+    match request {
+        Request::Do(command) => transaction.run(rt, alloc, command),
+        Request::Save(name) => transaction.save(rt, alloc, name),
+        Request::Back(name) => transaction.back(rt, alloc, name),
+        Request::Undo => transaction.undo(rt, alloc),
+        Request::Begin | Request::Commit | Request::Abort => unreachable!(),
+    }
+}
+
+// Ends the transaction as the script says; how the script ends so.
 fn finish<G: Gate>(
     rt: &impl Wait,
     alloc: Global,
@@ -127,24 +166,20 @@ fn finish<G: Gate>(
     transaction: Transaction,
     script: &Script,
     tries: u32,
-) -> Option<ScriptEnd>
-    ensures tries { IfSome result (λ end. tries_of end ≡ tries) }
-    ensures fits { IfSome result (λ end. Fits (vec_len script.now.requests) script.now.aborts end) }
+) -> ScriptEnd
+    ensures can { CanEndBehind (vec_len script.now.requests) script.now.aborts tries result }
+    ensures logged { Made (session_of transaction.entry) (session_left transaction.exit) (ending_call (txn_number transaction.entry) result) }
 {
     let line = script.requests.len() as u32 + 1;
-    let answer = end(rt, alloc, passage, transaction, script.aborts);
-    match (script.aborts, answer) {
-        (true, Answer::Aborted(_)) => Some(ScriptEnd::Aborted { tries }),
-        (false, Answer::Committed(number)) => Some(ScriptEnd::Committed { number, tries }),
-        (_, other) => refused(line, refusal_in(other), tries),
-    }
-}
-
-// Why the end of a transaction was refused. No machine answers otherwise then.
-fn refusal_in(answer: Answer) -> Refusal {
-    match answer {
-        Answer::Refused(refusal) => refusal,
-        _ => Refusal::Lost,
+    match end(rt, alloc, passage, transaction, script.aborts) {
+        Answer::Committed(number) => ScriptEnd::Committed { number, tries },
+        Answer::Aborted(_) => ScriptEnd::Aborted { tries },
+        Answer::Refused(refusal) => ScriptEnd::Failed {
+            line,
+            refusal,
+            tries,
+        },
+        _ => unreachable!(),
     }
 }
 
@@ -155,7 +190,10 @@ fn end<G: Gate>(
     passage: &mut Passage<G>,
     transaction: Transaction,
     aborts: bool,
-) -> Answer {
+) -> Answer
+    ensures answers { MayAnswer (txn_number transaction.entry) (ending aborts) (answer_of result) }
+    ensures logged { session_left transaction.exit ≡ after_call (session_of transaction.entry) (ending aborts) (answer_of result) }
+{
     passage.enter();
     let answer = if aborts {
         transaction.abort(rt, alloc)

@@ -1,13 +1,16 @@
-//! The workers: each takes scripts, one after another, and runs them on its session.
-ghost use Rattle.std.specs.Prelude.{◌≡◌, ◌≤◌, length};
+//! Each worker takes scripts, one after another, and runs them on its session.
+ghost use Rattle.std.specs.Prelude.{◌≡◌, ◌≤◌, OnOk, length};
+ghost use Rattle.std.specs.List.{AllZip};
+ghost use Rattle.cg_runner.specs.Workers.{KeepsTelling};
 
+use crate::fault::RunFault;
 use crate::gate::Gate;
-use crate::message::{Finished, Job, Outline};
 use crate::passage::Passage;
 use crate::running::run_script;
-use cg_desk::{Desk, Session};
+use crate::worker::{Finished, Worker};
+use cg_desk::Desk;
 use cg_script::Script;
-use crossbeam_channel::{Receiver, Sender, bounded};
+use crossbeam_channel::{Receiver, bounded};
 use std::alloc::{AllocError, Global};
 use std::sync::Wait;
 use std::thread;
@@ -16,86 +19,90 @@ use std::thread::Threads;
 /// How many workers a run has at most.
 pub(crate) const MOST_WORKERS: usize = 64;
 
-// Runs each script on one of the sessions, each of which has a thread where one can be made; what comes back is all there.
-pub(crate) fn results_of<G: Gate + Sync, R: Threads + Wait + Sync>(
+// Runs each script on the session of one of the workers, each of which has a thread where one can be made.
+pub(crate) fn work_all<G: Gate + Sync, R: Threads + Wait + Sync>(
     rt: &R,
     alloc: Global,
     gate: &G,
     desk: &Desk,
-    sessions: &mut [Session],
+    workers: &mut [Worker],
     scripts: &[Script],
     tries: u32,
-) -> Result<Receiver<Finished>, AllocError>
+) -> Result<(), AllocError>
     requires few { length scripts.now ≤ 4096 }
     requires a_try { 1 ≤ tries }
-    ensures sessions { length sessions.new ≡ length sessions.old }
+    ensures { OnOk result (AllZip (KeepsTelling tries scripts.now) workers.old workers.new) }
 {
-    let jobs = jobs_of(rt, alloc, scripts, tries)?;
-    // Room for each result, so that no worker waits for room.
-    let (sender, results) = bounded(alloc, scripts.len().max(1))?;
-    let (jobs, sender) = (&jobs, &sender);
+    let jobs = jobs_of(rt, alloc, scripts.len())?;
+    let jobs = &jobs;
     thread::for_each_mut(
         rt,
-        sessions,
+        workers,
         MOST_WORKERS,
-        &|_, session: &mut Session| { work(rt, alloc, gate, desk, session, jobs, sender) },
+        &|_, worker: &mut Worker| { work(rt, alloc, gate, desk, worker, jobs, scripts, tries) },
     );
-    // The sender goes here, so that whoever takes the results comes to their end.
-    Ok(results)
+    Ok(())
 }
 
-// A job for each script. There are no others.
-fn jobs_of<'a>(
-    rt: &impl Wait,
-    alloc: Global,
-    scripts: &'a [Script],
-    tries: u32,
-) -> Result<Receiver<Job<'a>>, AllocError>
-    requires few { length scripts.now ≤ 4096 }
-    requires a_try { 1 ≤ tries }
+// The places of so many scripts. There are no others.
+fn jobs_of(rt: &impl Wait, alloc: Global, scripts: usize) -> Result<Receiver<usize>, AllocError>
+    requires few { scripts ≤ 4096 }
 {
-    let (sender, jobs) = bounded(alloc, scripts.len().max(1))?;
-    let mut number = 0;
-    for script in scripts {
-        number += 1;
-        // There is room. A job that didn't get in would leave its script without a result.
-        let _ = sender.try_send(rt, Job::new(number, script, tries));
+    let (sender, jobs) = bounded(alloc, scripts.max(1))?;
+    for place in 0..scripts {
+        // There is room. A job that didn't get in would leave its script without an end.
+        let _ = sender.try_send(rt, place);
     }
     Ok(jobs)
 }
 
-// Takes scripts as long as there are any, and runs each on the session.
+// Takes scripts as long as there are any, and runs each on the worker's session.
 fn work<G: Gate>(
     rt: &impl Wait,
     alloc: Global,
     gate: &G,
     desk: &Desk,
-    session: &mut Session,
-    jobs: &Receiver<Job>,
-    results: &Sender<Finished>,
-) {
-    for job in jobs.iter(rt) {
-        let finished = finish(rt, alloc, gate, desk, session, &job);
-        // A result that didn't get out would be missing.
-        let _ = results.send(rt, finished);
+    worker: &mut Worker,
+    jobs: &Receiver<usize>,
+    scripts: &[Script],
+    tries: u32,
+)
+    requires few { length scripts.now ≤ 4096 }
+    requires a_try { 1 ≤ tries }
+    ensures { KeepsTelling tries scripts.now worker.old worker.new }
+{
+    for place in jobs.iter(rt) {
+        if let Err(fault) = run_next(rt, alloc, gate, desk, worker, place, scripts, tries) {
+            worker.fault = Some(fault);
+            return;
+        }
     }
 }
 
-// Runs a script on the session.
-fn finish<G: Gate>(
+// Runs the script at a place on the worker's session, and notes how it ended, with memory that is there before it is begun.
+fn run_next<G: Gate>(
     rt: &impl Wait,
     alloc: Global,
     gate: &G,
     desk: &Desk,
-    session: &mut Session,
-    job: &Job,
-) -> Finished {
-    let passage = Passage::new(gate, job.number);
-    let end = run_script(rt, alloc, passage, desk, session, job.script, job.tries);
-    gate.ended(job.number, end.tries());
-    Finished {
-        number: job.number,
-        outline: Outline::of(job.script, job.tries),
-        end,
-    }
+    worker: &mut Worker,
+    place: usize,
+    scripts: &[Script],
+    tries: u32,
+) -> Result<(), RunFault>
+    requires few { length scripts.now ≤ 4096 }
+    requires a_try { 1 ≤ tries }
+    ensures { OnOk result (KeepsTelling tries scripts.now worker.old worker.new) }
+{
+    let Some(script) = scripts.get(place) else {
+        return Err(RunFault::Disagree);
+    };
+    worker.finished.reserve(1)?;
+    let number = place as u32 + 1;
+    let passage = Passage::new(gate, number);
+    let session = &mut worker.session;
+    let end = run_script(rt, alloc, passage, desk, session, script, tries)?;
+    gate.ended(number, end.tries());
+    worker.finished.push_reserved(Finished { place, end });
+    Ok(())
 }

@@ -1,7 +1,5 @@
-use Rattle.std.proofs.Common.{take}
-use Rattle.std.specs.List.{AllZip}
-use Rattle.cg_runner.specs.End.{CanEnd}
+use Rattle.std.proofs.Common.{◌≡◌, Some, map, take}
 use Rattle.cg_runner.proofs.gathering.ends_of.Given as goal
 
 abbrev pub invariant-loop-place : goal.invariant-loop-place
-invariant-loop-place l = AllZip (CanEnd l.tries) (take l.place l.scripts) l.ends.items
+invariant-loop-place l = map Some l.ends.items ≡ take l.place-index l.places

@@ -1,0 +1,7 @@
+use Rattle.std.proofs.Common.{◌≡◌, vec_len}
+use Rattle.std.specs.List.{AllByRecursion}
+use Rattle.cg_runner.specs.Workers.{IsNew}
+use Rattle.cg_runner.proofs.runner.hire.Given as goal
+
+abbrev pub invariant-loop : goal.invariant-loop
+invariant-loop g l = (vec_len l.hired ≡ l.counter) × AllByRecursion IsNew l.hired.items
