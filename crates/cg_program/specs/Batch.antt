@@ -8,7 +8,7 @@ use Rattle.cg_model.specs.Tree.{Tree}
 use Rattle.cg_script.specs.HistoryText.{history_text}
 use Rattle.cg_script.specs.ScriptOf.{SpellsAs, SpellsNoScript, text_left}
 use Rattle.cg_script.specs.declared.script.Script.{Script}
-use Rattle.cg_runner.specs.Closed.{IsClosed}
+use Rattle.cg_runner.specs.Closed.{HaveHappened, IsClosed}
 use Rattle.cg_runner.specs.End.{CanEnd}
 use Rattle.cg_runner.specs.declared.end.ScriptEnd.{ScriptEnd}
 use Rattle.cg_program.specs.Ends.{end_lines}
@@ -17,9 +17,11 @@ use Rattle.cg_program.specs.Ends.{end_lines}
 abbrev pub SomeSpellsNone : List (List ℕ) → Type 0
 SomeSpellsNone texts = Any SpellsNoScript texts
 
--- each text spells a script, which may be begun so often and can end so
-abbrev pub EndSo : ℕ → List (List ℕ) → List ScriptEnd → Type 0
-EndSo tries texts ends = (scripts : List Script) × AllZip SpellsAs texts scripts × AllZip (CanEnd tries) scripts ends
+-- each text spells a script; these may be begun so often, and can end so; and so many workers ran them: each ended as is told, by
+-- its calls in this history
+abbrev pub EndSo : ℕ → ℕ → List (List ℕ) → List ScriptEnd → History cgroups → Type 0
+EndSo workers tries texts ends h =
+    (scripts : List Script) × AllZip SpellsAs texts scripts × AllZip (CanEnd tries) scripts ends × HaveHappened workers tries scripts ends h
 
 -- what is told of a batch: how each script ended, and the world that they left
 abbrev pub batch_text : List ScriptEnd → Tree → History cgroups → List ℕ
@@ -36,7 +38,7 @@ pub record Batch (workers tries : ℕ) (texts : List (List ℕ)) : Type 0 where
   pub ends : List ScriptEnd
   pub opening : Tree
   pub history : History cgroups
-  pub so : EndSo tries texts ends
+  pub so : EndSo workers tries texts ends history
   pub closed : IsClosed workers history
 
 -- such a batch was run, and this done with what is told of it and with the text of its history

@@ -78,7 +78,7 @@ fn run<G: Gate + Sync, R: Threads + Wait + Sync, W: Source>(
     requires few_workers { workers ≤ 64 }
     requires a_try { 1 ≤ tries }
     requires few_tries { tries ≤ 1000 }
-    ensures ends { IfOk result (λ r. EndSo tries (map (λ t. t.items) texts.now) r.ends.items) }
+    ensures ends { IfOk result (λ r. EndSo workers tries (map (λ t. t.items) texts.now) r.ends.items r.core.history) }
     ensures closed { IfOk result (λ r. IsClosed workers r.core.history) }
     ensures syntax { IsErrOf result (Stopped faults.Syntax) → IfSome (pending world.old) HasNoWorld ⊎ SomeSpellsNone (map (λ t. t.items) texts.now) }
     ensures refusals { ¬ (IsErrOf result NoGroup) × ¬ (IsErrOf result NoFile) }

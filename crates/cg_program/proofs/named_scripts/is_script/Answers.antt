@@ -1,4 +1,4 @@
-use Rattle.std.proofs.Common.{◌≡◌, true, true≢false, [], arith, ap, sym, ◌∙◌}
+use Rattle.std.proofs.Common.{true≢false, [], arith, ap, sym, ◌∙◌}
 use Rattle.std.proofs.lemmas.List.{take_all}
 use Rattle.std.specs.List.{list_any}
 use Rattle.cg_program.proofs.HistoryFile.{any_made, none_more}

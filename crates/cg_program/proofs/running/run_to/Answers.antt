@@ -9,7 +9,7 @@ returns-in-Ok-clause-done g c = λ zero.
         ends = report.ends.items;
         opening = report.core.opening;
         history = report.core.history;
-        so = subst (λ texts. EndSo c.args.tries (map (λ t. t.items) texts) report.ends.items) c.as_slice.ensures.value c.in-Ok.ensures.ends;
+        so = subst (λ texts. EndSo c.args.workers c.args.tries (map (λ t. t.items) texts) report.ends.items report.core.history) c.as_slice.ensures.value c.in-Ok.ensures.ends;
         closed = c.in-Ok.ensures.closed;
       },
       (c.finish.ensures.told zero, c.finish.ensures.past zero),
