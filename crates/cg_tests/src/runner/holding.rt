@@ -53,7 +53,14 @@ const CROSSED: [Rule; 3] = [
     },
 ];
 
-static CASES: [Case; 3] = [
+// The first script asks for nothing before the second has ended, by its third call.
+const OVERTAKEN: [Rule; 1] = [Rule {
+    script: 1,
+    call: 2,
+    behind: 3,
+}];
+
+static CASES: [Case; 4] = [
     Case {
         name: "two transactions are open at once",
         rules: &ABREAST,
@@ -101,6 +108,21 @@ proc 11 /
 end
 calls 3, ended 1 behind call 3, tries 1
 calls 6, ended 1 behind call 6, tries 2
+late false
+",
+    },
+    Case {
+        name: "each end is that of its script, also where the second script ends first",
+        rules: &OVERTAKEN,
+        texts: &["create /a", "create /b\nabort"],
+        is_begun_anew: false,
+        ends: &["committed 1 tries 1\naborted tries 1\n"],
+        rest: "group /a - 0 -
+proc 10 /
+proc 11 /
+end
+calls 3, ended 1 behind call 3, tries 1
+calls 3, ended 1 behind call 3, tries 1
 late false
 ",
     },
