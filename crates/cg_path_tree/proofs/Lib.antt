@@ -3,6 +3,7 @@ pub mod Changing
 pub mod Counting
 pub mod Finding
 pub mod Indexed
+pub mod LastName
 pub mod Linking
 pub mod ListChanges
 pub mod Parents

@@ -6,7 +6,7 @@ use Rattle.std.proofs.lemmas.Str.{IsUtf8-append, IsUtf8-nil, IsUtf8-from_ascii}
 use Rattle.cg_name.specs.Name.{IsName}
 use Rattle.cg_name.specs.Path.{Path, IsPath}
 use Rattle.cg_name.specs.Packed.{names_in, packed_text, BeginsName, IsPacked}
-use Rattle.cg_name.proofs.Packing.{names_in-packed_text, start-packed_text}
+use Rattle.cg_name.proofs.Packing.{names_in-packed_text, packed_text-names_in, start-packed_text}
 
 zero_is_ascii : IsAscii (0 ∷ [])
 zero_is_ascii zero = omega arith
@@ -30,3 +30,6 @@ packed bs p path is = record {
   start = subst BeginsName (sym is) (start-packed_text p);
   path = subst IsPath (sym (tells bs p path is)) path;
 }
+
+pub utf8_packed : (bs : List ℕ) → IsPacked bs → IsUtf8 bs
+utf8_packed bs h = subst IsUtf8 (packed_text-names_in bs h.start) (utf8_text (names_in bs) h.path)

@@ -7,7 +7,7 @@ ghost use Rattle.cg_path_tree.specs.Nodes.{parent_path, path_of, AreClosed, Have
 
 use crate::entering::{enter, leave};
 use crate::node::{Node, NodeKey, add_child, remove_child};
-use crate::path_text::{prefix_text, text};
+use crate::path_text::{parent_text, prefix_text, text};
 use cg_name::{Path, PathRef};
 use indexmap::IndexMap;
 use slab::Slab;
@@ -96,6 +96,17 @@ impl<V: Drop> PathTree<V> {
         self.index.get(prefix_text(path, depth)).copied()
     }
 
+    /// The node of the path one name shorter, if there is one; `None` for the root's. Takes no memory.
+    pub fn find_parent(&self, path: &Path) -> Option<NodeKey>
+        ensures root { is_root path.now ≡ true → result ≡ None }
+        ensures value { is_root path.now ≡ false → result ≡ get self.now.keys (parent_path path.now) }
+    {
+        if path.is_root() {
+            return None;
+        }
+        self.index.get(parent_text(path)).copied()
+    }
+
     /// The deepest node on the path, and how many names it has, if there is any. Looks at few prefixes, by halving, and
     /// takes no memory.
     pub fn deepest(&self, path: &Path) -> Option<(NodeKey, u32)>
@@ -128,7 +139,7 @@ impl<V: Drop> PathTree<V> {
     pub fn has_parent(&self, path: &Path) -> bool
         ensures { IsTrue result ↔ HasParent self.now.keys path.now }
     {
-        path.is_root() || self.parent_of(path).is_some()
+        path.is_root() || self.find_parent(path).is_some()
     }
 
     /// Whether the key is that of a node. One that `find` gave is, until its node is removed.
@@ -212,7 +223,7 @@ impl<V: Drop> PathTree<V> {
         ensures value_returned { IfErr result (λ failed. failed.value ≡ value) }
         ensures err { OnErr result (self.new ≡ self.old) }
     {
-        let parent = self.parent_of(path);
+        let parent = self.find_parent(path);
         let Ok((key, entry)) = enter(&mut self.index, &mut self.nodes, alloc, path) else {
             return Err(AllocFailed { value });
         };
@@ -225,18 +236,6 @@ impl<V: Drop> PathTree<V> {
         });
         add_child(&mut self.nodes, parent);
         Ok(key)
-    }
-
-    // The node of the path one name shorter; `None` for the root.
-    fn parent_of(&self, path: &Path) -> Option<NodeKey>
-        ensures root { is_root path.now ≡ true → result ≡ None }
-        ensures value { is_root path.now ≡ false → result ≡ get self.now.keys (parent_path path.now) }
-    {
-        if path.is_root() {
-            return None;
-        }
-        let depth = path.depth();
-        self.find_prefix(path, depth.saturating_sub(1))
     }
 
     /// Takes out a node that has none right below, and gives its value. Takes no memory.

@@ -33,14 +33,14 @@ add_child-requires-clause-there g c =
     parent_node c.self.inside.index.entries c.enter.new.index.entries c.self.inside.nodes c.self.invariant c.args.self.now c.self.view_is c.args.path.now c.in-Ok.key (put_in c.in-Ok.entry c.unwrap_or.result c.depth.result c.args.value)
     c.requires.absent c.requires.parent c.in-Ok.ensures.entries c.in-Ok.ensures.packed c.enter.new.nodes c.insert_reserved.new.self (same_nodes c.self.inside.nodes c.enter.new.nodes c.in-Ok.ensures.slots) c.in-Ok.ensures.vacant
     (put_there c.enter.new.nodes c.insert_reserved.new.self c.in-Ok.key c.insert_reserved.result (put_in c.in-Ok.entry c.unwrap_or.result c.depth.result c.args.value) (c.in-Ok.ensures.key ∙ sym (vacant_key_kept c.self.inside.nodes c.enter.new.nodes c.in-Ok.ensures.slots) ∙ sym c.insert_reserved.ensures.key) c.insert_reserved.ensures.updates)
-    c.in-Ok.ensures.entry c.depth.ensures.value refl c.parent_of-parent.result c.parent_of-parent.ensures.root c.parent_of-parent.ensures.value c.unwrap_or.ensures
+    c.in-Ok.ensures.entry c.depth.ensures.value refl c.find_parent-parent.result c.find_parent-parent.ensures.root c.find_parent-parent.ensures.value c.unwrap_or.ensures
 
 pub add_child-requires-clause-room : goal.add_child-requires-clause-room
 add_child-requires-clause-room g c =
     parent_room c.self.inside.index.entries c.enter.new.index.entries c.self.inside.nodes c.self.invariant c.args.self.now c.self.view_is c.args.path.now c.in-Ok.key (put_in c.in-Ok.entry c.unwrap_or.result c.depth.result c.args.value)
     c.requires.absent c.requires.parent c.in-Ok.ensures.entries c.in-Ok.ensures.packed c.enter.new.nodes c.insert_reserved.new.self (same_nodes c.self.inside.nodes c.enter.new.nodes c.in-Ok.ensures.slots) c.in-Ok.ensures.vacant
     (put_there c.enter.new.nodes c.insert_reserved.new.self c.in-Ok.key c.insert_reserved.result (put_in c.in-Ok.entry c.unwrap_or.result c.depth.result c.args.value) (c.in-Ok.ensures.key ∙ sym (vacant_key_kept c.self.inside.nodes c.enter.new.nodes c.in-Ok.ensures.slots) ∙ sym c.insert_reserved.ensures.key) c.insert_reserved.ensures.updates)
-    c.in-Ok.ensures.entry c.depth.ensures.value refl c.parent_of-parent.result c.parent_of-parent.ensures.root c.parent_of-parent.ensures.value c.unwrap_or.ensures
+    c.in-Ok.ensures.entry c.depth.ensures.value refl c.find_parent-parent.result c.find_parent-parent.ensures.root c.find_parent-parent.ensures.value c.unwrap_or.ensures
     c.in-Ok.ensures.below
 
 pub invariant_of-self-2 : goal.invariant_of-self-2
@@ -48,7 +48,7 @@ invariant_of-self-2 g c =
     linked-added c.self.inside.index.entries c.enter.new.index.entries c.self.inside.nodes c.self.invariant c.args.self.now c.self.view_is c.args.path.now c.in-Ok.key (put_in c.in-Ok.entry c.unwrap_or.result c.depth.result c.args.value)
     c.requires.absent c.requires.parent c.in-Ok.ensures.entries c.in-Ok.ensures.packed c.enter.new.nodes c.insert_reserved.new.self (same_nodes c.self.inside.nodes c.enter.new.nodes c.in-Ok.ensures.slots) c.in-Ok.ensures.vacant
     (put_there c.enter.new.nodes c.insert_reserved.new.self c.in-Ok.key c.insert_reserved.result (put_in c.in-Ok.entry c.unwrap_or.result c.depth.result c.args.value) (c.in-Ok.ensures.key ∙ sym (vacant_key_kept c.self.inside.nodes c.enter.new.nodes c.in-Ok.ensures.slots) ∙ sym c.insert_reserved.ensures.key) c.insert_reserved.ensures.updates)
-    c.in-Ok.ensures.entry c.depth.ensures.value refl c.parent_of-parent.result c.parent_of-parent.ensures.root c.parent_of-parent.ensures.value c.unwrap_or.ensures
+    c.in-Ok.ensures.entry c.depth.ensures.value refl c.find_parent-parent.result c.find_parent-parent.ensures.root c.find_parent-parent.ensures.value c.unwrap_or.ensures
     c.add_child.new.nodes c.add_child.ensures.none c.add_child.ensures.some
 
 pub returns-clause-keys : goal.returns-clause-keys
@@ -56,7 +56,7 @@ returns-clause-keys g c =
     keys-added c.self.inside.index.entries c.enter.new.index.entries c.self.inside.nodes c.self.invariant c.args.self.now c.self.view_is c.args.path.now c.in-Ok.key (put_in c.in-Ok.entry c.unwrap_or.result c.depth.result c.args.value)
     c.requires.absent c.requires.parent c.in-Ok.ensures.entries c.in-Ok.ensures.packed c.enter.new.nodes c.insert_reserved.new.self (same_nodes c.self.inside.nodes c.enter.new.nodes c.in-Ok.ensures.slots) c.in-Ok.ensures.vacant
     (put_there c.enter.new.nodes c.insert_reserved.new.self c.in-Ok.key c.insert_reserved.result (put_in c.in-Ok.entry c.unwrap_or.result c.depth.result c.args.value) (c.in-Ok.ensures.key ∙ sym (vacant_key_kept c.self.inside.nodes c.enter.new.nodes c.in-Ok.ensures.slots) ∙ sym c.insert_reserved.ensures.key) c.insert_reserved.ensures.updates)
-    c.in-Ok.ensures.entry c.depth.ensures.value refl c.parent_of-parent.result c.parent_of-parent.ensures.root c.parent_of-parent.ensures.value c.unwrap_or.ensures
+    c.in-Ok.ensures.entry c.depth.ensures.value refl c.find_parent-parent.result c.find_parent-parent.ensures.root c.find_parent-parent.ensures.value c.unwrap_or.ensures
     c.add_child.new.nodes c.add_child.ensures.none c.add_child.ensures.some
 
 pub returns-clause-values : goal.returns-clause-values
@@ -64,7 +64,7 @@ returns-clause-values g c =
     values-added c.self.inside.index.entries c.enter.new.index.entries c.self.inside.nodes c.self.invariant c.args.self.now c.self.view_is c.args.path.now c.in-Ok.key (put_in c.in-Ok.entry c.unwrap_or.result c.depth.result c.args.value)
     c.requires.absent c.requires.parent c.in-Ok.ensures.entries c.in-Ok.ensures.packed c.enter.new.nodes c.insert_reserved.new.self (same_nodes c.self.inside.nodes c.enter.new.nodes c.in-Ok.ensures.slots) c.in-Ok.ensures.vacant
     (put_there c.enter.new.nodes c.insert_reserved.new.self c.in-Ok.key c.insert_reserved.result (put_in c.in-Ok.entry c.unwrap_or.result c.depth.result c.args.value) (c.in-Ok.ensures.key ∙ sym (vacant_key_kept c.self.inside.nodes c.enter.new.nodes c.in-Ok.ensures.slots) ∙ sym c.insert_reserved.ensures.key) c.insert_reserved.ensures.updates)
-    c.in-Ok.ensures.entry c.depth.ensures.value refl c.parent_of-parent.result c.parent_of-parent.ensures.root c.parent_of-parent.ensures.value c.unwrap_or.ensures
+    c.in-Ok.ensures.entry c.depth.ensures.value refl c.find_parent-parent.result c.find_parent-parent.ensures.root c.find_parent-parent.ensures.value c.unwrap_or.ensures
     c.add_child.new.nodes c.add_child.ensures.none c.add_child.ensures.some
 
 pub returns-clause-fresh : goal.returns-clause-fresh
@@ -72,4 +72,4 @@ returns-clause-fresh g c =
     fresh c.self.inside.index.entries c.enter.new.index.entries c.self.inside.nodes c.self.invariant c.args.self.now c.self.view_is c.args.path.now c.in-Ok.key (put_in c.in-Ok.entry c.unwrap_or.result c.depth.result c.args.value)
     c.requires.absent c.requires.parent c.in-Ok.ensures.entries c.in-Ok.ensures.packed c.enter.new.nodes c.insert_reserved.new.self (same_nodes c.self.inside.nodes c.enter.new.nodes c.in-Ok.ensures.slots) c.in-Ok.ensures.vacant
     (put_there c.enter.new.nodes c.insert_reserved.new.self c.in-Ok.key c.insert_reserved.result (put_in c.in-Ok.entry c.unwrap_or.result c.depth.result c.args.value) (c.in-Ok.ensures.key ∙ sym (vacant_key_kept c.self.inside.nodes c.enter.new.nodes c.in-Ok.ensures.slots) ∙ sym c.insert_reserved.ensures.key) c.insert_reserved.ensures.updates)
-    c.in-Ok.ensures.entry c.depth.ensures.value refl c.parent_of-parent.result c.parent_of-parent.ensures.root c.parent_of-parent.ensures.value c.unwrap_or.ensures
+    c.in-Ok.ensures.entry c.depth.ensures.value refl c.find_parent-parent.result c.find_parent-parent.ensures.root c.find_parent-parent.ensures.value c.unwrap_or.ensures
