@@ -63,7 +63,7 @@ IsVain requests calls = (line : ℕ) × (other : TxnNumber) × IsStopped request
 abbrev pub IsNotBegun : ℕ → Refusal → List Call → Type 0
 IsNotBegun line e calls = (line ≡ 0) × (calls ≡ []) × ((e ≡ refusals.AlreadyOpen) ⊎ (e ≡ refusals.Full) ⊎ (e ≡ refusals.Memory))
 
--- all requests were accepted, and then the transaction was lost: of a history in which none is open, no script ends so
+-- all requests were accepted, and then the transaction was lost: no call ended it
 abbrev pub IsNotEnded : List (Request cgroups) → ℕ → Refusal → List Call → Type 0
 IsNotEnded requests line e calls =
     (line ≡ length requests + 1) × (e ≡ refusals.Lost) × ((t : ℕ) × (asked : List Call) × AreAccepted requests asked × (calls ≡ call Begin (Begun t) ∷ asked))
