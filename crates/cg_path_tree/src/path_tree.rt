@@ -116,6 +116,13 @@ impl<V: Drop> PathTree<V> {
         ensures deepest { IfSome result (λ r. (d : ℕ) → r.1 < d → d ≤ length path.now → get self.now.keys (take d path.now) ≡ None) }
     {
         self.laws();
+        // Most often it is the path's own node or its parent's.
+        if let Some(key) = self.find(path) {
+            return Some((key, path.depth()));
+        }
+        if let Some(key) = self.find_parent(path) {
+            return Some((key, path.depth().saturating_sub(1)));
+        }
         let mut found = self.find_prefix(path, 0)?;
         let mut depth = 0;
         let mut above = path.depth() + 1;
