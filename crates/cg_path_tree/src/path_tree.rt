@@ -118,10 +118,10 @@ impl<V: Drop> PathTree<V> {
         self.laws();
         // Most often it is the path's own node or its parent's.
         if let Some(key) = self.find(path) {
-            return Some((key, path.depth()));
+            return Some((key, self.depth(key)));
         }
         if let Some(key) = self.find_parent(path) {
-            return Some((key, path.depth().saturating_sub(1)));
+            return Some((key, self.depth(key)));
         }
         let mut found = self.find_prefix(path, 0)?;
         let mut depth = 0;
