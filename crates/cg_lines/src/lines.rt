@@ -6,6 +6,7 @@ ghost use Rattle.cg_lines.specs.Lines.{HasNoNewline, bytes_to_come, TakesKnownLi
 
 use crate::device::{DeviceFault, Source};
 use cg_text::LONGEST_LINE;
+use memchr::memchr;
 use std::alloc::{AllocError, Global};
 use std::marker::Model;
 use thiserror::Error;
@@ -292,7 +293,7 @@ fn last_kind(fits: bool, line: &[u8]) -> LineKind
 fn newline_in(bytes: &[u8]) -> Option<usize>
     ensures { MatchOption result (HasNoNewline bytes.now) (IsFirstNewline bytes.now) }
 {
-    bytes.iter().position(|byte| *byte == NEWLINE)
+    memchr(NEWLINE, bytes)
 }
 
 // Appends more bytes of a line that fits so far, and tells whether it still fits; of a line that does not nothing stays.

@@ -3,6 +3,7 @@ mod Readers
 pub mod Files
 mod TrimmedLines
 mod Closing
+mod BareEnd
 mod Blanks
 mod FirstWord
 pub mod Cuts

@@ -10,6 +10,7 @@ ghost use Rattle.cg_text.specs.Cutting.{BeginsWith, Closes, behind, is_escaped, 
 ghost use Rattle.cg_text.specs.Words.{Cuts, EndsWord, Line, Says, Word, is_silent};
 
 use cg_name::{Refusal, is_bare_byte};
+use memchr::{memchr, memchr3};
 use std::alloc::Global;
 
 /// The most bytes of a line, its newline left out.
@@ -138,14 +139,9 @@ fn behind_escaped(text: &[u8]) -> Option<&[u8]>
 fn behind_bare(text: &[u8]) -> &[u8]
     ensures { result.now ≡ behind is_bare_byte text.now }
 {
-    let mut rest = text;
-    while let [byte, others @ ..] = rest {
-        if !is_bare_byte(*byte) {
-            return rest;
-        }
-        rest = others;
-    }
-    rest
+    let end = memchr3(b' ', b'\t', b'"', text).unwrap_or(text.len());
+    let end = memchr(b'\\', &text[..end]).unwrap_or(end);
+    &text[end..]
 }
 
 // Whether the text begins with a blank.
