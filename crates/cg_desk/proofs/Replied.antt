@@ -1,5 +1,5 @@
 -- What a machine answers in an open transaction may be answered there.
-use Rattle.std.proofs.Common.{◌≡◌, ℕ, Bool, true, false, List, [], ◌∷◌, Option, Some, None, refl, sym, subst, true≢false}
+use Rattle.std.proofs.Common.{◌≡◌, ℕ, Bool, true, false, List, [], ◌∷◌, Option, Some, None, refl, sym, subst, ◌∙◌, true≢false}
 use Rattle.std.proofs.lemmas.Bool.{cond_both}
 use Rattle.std.specs.Bool.{OnFalse}
 use Rattle.cg_name.specs.declared.refusal.Refusal.{Refusal}
@@ -16,7 +16,7 @@ use Rattle.cg_model.specs.Change.{Change}
 use Rattle.cg_model.specs.Command.{Command}
 use Rattle.cg_model.specs.Effect.{effect}
 use Rattle.cg_model.specs.System.{Attempt, Refuse, Accept}
-use Rattle.cg_model.specs.History.{Request, Begin, Do, Save, Back, Undo, Commit, Abort, Answer, Refused, History, is_own_check}
+use Rattle.cg_model.specs.History.{Request, Begin, Do, Save, Back, Undo, Commit, Abort, Answer, Begun, Gave, Saved, WentBack, Committed, Aborted, Refused, History, is_own_check, is_recorded}
 use Rattle.cg_model.specs.Live.{Items, Ran, AtSavepoint, live}
 use Rattle.cg_model.specs.Opens.{numbers, opens, without}
 use Rattle.cg_model.specs.Reply.{holder, is_full, has_savepoint, command_reply, undo_reply, reply_in}
@@ -54,15 +54,26 @@ replied o bound h t Undo = undone t (live t h)
 replied o bound h t Commit = tt
 replied o bound h t Abort = refl
 
--- a request that takes memory may want it
-pub wanted : (t : ℕ) (r : asked.Request) → takes_memory r ≡ true → MayAnswer t (request_of r) (Refused refusals.Memory)
-wanted t requests.Begin takes = refl
-wanted t (requests.Do c) takes = refl
-wanted t (requests.Save n) takes = refl
-wanted t (requests.Back n) takes = takes
-wanted t requests.Undo takes = takes
-wanted t requests.Commit takes = takes
-wanted t requests.Abort takes = takes
+-- what may be answered to a Begin has no record
+no_begin : (t : ℕ) (m : Answer) → MayAnswer t Begin m → is_recorded {y = cgroups} Begin m ≡ false
+no_begin t (Refused e) may = refl
+no_begin t (Begun u) may = absurd may
+no_begin t (Gave o) may = absurd may
+no_begin t Saved may = absurd may
+no_begin t (WentBack k) may = absurd may
+no_begin t (Committed k) may = absurd may
+no_begin t (Aborted u) may = absurd may
+
+-- a request that takes memory, and whose answer has a record, may want it
+wanted : (t : ℕ) (r : asked.Request) (m : Answer) → takes_memory r ≡ true → is_recorded (request_of r) m ≡ true → MayAnswer t (request_of r) m
+    → MayAnswer t (request_of r) (Refused refusals.Memory)
+wanted t requests.Begin m takes has may = absurd (true≢false (sym has ∙ no_begin t m may))
+wanted t (requests.Do c) m takes has may = refl
+wanted t (requests.Save n) m takes has may = refl
+wanted t (requests.Back n) m takes has may = takes
+wanted t requests.Undo m takes has may = takes
+wanted t requests.Commit m takes has may = takes
+wanted t requests.Abort m takes has may = takes
 
 takes_or : (b : Bool) → (b ≡ false → true ≡ false) → b ≡ true
 takes_or true none = refl
@@ -70,6 +81,7 @@ takes_or false none = absurd (true≢false (none refl))
 
 -- the answer is the history's reply, or that memory is wanted where it may be
 pub told : (t : ℕ) (r : asked.Request) (a : rust.Answer) (m : Answer) → OnFalse (is_memory a) (answer_of a ≡ m) → (takes_memory r ≡ false → is_memory a ≡ false)
-    → MayAnswer t (request_of r) m → MayAnswer t (request_of r) (answer_of a)
-told t r (answers.Refused refusals.Memory) m is infallible may = wanted t r (takes_or (takes_memory r) infallible)
-told t r _ m is infallible may = subst (MayAnswer t (request_of r)) (sym is) may
+    → (is_recorded (request_of r) m ≡ false → is_memory a ≡ false) → MayAnswer t (request_of r) m → MayAnswer t (request_of r) (answer_of a)
+told t r (answers.Refused refusals.Memory) m is infallible unrecorded may =
+    wanted t r m (takes_or (takes_memory r) infallible) (takes_or (is_recorded (request_of r) m) unrecorded) may
+told t r _ m is infallible unrecorded may = subst (MayAnswer t (request_of r)) (sym is) may

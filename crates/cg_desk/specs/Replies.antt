@@ -18,7 +18,6 @@ may_meet (Save n) Memory = true
 may_meet Undo NothingToUndo = true
 may_meet (Back n) NoSavepoint = true
 may_meet Begin AlreadyOpen = true
-may_meet Begin Memory = true
 may_meet _ _ = false
 
 -- the answers to a request in transaction t: one of its refusals, or what it is for

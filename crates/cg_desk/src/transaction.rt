@@ -2,11 +2,12 @@
 ghost use Rattle.std.specs.Prelude.{◌≡◌, ◌+◌, ◌≤◌, false, length, true};
 ghost use Rattle.cg_command.specs.Meaning.{command_of};
 ghost use Rattle.cg_core.specs.Answers.{is_memory, takes_memory};
-ghost use Rattle.cg_desk.specs.Replies.{MayAnswer};
+ghost use Rattle.cg_desk.specs.Replies.{MayAnswer, may_meet};
 ghost use Rattle.cg_desk.specs.Transactions.{session_left, session_of, txn_number, IsSame};
 ghost use Rattle.cg_history.specs.Meaning.{answer_of, request_of};
 ghost use Rattle.cg_log.specs.Call.{after_call};
 ghost use Rattle.cg_model.specs.History as model;
+ghost use Rattle.cg_name.specs.declared.refusal.Refusal.TheVariants as refusals;
 
 use crate::desk::Desk;
 use crate::session::Session;
@@ -95,7 +96,7 @@ impl<'s> Transaction<'s> {
 
     // Asks for what may take memory: room in the log and the copy for it come first.
     fn ask(&mut self, rt: &impl Wait, alloc: Global, request: Request) -> Answer
-        requires { takes_memory request ≡ true }
+        requires { may_meet (request_of request) refusals.Memory ≡ true }
         ensures answers { MayAnswer (txn_number self.old) (request_of request) (answer_of result) }
         ensures logged { session_of self.new ≡ after_call (session_of self.old) (request_of request) (answer_of result) }
         ensures same { IsSame self.old self.new }

@@ -26,6 +26,6 @@ returns-clause-answers c =
     let core = c.args.core.now in
     let t = c.args.number.0 in
     let r = request_of c.args.request in
-    told t c.args.request c.step_pair.result.0 (reply core c.args.session.0 r) c.step_pair.ensures.answer c.step_pair.ensures.infallible
+    told t c.args.request c.step_pair.result.0 (reply core c.args.session.0 r) c.step_pair.ensures.answer c.step_pair.ensures.infallible c.step_pair.ensures.unrecorded
     (subst (λ o. MayAnswer t r (reply_at cgroups core.opening core.bound core.history o r)) (sym (c.is_open_in.ensures.0 c.if-not-is_open_in.false))
     (replied core.opening core.bound core.history t r))
