@@ -1,11 +1,12 @@
 //! Transactions, which have to be spent.
-ghost use Rattle.std.specs.Prelude.{◌≡◌, ◌+◌, ◌≤◌, false, length, true};
+ghost use Rattle.std.specs.Prelude.{◌≡◌, ◌+◌, ◌≤◌, [], false, length, true};
 ghost use Rattle.cg_command.specs.Meaning.{command_of};
 ghost use Rattle.cg_core.specs.Answers.{is_memory, takes_memory};
 ghost use Rattle.cg_desk.specs.Replies.{MayAnswer, may_meet};
 ghost use Rattle.cg_desk.specs.Transactions.{session_left, session_of, txn_number, IsSame};
 ghost use Rattle.cg_history.specs.Meaning.{answer_of, request_of};
 ghost use Rattle.cg_log.specs.Call.{after_call};
+ghost use Rattle.cg_log.specs.Standing.{goes_back, standing};
 ghost use Rattle.cg_model.specs.History as model;
 ghost use Rattle.cg_name.specs.declared.refusal.Refusal.TheVariants as refusals;
 
@@ -58,7 +59,7 @@ impl<'s> Transaction<'s> {
         ensures infallible { is_memory result ≡ false }
     {
         if !self.log.has_way_back() {
-            return Answer::Refused(Refusal::NothingToUndo);
+            return self.find_nothing(Refusal::NothingToUndo);
         }
         self.go_back(rt, alloc, Request::Undo, Request::Undo)
     }
@@ -71,7 +72,7 @@ impl<'s> Transaction<'s> {
         ensures infallible { is_memory result ≡ false }
     {
         if !self.log.has_way_back() {
-            return Answer::Refused(Refusal::NoSavepoint);
+            return self.find_nothing(Refusal::NoSavepoint);
         }
         self.go_back(rt, alloc, Request::Back(name), Request::Back(name))
     }
@@ -112,9 +113,18 @@ impl<'s> Transaction<'s> {
         answer
     }
 
+    // Refuses to go back without a step, where by the log nothing stands.
+    fn find_nothing(&self, refusal: Refusal) -> Answer
+        requires { standing (session_of self.now).log ≡ [] }
+        ensures { answer_of result ≡ model.Refused refusal }
+    {
+        Answer::Refused(refusal)
+    }
+
     // Asks to go back, with the same again for the log, which has room reserved for it.
     fn go_back(&mut self, rt: &impl Wait, alloc: Global, request: Request, copy: Request) -> Answer
         requires way_back { 2 ≤ self.old.log.reserved }
+        requires back { goes_back (request_of request) ≡ true }
         requires no_memory { takes_memory request ≡ false }
         requires same { request_of copy ≡ request_of request }
         ensures answers { MayAnswer (txn_number self.old) (request_of request) (answer_of result) }

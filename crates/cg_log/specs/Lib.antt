@@ -3,3 +3,4 @@ pub mod CallCode
 pub mod CallOf
 pub mod LogState
 pub mod Rests
+pub mod Standing

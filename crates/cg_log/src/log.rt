@@ -1,9 +1,10 @@
 //! The log of a session while a transaction of it is open, with room reserved for calls to come.
-ghost use Rattle.std.specs.Prelude.{◌≡◌, ◌+◌, ◌≤◌, ◌↔◌, IsTrue, OnOk, length, map, vec_len};
+ghost use Rattle.std.specs.Prelude.{◌≡◌, ◌+◌, ◌≤◌, ◌↔◌, [], cond, false, true, IsTrue, OnOk, length, map, vec_len};
 ghost use Rattle.std.specs.Vec.{vec_capacity};
 ghost use Rattle.cg_history.specs.Meaning.{answer_of, request_of};
 ghost use Rattle.cg_log.specs.Call.{logged};
 ghost use Rattle.cg_log.specs.CallOf.{call_of};
+ghost use Rattle.cg_log.specs.Standing.{goes_back, is_refused, standing};
 ghost use Rattle.cg_model.specs.History as history;
 
 use crate::call::Call;
@@ -12,24 +13,26 @@ use cg_name::{Refusal, TxnNumber};
 use std::alloc::AllocError;
 use std::marker::Model;
 
-/// Calls, the oldest first, and for how many more room is reserved: the one that ends the transaction, and those that go back
-/// in it, of which there are as many as commands and savepoints that stand, or more.
+/// Calls, the oldest first, and for how many more room is reserved: the one that ends the transaction, and one that goes back for
+/// each command and each savepoint that stands by the calls.
 pub struct Log {
     calls: Vec<Call>,
     reserved: usize,
 }
 
 impl Model for Log {
-    ghost use Rattle.std.specs.Prelude.{◌+◌, ◌≤◌, vec_len};
+    ghost use Rattle.std.specs.Prelude.{◌+◌, ◌≤◌, length, map, vec_len};
     ghost use Rattle.std.specs.Vec.{vec_capacity};
+    ghost use Rattle.cg_log.specs.CallOf.{call_of};
     ghost use Rattle.cg_log.specs.LogState.{LogState};
+    ghost use Rattle.cg_log.specs.Standing.{standing};
 
     ghost Value = { LogState };
 
     ghost view = { λ l. record { calls = l.calls.items; reserved = l.reserved; capacity = vec_capacity l.calls } };
 
-    // Room for what is reserved, and for the end of the transaction at least.
-    ghost invariant = { λ l. (vec_len l.calls + l.reserved ≤ vec_capacity l.calls) × (1 ≤ l.reserved) };
+    // Room for what is reserved: for the end of the transaction, and for going back over each item that stands.
+    ghost invariant = { λ l. (vec_len l.calls + l.reserved ≤ vec_capacity l.calls) × (1 + length (standing (map call_of l.calls.items)) ≤ l.reserved) };
 }
 
 impl Log {
@@ -63,22 +66,22 @@ impl Log {
         if !is_recorded(&request, &answer) {
             return;
         }
-        if !matches!(answer, Answer::Refused(_)) {
-            self.reserved += 1;
-        }
+        self.reserved += places_back(&answer);
         self.calls.push_reserved(Call { request, answer });
     }
 
     /// Whether room is reserved for more than the end. Else nothing stands that could be gone back over.
     pub fn has_way_back(&self) -> bool
-        ensures { IsTrue result ↔ (2 ≤ self.now.reserved) }
+        ensures room { IsTrue result ↔ (2 ≤ self.now.reserved) }
+        ensures nothing { result ≡ false → standing (map call_of self.now.calls) ≡ [] }
     {
         self.reserved >= 2
     }
 
     /// Adds a call that goes back in room reserved for it, where it is to be recorded.
     pub fn note_back(&mut self, request: Request, answer: Answer)
-        requires { 2 ≤ self.old.reserved }
+        requires room { 2 ≤ self.old.reserved }
+        requires back { goes_back (request_of request) ≡ true }
         ensures { map call_of self.new.calls ≡ logged (map call_of self.old.calls) (request_of request) (answer_of answer) }
     {
         if is_recorded(&request, &answer) {
@@ -99,6 +102,16 @@ impl Log {
             calls.push_reserved(Call { request, answer });
         }
         calls
+    }
+}
+
+// How many places going back may need for a call with this answer.
+fn places_back(answer: &Answer) -> usize
+    ensures { result ≡ cond (is_refused (answer_of answer.now)) 0 1 }
+{
+    match answer {
+        Answer::Refused(_) => 0,
+        _ => 1,
     }
 }
 
