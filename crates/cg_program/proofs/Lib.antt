@@ -3,3 +3,4 @@ pub mod HistoryFile
 pub mod NamedLemmas
 pub mod ProgramLemmas
 pub mod ShowLemmas
+pub mod Stopping

@@ -1,10 +1,13 @@
 -- A batch: scripts run over a world, and what is told of them.
-use Rattle.std.specs.Prelude.{◌≡◌, ℕ, List, ◌++◌, Option, Some, None, IfSome, ⊤}
+use Rattle.std.specs.Prelude.{◌≡◌, ◌≤◌, ◌⊎◌, ℕ, List, ◌++◌, Option, Some, None, IfSome, ⊤}
 use Rattle.std.specs.List.{AllZip, Any}
 use Rattle.std.specs.Io.KnownBytes.{Appends}
 use Rattle.cg_model.specs.Cgroups.{cgroups}
 use Rattle.cg_model.specs.History.{History}
+use Rattle.cg_model.specs.Sound.{Sound}
 use Rattle.cg_model.specs.Tree.{Tree}
+use Rattle.cg_core_laws.specs.MachineOf.{Reached}
+use Rattle.cg_lines.specs.Device.{AppendsFront, Failed}
 use Rattle.cg_script.specs.HistoryText.{history_text}
 use Rattle.cg_script.specs.ScriptOf.{SpellsAs, SpellsNoScript, text_left}
 use Rattle.cg_script.specs.declared.script.Script.{Script}
@@ -33,17 +36,38 @@ AppendsGiven taken (Some old) (Some new) text = Appends (taken old) (taken new) 
 AppendsGiven taken None None text = ⊤
 AppendsGiven taken _ _ text = ⊥
 
--- the scripts of the texts ended, run by so many workers: how they did, the tree on which their history began, and the history
+-- some of the text's front was appended where a sink is given for it
+abbrev pub AppendsFrontGiven : {K : Type 0} → (K → Option (List ℕ)) → Option K → Option K → List ℕ → Type 0
+AppendsFrontGiven taken (Some old) (Some new) text = AppendsFront (taken old) (taken new) text
+AppendsFrontGiven taken None None text = ⊤
+AppendsFrontGiven taken _ _ text = ⊥
+
+-- a write to the sink that is given for it failed
+abbrev pub FailedGiven : {K : Type 0} → (K → ℕ) → Option K → Option K → Type 0
+FailedGiven failed (Some old) (Some new) = Failed (failed old) (failed new)
+FailedGiven failed _ _ = ⊥
+
+-- the scripts of the texts ended, run by so many workers: how they did, the sound tree on which their history began, and the history,
+-- which steps of a machine with that bound reach
 pub record Batch (workers tries : ℕ) (texts : List (List ℕ)) : Type 0 where
   pub ends : List ScriptEnd
   pub opening : Tree
   pub history : History cgroups
   pub so : EndSo workers tries texts ends history
   pub closed : IsClosed workers history
+  pub sound : Sound opening
+  pub bound : ℕ
+  pub within : bound ≤ 1048576
+  pub reached : Reached opening bound history
 
 -- such a batch was run, and this done with what is told of it and with the text of its history
 abbrev pub Tells : ℕ → ℕ → List (List ℕ) → (List ℕ → List ℕ → Type 0) → Type 0
 Tells workers tries texts P = (b : Batch workers tries texts) × P (batch_text b.ends b.opening b.history) (history_text b.history)
+
+-- the telling of a batch stopped: at the front of what is told, with nothing of the history; or in the history, behind all of it
+abbrev pub StopsIn : {K : Type 0} → Option (List ℕ) → Option (List ℕ) → (K → Option (List ℕ)) → Option K → Option K → List ℕ → List ℕ → Type 0
+StopsIn old new taken history history' told past =
+    (AppendsFront old new told × (history' ≡ history)) ⊎ (Appends old new told × AppendsFrontGiven taken history history' past)
 
 -- these are the texts of the files with these names, as far as those are known
 abbrev pub AreTexts : (List ℕ → Option (List ℕ)) → List (List ℕ) → List (List ℕ) → Type 0

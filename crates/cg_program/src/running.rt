@@ -1,15 +1,19 @@
 //! Scripts run over a world, from their texts to what is told of them.
-ghost use Rattle.std.specs.Prelude.{◌≡◌, ◌≢◌, ◌≤◌, ◌⊎◌, IfOk, IfSome, OnOk, length, map, vec_len};
+ghost use Rattle.std.specs.Prelude.{◌≡◌, ◌≢◌, ◌≤◌, ◌⊎◌, IfErr, IfOk, IfSome, OnErr, OnOk, length, map, vec_len};
 ghost use Rattle.std.specs.Io.KnownBytes.{Appends};
 ghost use Rattle.std.specs.Result.{IsErrOf};
 ghost use Rattle.cg_name.specs.declared.refusal.Refusal.{Refusal};
+ghost use Rattle.cg_name.specs.declared.refusal.Refusal.TheVariants as refusals;
+ghost use Rattle.cg_model.specs.Sound.{Sound};
+ghost use Rattle.cg_core_laws.specs.MachineOf.{Reached};
+ghost use Rattle.cg_lines.specs.Device.{AppendsFront, Failed};
 ghost use Rattle.cg_lines.specs.Lines.{pending};
 ghost use Rattle.cg_script.specs.HistoryText.{history_text};
 ghost use Rattle.cg_script.specs.WorldPart.{HasNoWorld};
 ghost use Rattle.cg_script.specs.declared.fault.ScriptFault.TheVariants as faults;
 ghost use Rattle.cg_runner.specs.Closed.{IsClosed};
-ghost use Rattle.cg_program.specs.Batch.{AppendsGiven, EndSo, SomeSpellsNone, Tells, batch_text};
-ghost use Rattle.cg_program.specs.Program.{WritesUnlessFailed};
+ghost use Rattle.cg_program.specs.Batch.{AppendsGiven, EndSo, FailedGiven, SomeSpellsNone, StopsIn, Tells, batch_text};
+ghost use Rattle.cg_program.specs.Program.{IsBroken, WritesUnlessFailed};
 ghost use Rattle.cg_program.specs.Status.{refusal_line, status_where};
 ghost use Rattle.cg_program.specs.declared.fault.ProgramFault.TheVariants.{NoFile, NoGroup, Stopped};
 
@@ -52,9 +56,13 @@ pub fn run_to<G: Gate + Sync, R: Threads + Wait + Sync, W: Source, O: Sink, H: S
     ensures done { result ≡ 0 → Tells workers tries (map (λ t. t.items) scripts.items) (λ told past. Appends (O.taken out.old) (O.taken out.new) told × AppendsGiven H.taken history.old history.new past) }
     ensures quiet { result ≡ 0 → err.new ≡ err.old }
 
-    // or there is a refusal, which is told.
+    // or there is a refusal, which is told and has its cause.
     ensures told { (result ≡ 0) ⊎ ((refusal : Refusal) × (result ≡ status_where refusal)
-        × WritesUnlessFailed (E.taken err.old) (E.taken err.new) (E.failed err.old) (E.failed err.new) (refusal_line refusal)) }
+        × WritesUnlessFailed (E.taken err.old) (E.taken err.new) (E.failed err.old) (E.failed err.new) (refusal_line refusal)
+        × (refusal ≡ refusals.ReadFault → IsBroken world.new)
+        × (refusal ≡ refusals.WriteFault → Failed (O.failed out.old) (O.failed out.new) ⊎ FailedGiven H.failed history.old history.new)) }
+    ensures front { result ≡ 3 → ((out.new ≡ out.old) × (history.new ≡ history.old))
+        ⊎ Tells workers tries (map (λ t. t.items) scripts.items) (λ told past. StopsIn (O.taken out.old) (O.taken out.new) H.taken history.old history.new told past) }
     ensures refused { result ≡ 2 → (IfSome (pending world.old) HasNoWorld ⊎ SomeSpellsNone (map (λ t. t.items) scripts.items)) × (out.new ≡ out.old) × (history.new ≡ history.old) }
 {
     match run(rt, alloc, gate, world, scripts.as_slice(), workers, tries) {
@@ -80,12 +88,19 @@ fn run<G: Gate + Sync, R: Threads + Wait + Sync, W: Source>(
     requires few_tries { tries ≤ 1000 }
     ensures ends { IfOk result (λ r. EndSo workers tries (map (λ t. t.items) texts.now) r.ends.items r.core.history) }
     ensures closed { IfOk result (λ r. IsClosed workers r.core.history) }
+    ensures sound { IfOk result (λ r. Sound r.core.opening) }
+    ensures within { IfOk result (λ r. r.core.bound ≤ 1048576) }
+    ensures reached { IfOk result (λ r. Reached r.core.opening r.core.bound r.core.history) }
     ensures syntax { IsErrOf result (Stopped faults.Syntax) → IfSome (pending world.old) HasNoWorld ⊎ SomeSpellsNone (map (λ t. t.items) texts.now) }
     ensures refusals { ¬ (IsErrOf result NoGroup) × ¬ (IsErrOf result NoFile) }
+    ensures reads { IsErrOf result (Stopped faults.ReadFault) → IsBroken world.new }
+    ensures writes { ¬ (IsErrOf result (Stopped faults.WriteFault)) }
 {
     let world = read_world(alloc, world)?;
     let scripts = read_scripts(alloc, texts)?;
-    Ok(run_scripts(rt, alloc, gate, world, scripts, workers, tries)?)
+    let report = run_scripts(rt, alloc, gate, world, scripts, workers, tries)?;
+    report.core.laws();
+    Ok(report)
 }
 
 // Tells what was run, and gives the status.
@@ -100,7 +115,10 @@ fn finish<O: Sink, H: Sink, E: Sink>(
     ensures past { result ≡ 0 → AppendsGiven H.taken history.old history.new (history_text report.now.core.history) }
     ensures quiet { result ≡ 0 → err.new ≡ err.old }
     ensures failed { (result ≡ 0) ⊎ ((refusal : Refusal) × (result ≡ status_where refusal)
-        × WritesUnlessFailed (E.taken err.old) (E.taken err.new) (E.failed err.old) (E.failed err.new) (refusal_line refusal)) }
+        × WritesUnlessFailed (E.taken err.old) (E.taken err.new) (E.failed err.old) (E.failed err.new) (refusal_line refusal)
+        × ¬ (refusal ≡ refusals.ReadFault)
+        × (refusal ≡ refusals.WriteFault → Failed (O.failed out.old) (O.failed out.new) ⊎ FailedGiven H.failed history.old history.new)) }
+    ensures front { result ≢ 0 → StopsIn (O.taken out.old) (O.taken out.new) H.taken history.old history.new (batch_text report.now.ends.items report.now.core.opening report.now.core.history) (history_text report.now.core.history) }
     ensures status { result ≢ 2 }
 {
     match tell(alloc, report, history, out) {
@@ -118,7 +136,9 @@ fn tell<O: Sink, H: Sink>(
 ) -> Result<(), ScriptFault>
     ensures told { OnOk result (Appends (O.taken out.old) (O.taken out.new) (batch_text report.now.ends.items report.now.core.opening report.now.core.history)) }
     ensures past { OnOk result (AppendsGiven H.taken history.old history.new (history_text report.now.core.history)) }
-    ensures refusals { ¬ (IsErrOf result faults.Syntax) }
+    ensures front { OnErr result (StopsIn (O.taken out.old) (O.taken out.new) H.taken history.old history.new (batch_text report.now.ends.items report.now.core.opening report.now.core.history) (history_text report.now.core.history)) }
+    ensures writes { IsErrOf result faults.WriteFault → Failed (O.failed out.old) (O.failed out.new) ⊎ FailedGiven H.failed history.old history.new }
+    ensures refusals { IfErr result (λ e. (e ≡ faults.Memory) ⊎ (e ≡ faults.WriteFault)) }
 {
     let mut text = lines_of(alloc, report.ends.as_slice())?.into_bytes();
     report.core.tree().write(&mut text)?;
@@ -132,7 +152,9 @@ fn tell<O: Sink, H: Sink>(
 // Writes the text of the history.
 fn tell_history<H: Sink>(alloc: Global, core: &Core, sink: &mut H) -> Result<(), ScriptFault>
     ensures past { OnOk result (Appends (H.taken sink.old) (H.taken sink.new) (history_text core.now.history)) }
-    ensures refusals { ¬ (IsErrOf result faults.Syntax) }
+    ensures front { OnErr result (AppendsFront (H.taken sink.old) (H.taken sink.new) (history_text core.now.history)) }
+    ensures writes { IsErrOf result faults.WriteFault → Failed (H.failed sink.old) (H.failed sink.new) }
+    ensures refusals { IfErr result (λ e. (e ≡ faults.Memory) ⊎ (e ≡ faults.WriteFault)) }
 {
     let mut text = Vec::new(alloc);
     write_history(core.history(), &mut text)?;

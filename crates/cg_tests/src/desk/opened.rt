@@ -22,6 +22,11 @@ fn open_on(alloc: Global, text: &str) -> Result<Desk, Refusal> {
     Ok(Desk::open(alloc, world(alloc, text)?, MOST_SLOTS)?)
 }
 
+/// A desk on that world, with a history of so many slots.
+pub(crate) fn open_with(alloc: Global, limit: u32) -> Result<Desk, Refusal> {
+    Ok(Desk::open(alloc, world(alloc, BARE)?, limit)?)
+}
+
 /// A desk, and the sessions that it is to be closed with.
 #[derive(Drop)]
 pub(crate) struct Opened {

@@ -1,7 +1,7 @@
 //! Sessions in one thread.
 use crate::desk::asking::{commit_all, write_log};
-use crate::desk::opened::open;
-use cg_desk::{Desk, Refusal};
+use crate::desk::opened::{open, open_with};
+use cg_desk::{Desk, Refusal, Session};
 use std::alloc::Global;
 use std::sync::Wait;
 
@@ -79,4 +79,48 @@ fn first_refused_at_a_desk(
 fn a_desk_hands_out_65536_sessions(rt: HostRuntime) {
     let refused = first_refused_at_a_desk(&rt, rt.alloc());
     assert!(rt; refused == Ok(Some((65_537, Refusal::Full))));
+}
+
+// What two commands and a commit are answered where the history has four slots, and why the next Begin is refused. A Begin and a
+// command take them all, with those for the end and for going back; after the commit three have records, and a Begin wants two.
+fn write_all_within_four_slots(
+    rt: &impl Wait,
+    alloc: Global,
+    out: &mut Vec<u8>,
+) -> Result<Option<Refusal>, Refusal> {
+    let desk = open_with(alloc, 4)?;
+    let mut session = desk.session(rt, alloc)?;
+    commit_all(
+        rt,
+        alloc,
+        &desk,
+        &mut session,
+        &[&["create", "/a"], &["create", "/b"]],
+        out,
+    )?;
+    Ok(first_begin_refused(rt, alloc, &desk, &mut session))
+}
+
+// Why the session can't begin, where it can't; else it aborts.
+fn first_begin_refused(
+    rt: &impl Wait,
+    alloc: Global,
+    desk: &Desk,
+    session: &mut Session,
+) -> Option<Refusal> {
+    match session.begin(rt, alloc, desk) {
+        Ok(transaction) => {
+            let _ = transaction.abort(rt, alloc);
+            None
+        }
+        Err(refusal) => Some(refusal),
+    }
+}
+
+#[test]
+fn a_desk_keeps_its_history_within_the_limit(rt: HostRuntime) {
+    let mut out = Vec::new(rt.alloc());
+    let refused = write_all_within_four_slots(&rt, rt.alloc(), &mut out);
+    assert!(rt; refused == Ok(Some(Refusal::Full)));
+    assert!(rt; out.as_slice() == b"done\nrefused 4 full\ncommitted 1\n");
 }

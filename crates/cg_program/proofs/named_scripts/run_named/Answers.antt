@@ -1,4 +1,5 @@
-use Rattle.std.proofs.Common.{map}
+use Rattle.std.proofs.Common.{inl, inr, map}
+use Rattle.std.specs.Prelude.{◌⊎◌}
 use Rattle.cg_script.specs.HistoryText.{history_text}
 use Rattle.cg_program.proofs.HistoryFile.{kept_whole, told_through}
 use Rattle.cg_program.proofs.named_scripts.run_named.Goals as goal
@@ -13,4 +14,4 @@ returns-in-Ok-clause-done g c = λ zero.
 
 pub returns-in-Ok-clause-told : goal.returns-in-Ok-clause-told
 returns-in-Ok-clause-told g c =
-    told_through g.E.Sink.taken g.E.Sink.failed c.args.err.now c.run_to-status.new.err c.end_history.new.err c.run_to-status.result c.end_history.result c.run_to-status.ensures.told c.run_to-status.ensures.quiet c.end_history.ensures.told c.end_history.ensures.failed
+    told_through g.E.Sink.taken g.E.Sink.failed c.args.err.now c.run_to-status.new.err c.end_history.new.err c.run_to-status.result c.end_history.result (elim c.run_to-status.ensures.told [ inl done ↦ inl done | inr why ↦ inr (why.0, why.1, why.2) ]) c.run_to-status.ensures.quiet c.end_history.ensures.told c.end_history.ensures.failed
