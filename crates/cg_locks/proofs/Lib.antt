@@ -6,6 +6,7 @@ mod Intentions
 mod OfKinds
 mod Marks
 mod Pids
+mod Places
 mod Results
 pub mod Stacks
 mod Summed

@@ -1,5 +1,6 @@
 -- Which transactions hold one thing, and how often; and the same of things by paths.
-use Rattle.std.specs.Prelude.{◌≡◌, ◌≢◌, ℕ, zero, suc, ◌+◌, ◌<◌, ◌≤◌, ◌==◌, ◌&&◌, nat_lt, Bool, cond, List, length, take, Option, Some, None}
+use Rattle.std.specs.Prelude.{◌≡◌, ◌≢◌, ℕ, zero, suc, ◌+◌, ◌<◌, ◌≤◌, ◌==◌, ◌&&◌, nat_lt, Bool, cond, T, List, [], ◌∷◌, length, take, Option, Some, None}
+use Rattle.std.specs.FinMap.Entries.{is_sorted}
 use Rattle.std.specs.List.{sum_by}
 use Rattle.std.specs.Option.{unwrap_or}
 use Rattle.std.specs.Ordering.{nat_cmp}
@@ -22,6 +23,16 @@ held_by C u = unwrap_or (get C u) 0
 -- nobody is named who holds it never
 abbrev pub IsPositive : Counts → Type 0
 IsPositive C = (u n : ℕ) → get C u ≡ Some n → 0 < n
+
+-- entries by ascending numbers, none with 0
+pub record IsHolderList (es : List (ℕ × ℕ)) : Type 0 where
+  pub sorted : T (is_sorted nat_cmp es)
+  pub positive : IsPositive (from_entries nat_cmp es)
+
+-- how many lower numbers stand before the place of t
+abbrev pub place_of : ℕ → List (ℕ × ℕ) → ℕ
+place_of t [] = 0
+place_of t (e ∷ es) = cond (nat_lt e.0 t) (suc (place_of t es)) 0
 
 -- so, where anybody does
 abbrev pub held_if : Option Counts → ℕ → ℕ

@@ -1,16 +1,10 @@
-use Rattle.std.proofs.Common.{unwrap_or, sym, ap, ◌∙◌}
-use Rattle.std.specs.Cmp.{nat_cmp_total}
-use Rattle.std.specs.FinMap.{nat_cmp-IsAntisymmetric}
-use Rattle.cg_maps.proofs.TreeMaps.{get-view}
-use Rattle.cg_locks.specs.Holders.{held_by}
+use Rattle.std.proofs.Common.{unwrap_or, ap, ◌∙◌}
+use Rattle.std.specs.FinMap.Entries.{find}
+use Rattle.std.specs.Ordering.{nat_cmp}
+use Rattle.cg_locks.proofs.Places.{held_there}
 use Rattle.cg_locks.proofs.holders.Holders.count.Goals as goal
 
-pub returns-in-Some : goal.returns-in-Some
-returns-in-Some c =
-    ap (λ r. unwrap_or r 0) (c.in-Some.ensures.value ∙ sym (get-view nat_cmp_total nat_cmp-IsAntisymmetric c.self.inside.counts c.args.transaction.0))
-    ∙ ap (λ C. held_by C c.args.transaction.0) c.self.view_is
-
-pub returns-in-None : goal.returns-in-None
-returns-in-None c =
-    ap (λ r. unwrap_or r 0) (c.in-None.ensures.value ∙ sym (get-view nat_cmp_total nat_cmp-IsAntisymmetric c.self.inside.counts c.args.transaction.0))
-    ∙ ap (λ C. held_by C c.args.transaction.0) c.self.view_is
+pub returns : goal.returns
+returns c =
+    c.count_in.ensures ∙ ap (λ es. unwrap_or (find nat_cmp c.args.transaction.0 es) 0) c.as_slice.ensures
+    ∙ held_there c.self.inside.counts.items c.args.self.now c.args.transaction.0 c.self.view_is
