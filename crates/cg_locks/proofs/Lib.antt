@@ -1,14 +1,20 @@
 mod Above
+mod Clashes
 mod Counting
 mod Counts
 mod Enough
-mod Intentions
-mod OfKinds
+mod HeldMaps
+mod Keys
 mod Marks
+mod Missing
+mod OfKinds
+mod Parts
 mod Pids
 mod Places
 mod Results
+mod Seen
 pub mod Stacks
 mod Summed
 mod Tables
+mod Walks
 mod Ways

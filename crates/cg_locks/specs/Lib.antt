@@ -1,3 +1,5 @@
+pub mod Held
+pub mod HeldByPath
 pub mod Holders
 pub mod Holdings
 pub mod Marks

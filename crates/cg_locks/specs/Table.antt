@@ -1,8 +1,9 @@
 -- What the maps of a table say, as one map by transactions and marks.
 use Rattle.std.specs.Prelude.{ℕ, zero, suc, ◌+◌, List, [], ◌∷◌, ◌++◌, Option, Some, None}
 use Rattle.std.specs.Ordering.{nat_cmp}
-use Rattle.cg_maps.specs.FiniteMap.{FiniteMap, empty, entries, get, set_at}
+use Rattle.cg_maps.specs.FiniteMap.{FiniteMap, empty, entries, from_entries, get, set_at}
 use Rattle.cg_model.specs.Footprint.{Mark, X, S, N, Pid, Count}
+use Rattle.cg_locks.specs.Held.{Marked}
 use Rattle.cg_locks.specs.Holders.{Counts, PathCounts, held_above, held_at, held_below, held_if}
 use Rattle.cg_locks.specs.Holdings.{Holdings}
 
@@ -13,6 +14,10 @@ pub record ByKind : Type 0 where
   pub stays : PathCounts
   pub descendants : PathCounts
   pub processes : FiniteMap nat_cmp Counts
+
+-- those of a table: of the marks at paths, and of the places of processes
+abbrev pub by_kind : Marked → List (ℕ × Counts) → ByKind
+by_kind m es = record { changed = m.changed; read = m.read; stays = m.stays; descendants = m.descendants; processes = from_entries nat_cmp es }
 
 -- how often u holds the mark
 abbrev pub count_of : ByKind → ℕ → Mark → ℕ

@@ -2,12 +2,13 @@
 #![tactic(auto)]
 
 mod footprint;
+mod held;
 mod holders;
 mod mark;
 mod path_holders;
 mod pid_holders;
-mod subtrees;
 mod table;
+mod upward;
 
 pub use footprint::Footprint;
 pub use mark::Mark;

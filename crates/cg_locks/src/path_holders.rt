@@ -1,137 +1,134 @@
-//! The holders of what is at paths.
-ghost use Rattle.std.specs.Prelude.{◌≡◌, ◌<◌, ◌≤◌, List, ℕ, true, OnErr, OnOk, length, option_map, suc, take};
-ghost use Rattle.cg_locks.specs.Holders.{held_above, held_at, is_among, number_of, IsAlike, IsLeastOther, IsOneMore, IsOneMoreAbove, IsSame};
+//! The holders of marks at paths, in one tree of them.
+ghost use Rattle.std.specs.Prelude.{◌≡◌, ◌<◌, List, ℕ, OnErr, OnOk, option_map};
+ghost use Rattle.cg_locks.specs.Held.{in_way, of_kind, IsMarkedAlike, IsMarkedMore};
+ghost use Rattle.cg_locks.specs.Holders.{held_at, number_of, IsLeastOther};
+ghost use Rattle.cg_locks.specs.declared.held.Kind.{Kind};
 
-use crate::holders::{Holders, lesser};
+use crate::held::{Held, Kind, Part};
+use crate::holders::lesser;
+use crate::upward::{add_mark, drop_free, least_above, reach, remove_mark};
 use cg_name::{Path, TxnNumber};
-use cg_path_map::PathMap;
+use cg_path_tree::PathTree;
 use std::alloc::{AllocError, Global};
+use std::marker::Model;
 
-// How often the transaction holds what is at the path.
-pub(crate) fn count(holders: &PathMap<Holders>, path: &Path, transaction: TxnNumber) -> usize
-    ensures { result ≡ held_at holders.now path.now transaction.0 }
-{
-    match holders.get(path) {
-        Some(there) => there.count(transaction),
-        None => 0,
+// So many nodes stay when nobody holds anything there any more: what is marked again finds its path.
+const KEPT: usize = 4096;
+
+// Who holds marks at paths. Where there is a node, there is one at each prefix.
+pub(crate) struct PathHolders {
+    nodes: PathTree<Held>,
+}
+
+// By hand, so that whoever drops one calls this, and doesn't drop each thing in it: that makes proofs shorter.
+impl Drop for PathHolders {
+    fn drop(self) {
+        let PathHolders { nodes: _ } = self;
     }
 }
 
-// The least other transaction that holds what is at the path of the first names.
-pub(crate) fn least_at(
-    holders: &PathMap<Holders>,
-    path: &Path,
-    depth: u32,
-    transaction: TxnNumber,
-) -> Option<TxnNumber>
-    ensures { IsLeastOther transaction.0 (held_at holders.now (take depth path.now)) (option_map number_of result) }
-{
-    match holders.get_prefix(path, depth) {
-        Some(there) => there.least_other(transaction),
-        None => None,
-    }
+impl Model for PathHolders {
+    ghost use Rattle.cg_locks.specs.Held.{Marked, marked_code};
+
+    ghost Value = { Marked };
+
+    ghost coded = { marked_code };
+
+    ghost use Rattle.cg_locks.specs.HeldByPath.{marked, AreSummedUp};
+
+    ghost view = { λ h. marked h.nodes.values };
+
+    ghost invariant = { λ h. AreSummedUp h.nodes.values };
 }
 
-// The least other transaction that holds what is at a path with which this one begins.
-pub(crate) fn least_above(
-    holders: &PathMap<Holders>,
-    path: &Path,
-    transaction: TxnNumber,
-) -> Option<TxnNumber>
-    ensures { IsLeastOther transaction.0 (held_above holders.now path.now) (option_map number_of result) }
-{
-    let mut least = None;
-    for depth in 0..path.depth() + 1 {
-        least = lesser(least, least_at(holders, path, depth, transaction));
-    }
-    least
-}
-
-// One holding more by the transaction at the path of the first names. An error, where there is no memory for it, changes
-// nothing.
-pub(crate) fn add(
-    holders: &mut PathMap<Holders>,
-    alloc: Global,
-    path: &Path,
-    depth: u32,
-    transaction: TxnNumber,
-) -> Result<(), AllocError>
-    ensures ok { OnOk result (IsOneMore holders.old (take depth path.now) transaction.0 holders.new) }
-    ensures err { OnErr result (holders.new ≡ holders.old) }
-{
-    if let Some(there) = holders.get_prefix_mut(path, depth) {
-        return there.add(transaction);
-    }
-    let mut there = Holders::new(alloc);
-    there.add(transaction)?;
-    let at = path.prefix(alloc, depth)?;
-    holders.insert(alloc, &at, there)?;
-    Ok(())
-}
-
-// One holding less by the transaction at the path of the first names, where it has one. Takes no memory.
-pub(crate) fn remove(
-    holders: &mut PathMap<Holders>,
-    path: &Path,
-    depth: u32,
-    transaction: TxnNumber,
-)
-    requires { 0 < held_at holders.old (take depth path.now) transaction.0 }
-    ensures { IsOneMore holders.new (take depth path.now) transaction.0 holders.old }
-{
-    if let Some(there) = holders.get_prefix_mut(path, depth) {
-        there.remove(transaction);
-    }
-    drop_empty(holders, path, depth);
-}
-
-// Drops the entry at the path of the first names, where nobody holds it any more.
-fn drop_empty(holders: &mut PathMap<Holders>, path: &Path, depth: u32)
-    ensures { IsSame holders.old holders.new }
-{
-    let is_empty = match holders.get_prefix(path, depth) {
-        Some(there) => there.is_empty(),
-        None => false,
-    };
-    if is_empty {
-        holders.remove_prefix(path, depth);
-    }
-}
-
-// One holding more by the transaction at each path with which this one begins. An error, where there is no memory for
-// them, leaves what was held.
-pub(crate) fn add_above(
-    holders: &mut PathMap<Holders>,
-    alloc: Global,
-    path: &Path,
-    transaction: TxnNumber,
-) -> Result<(), AllocError>
-    ensures ok { OnOk result (IsOneMoreAbove holders.old path.now (suc (length path.now)) transaction.0 holders.new) }
-    ensures err { OnErr result (IsAlike holders.old holders.new) }
-{
-    for depth in 0..path.depth() + 1 {
-        let added = add(holders, alloc, path, depth, transaction);
-        if added.is_err() {
-            remove_above(holders, path, depth, transaction);
-            return added;
+impl PathHolders {
+    // No marks.
+    pub(crate) fn new(alloc: Global) -> PathHolders
+        ensures { (k : Kind) (p : List (List ℕ)) (u : ℕ) → held_at (of_kind result k) p u ≡ 0 }
+    {
+        PathHolders {
+            nodes: PathTree::new(alloc),
         }
     }
-    Ok(())
-}
 
-// One holding less by the transaction at each path of fewer names with which this one begins, where it has one. Takes no
-// memory.
-pub(crate) fn remove_above(
-    holders: &mut PathMap<Holders>,
-    path: &Path,
-    end: u32,
-    transaction: TxnNumber,
-)
-    requires within { end ≤ suc (length path.now) }
-    requires held { (q : List (List ℕ)) → is_among end path.now q ≡ true → 0 < held_at holders.old q transaction.0 }
-    ensures { IsOneMoreAbove holders.new path.now end transaction.0 holders.old }
-{
-    for depth in 0..end {
-        remove(holders, path, depth, transaction);
+    // How often the transaction holds the mark of this kind at the path.
+    pub(crate) fn count(&self, kind: Kind, path: &Path, transaction: TxnNumber) -> usize
+        ensures { result ≡ held_at (of_kind self.now kind) path.now transaction.0 }
+    {
+        self.nodes.laws();
+        match self.nodes.find(path) {
+            Some(key) => {
+                let held = self.nodes.get(key);
+                held.part(kind.at_path()).count(transaction)
+            }
+            None => 0,
+        }
+    }
+
+    // The least other transaction that holds what clashes with the mark of this kind at the path. Where the path has no
+    // node, nothing is held at it or below it.
+    pub(crate) fn least_in_way(
+        &self,
+        kind: Kind,
+        path: &Path,
+        transaction: TxnNumber,
+    ) -> Option<TxnNumber>
+        ensures { IsLeastOther transaction.0 (in_way self.now kind path.now) (option_map number_of result) }
+    {
+        self.nodes.laws();
+        match self.nodes.find(path) {
+            Some(key) => lesser(
+                self.nodes.get(key).least_here(kind, transaction),
+                least_above(&self.nodes, key, kind, transaction),
+            ),
+            None => match self.nodes.deepest(path) {
+                Some((key, _depth)) => least_above(&self.nodes, key, kind, transaction),
+                None => None,
+            },
+        }
+    }
+
+    // The least other transaction that holds the number of descendants at the path.
+    pub(crate) fn least_counted(&self, path: &Path, transaction: TxnNumber) -> Option<TxnNumber>
+        ensures { IsLeastOther transaction.0 (held_at self.now.descendants path.now) (option_map number_of result) }
+    {
+        self.nodes.laws();
+        match self.nodes.find(path) {
+            Some(key) => {
+                let held = self.nodes.get(key);
+                held.part(Part::CountedAt).least_other(transaction)
+            }
+            None => None,
+        }
+    }
+
+    // One holding more by the transaction. An error, where there is no memory for it, leaves what was held.
+    pub(crate) fn add(
+        &mut self,
+        alloc: Global,
+        kind: Kind,
+        path: &Path,
+        transaction: TxnNumber,
+    ) -> Result<(), AllocError>
+        ensures ok { OnOk result (IsMarkedMore self.old kind path.now transaction.0 self.new) }
+        ensures err { OnErr result (IsMarkedAlike self.old self.new) }
+    {
+        let key = reach(&mut self.nodes, alloc, path)?;
+        add_mark(&mut self.nodes, key, kind, transaction)
+    }
+
+    // One holding less by the transaction, which has one. Takes no memory.
+    pub(crate) fn remove(&mut self, kind: Kind, path: &Path, transaction: TxnNumber)
+        requires { 0 < held_at (of_kind self.old kind) path.now transaction.0 }
+        ensures { IsMarkedMore self.new kind path.now transaction.0 self.old }
+    {
+        self.nodes.laws();
+        let Some(key) = self.nodes.find(path) else {
+            return;
+        };
+        remove_mark(&mut self.nodes, key, kind, transaction);
+        if self.nodes.len() > KEPT {
+            drop_free(&mut self.nodes, key);
+        }
     }
 }

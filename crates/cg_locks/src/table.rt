@@ -8,22 +8,19 @@ ghost use Rattle.cg_locks.specs.Meaning.{mark_of};
 ghost use Rattle.cg_model.specs.Footprint as model;
 
 use crate::footprint::Footprint;
+use crate::held::Kind;
 use crate::holders::{Holders, lesser};
 use crate::mark::Mark;
-use crate::subtrees::Subtrees;
-use crate::{path_holders, pid_holders};
+use crate::path_holders::PathHolders;
+use crate::pid_holders;
 use cg_name::{Path, TxnNumber};
-use cg_path_map::PathMap;
 use std::alloc::{AllocError, Global};
 use std::collections::BTreeMap;
 use std::marker::Model;
 
 /// Which transaction holds which mark, and how often.
 pub struct LockTable {
-    changed: Subtrees,
-    read: Subtrees,
-    stays: Subtrees,
-    descendants: PathMap<Holders>,
+    marks: PathHolders,
     processes: BTreeMap<u32, Holders>,
 }
 
@@ -31,27 +28,22 @@ pub struct LockTable {
 impl Drop for LockTable {
     fn drop(self) {
         let LockTable {
-            changed: _,
-            read: _,
-            stays: _,
-            descendants: _,
+            marks: _,
             processes: _,
         } = self;
     }
 }
 
 impl Model for LockTable {
-    ghost use Rattle.std.specs.Ordering.{nat_cmp};
-    ghost use Rattle.cg_maps.specs.FiniteMap.{from_entries};
     ghost use Rattle.cg_locks.specs.Holdings.{Holdings, holdings_code};
 
     ghost Value = { Holdings };
 
     ghost coded = { holdings_code };
 
-    ghost use Rattle.cg_locks.specs.Table.{table_of};
+    ghost use Rattle.cg_locks.specs.Table.{by_kind, table_of};
 
-    ghost view = { λ t. table_of (record { changed = t.changed; read = t.read; stays = t.stays; descendants = t.descendants; processes = from_entries nat_cmp t.processes.entries }) };
+    ghost view = { λ t. table_of (by_kind t.marks t.processes.entries) };
 }
 
 impl LockTable {
@@ -60,10 +52,7 @@ impl LockTable {
         ensures { (u : ℕ) (m : model.Mark) → holdings result u m ≡ 0 }
     {
         LockTable {
-            changed: Subtrees::new(alloc),
-            read: Subtrees::new(alloc),
-            stays: Subtrees::new(alloc),
-            descendants: PathMap::new(alloc),
+            marks: PathHolders::new(alloc),
             processes: BTreeMap::new(alloc),
         }
     }
@@ -87,34 +76,12 @@ impl LockTable {
         ensures { IsLeastInTheWay self.now transaction.0 (mark_of mark.now) (option_map number_of result) }
     {
         match mark {
-            Mark::Changed(path) => self.clash_with_changed(transaction, path),
-            Mark::Read(path) => lesser(
-                self.changed.least_along(path, transaction),
-                self.stays.least_below(path, transaction),
-            ),
-            Mark::Stays(path) => lesser(
-                self.changed.least_above(path, transaction),
-                self.read.least_above(path, transaction),
-            ),
+            Mark::Changed(path) => self.marks.least_in_way(Kind::Changed, path, transaction),
+            Mark::Read(path) => self.marks.least_in_way(Kind::Read, path, transaction),
+            Mark::Stays(path) => self.marks.least_in_way(Kind::Stays, path, transaction),
             Mark::Process(pid) => pid_holders::least(&self.processes, *pid, transaction),
-            Mark::Descendants(path) => {
-                path_holders::least_at(&self.descendants, path, path.depth(), transaction)
-            }
+            Mark::Descendants(path) => self.marks.least_counted(path, transaction),
         }
-    }
-
-    // The least other transaction that holds a mark which clashes with that of the subtree of the group at the path, to be
-    // changed.
-    fn clash_with_changed(&self, transaction: TxnNumber, path: &Path) -> Option<TxnNumber>
-        ensures { IsLeastInTheWay self.now transaction.0 (model.X path.now) (option_map number_of result) }
-    {
-        lesser(
-            lesser(
-                self.changed.least_along(path, transaction),
-                self.read.least_along(path, transaction),
-            ),
-            self.stays.least_below(path, transaction),
-        )
     }
 
     /// Whether the transaction holds each mark at least as often as it stands in the footprint. Takes no memory.
@@ -142,11 +109,11 @@ impl LockTable {
         ensures { result ≡ holdings self.now transaction.0 (mark_of mark.now) }
     {
         match mark {
-            Mark::Changed(path) => self.changed.count(path, transaction),
-            Mark::Read(path) => self.read.count(path, transaction),
-            Mark::Stays(path) => self.stays.count(path, transaction),
+            Mark::Changed(path) => self.marks.count(Kind::Changed, path, transaction),
+            Mark::Read(path) => self.marks.count(Kind::Read, path, transaction),
+            Mark::Stays(path) => self.marks.count(Kind::Stays, path, transaction),
             Mark::Process(pid) => pid_holders::count(&self.processes, *pid, transaction),
-            Mark::Descendants(path) => path_holders::count(&self.descendants, path, transaction),
+            Mark::Descendants(path) => self.marks.count(Kind::Descendants, path, transaction),
         }
     }
 
@@ -154,7 +121,7 @@ impl LockTable {
     pub fn holds_changed(&self, transaction: TxnNumber, path: &Path) -> bool
         ensures { IsTrue result ↔ (0 < holdings self.now transaction.0 (model.X path.now)) }
     {
-        self.changed.count(path, transaction) > 0
+        self.marks.count(Kind::Changed, path, transaction) > 0
     }
 
     /// Adds one holding by the transaction of each mark of the footprint. An error, where there is no memory for them, leaves
@@ -193,7 +160,7 @@ impl LockTable {
     fn tell(&self)
         ensures { IsNeat self.now }
     {
-        let _ = &self.changed;
+        let _ = &self.marks;
     }
 
     // Takes away one holding of each of the marks, which the transaction holds.
@@ -217,15 +184,14 @@ impl LockTable {
         ensures err { OnErr result (self.new ≡ self.old) }
     {
         match mark {
-            Mark::Changed(path) => self.changed.add(alloc, path, transaction),
-            Mark::Read(path) => self.read.add(alloc, path, transaction),
-            Mark::Stays(path) => self.stays.add(alloc, path, transaction),
+            Mark::Changed(path) => self.marks.add(alloc, Kind::Changed, path, transaction),
+            Mark::Read(path) => self.marks.add(alloc, Kind::Read, path, transaction),
+            Mark::Stays(path) => self.marks.add(alloc, Kind::Stays, path, transaction),
             Mark::Process(pid) => {
                 pid_holders::add(&mut self.processes, alloc, *pid, transaction)
             }
             Mark::Descendants(path) => {
-                let depth = path.depth();
-                path_holders::add(&mut self.descendants, alloc, path, depth, transaction)
+                self.marks.add(alloc, Kind::Descendants, path, transaction)
             }
         }
     }
@@ -236,15 +202,14 @@ impl LockTable {
         ensures { IsHeldOnceMore self.new transaction.0 (mark_of mark.now) self.old }
     {
         match mark {
-            Mark::Changed(path) => self.changed.remove(path, transaction),
-            Mark::Read(path) => self.read.remove(path, transaction),
-            Mark::Stays(path) => self.stays.remove(path, transaction),
+            Mark::Changed(path) => self.marks.remove(Kind::Changed, path, transaction),
+            Mark::Read(path) => self.marks.remove(Kind::Read, path, transaction),
+            Mark::Stays(path) => self.marks.remove(Kind::Stays, path, transaction),
             Mark::Process(pid) => {
                 pid_holders::remove(&mut self.processes, *pid, transaction);
             }
             Mark::Descendants(path) => {
-                let depth = path.depth();
-                path_holders::remove(&mut self.descendants, path, depth, transaction);
+                self.marks.remove(Kind::Descendants, path, transaction);
             }
         }
     }

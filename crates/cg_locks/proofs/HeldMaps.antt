@@ -1,0 +1,139 @@
+-- What is held at the paths of a tree, changed at one path.
+use Rattle.std.proofs.Common.{◌≡◌, ℕ, ◌+◌, ◌==◌, ◌&&◌, Bool, true, false, cond, List, [], ◌∷◌, map, Option, Some, None, option_map, refl, sym, ap, ◌∙◌, arith}
+use Rattle.std.specs.FinMap.Entries.{find}
+use Rattle.std.specs.Ordering.{eq_by_cmp}
+use Rattle.cg_maps.specs.FiniteMap.{entries, get, set_at}
+use Rattle.cg_maps.proofs.Maps as maps
+use Rattle.cg_name.specs.Order.{path_cmp_total, path_cmp_exact}
+use Rattle.cg_name.specs.Path.{Path, path_cmp, is_prefix, same_path}
+use Rattle.cg_locks.specs.declared.held.Held.{Held}
+use Rattle.cg_locks.specs.declared.held.Part.{Part}
+use Rattle.cg_locks.specs.Held.{part_of, same_part, IsHeldMore}
+use Rattle.cg_locks.specs.HeldByPath.{in_part, AreSummedUp, HeldByPath, IsOneMoreIn, IsSameHeld}
+use Rattle.cg_locks.specs.Holders.{Counts, held_at, held_below, held_by, held_if, one, IsSummedUp}
+use Rattle.cg_locks.proofs.Summed.{as_before, changed_at, changed_below, neither}
+
+-- ---- one part, by paths
+
+find-mapped : (f : Held → Counts) (q : Path) (es : List (Path × Held)) → find path_cmp q (map (λ e. (e.0, f e.1)) es) ≡ option_map f (find path_cmp q es)
+find-mapped f q [] = refl
+find-mapped f q (e ∷ es) = elim (eq_by_cmp path_cmp q e.0) as (λ b. cond b (Some (f e.1)) (find path_cmp q (map (λ x. (x.0, f x.1)) es)) ≡ option_map f (cond b (Some e.1) (find path_cmp q es))) [ true ↦ refl | false ↦ find-mapped f q es ]
+
+pub get-part : (s : Part) (T : HeldByPath) (q : Path) → get (in_part s T) q ≡ option_map (part_of s) (get T q)
+unfolding in_part get entries
+get-part s T q = maps.get-from_entries path_cmp_total path_cmp_exact (map (λ e. (e.0, part_of s e.1)) T.list) q ∙ find-mapped (part_of s) q T.list
+
+pub part-set : (s : Part) (T : HeldByPath) (p : Path) (o : Option Held) → in_part s (set_at T p o) ≡ set_at (in_part s T) p (option_map (part_of s) o)
+part-set s T p o = maps.same_map path_cmp_total path_cmp_exact (in_part s (set_at T p o)) (set_at (in_part s T) p (option_map (part_of s) o)) (λ q.
+    get-part s (set_at T p o) q
+    ∙ ap (option_map (part_of s)) (maps.get-set_at path_cmp_total path_cmp_exact T p o q)
+    ∙ elim (eq_by_cmp path_cmp q p) as (λ b. option_map (part_of s) (cond b o (get T q)) ≡ cond b (option_map (part_of s) o) (option_map (part_of s) (get T q))) [ true ↦ refl | false ↦ refl ]
+    ∙ ap (cond (eq_by_cmp path_cmp q p) (option_map (part_of s) o)) (sym (get-part s T q))
+    ∙ sym (maps.get-set_at path_cmp_total path_cmp_exact (in_part s T) p (option_map (part_of s) o) q))
+
+pub held_in : (s : Part) (T : HeldByPath) (p : Path) (u : ℕ) → held_at (in_part s T) p u ≡ held_if (option_map (part_of s) (get T p)) u
+held_in s T p u = ap (λ r. held_if r u) (get-part s T p)
+
+pub held_there : (s : Part) (T : HeldByPath) (p : Path) (h : Held) (u : ℕ) → get T p ≡ Some h → held_at (in_part s T) p u ≡ held_by (part_of s h) u
+held_there s T p h u there = held_in s T p u ∙ ap (λ o. held_if (option_map (part_of s) o) u) there
+
+pub held_nowhere : (s : Part) (T : HeldByPath) (p : Path) (u : ℕ) → get T p ≡ None → held_at (in_part s T) p u ≡ 0
+held_nowhere s T p u absent = held_in s T p u ∙ ap (λ o. held_if (option_map (part_of s) o) u) absent
+
+-- ---- what is at a path written
+
+in_both : (a b c : Bool) → ◌≡◌ {A = ℕ} (cond b (one (a && c)) 0) (one (a && (b && c)))
+in_both true true c = refl
+in_both true false c = refl
+in_both false true c = refl
+in_both false false c = refl
+
+module _ (T T' : HeldByPath) (p : Path) (h h' : Held) (there : get T p ≡ Some h) (written : T' ≡ set_at T p (Some h')) where
+  part_written : (r : Part) → in_part r T' ≡ set_at (in_part r T) p (Some (part_of r h'))
+  part_written r = ap (in_part r) written ∙ part-set r T p (Some h')
+
+  module _ (s : Part) (t : ℕ) where
+    pub written_more : IsHeldMore h s t h' → IsOneMoreIn T s p t T'
+    written_more more =
+        let change : (r : Part) (u : ℕ) → held_if (Some (part_of r h')) u + 0 ≡ held_at (in_part r T) p u + one (same_part r s && (u == t)) =
+        (λ r u. let m = more r u in let w = held_there r T p h u there in omega (arith, m, w)) in
+        record {
+          at = λ r q u.
+              let z = changed_at (in_part r T) (in_part r T') p (Some (part_of r h')) (part_written r) 0 (one (same_part r s && (u == t))) u (change r u) q in
+              let a = neither (same_path q p) in let b = in_both (same_part r s) (same_path q p) (u == t) in omega (arith, z, a, b);
+          below = λ r q u.
+              let z = changed_below (in_part r T) (in_part r T') p (Some (part_of r h')) (part_written r) 0 (one (same_part r s && (u == t))) u (change r u) q in
+              let a = neither (is_prefix q p) in let b = in_both (same_part r s) (is_prefix q p) (u == t) in omega (arith, z, a, b);
+        }
+
+    pub written_less : IsHeldMore h' s t h → IsOneMoreIn T' s p t T
+    written_less less =
+        let change : (r : Part) (u : ℕ) → held_if (Some (part_of r h')) u + one (same_part r s && (u == t)) ≡ held_at (in_part r T) p u + 0 =
+        (λ r u. let m = less r u in let w = held_there r T p h u there in omega (arith, m, w)) in
+        record {
+          at = λ r q u.
+              let z = changed_at (in_part r T) (in_part r T') p (Some (part_of r h')) (part_written r) (one (same_part r s && (u == t))) 0 u (change r u) q in
+              let a = neither (same_path q p) in let b = in_both (same_part r s) (same_path q p) (u == t) in omega (arith, z, a, b);
+          below = λ r q u.
+              let z = changed_below (in_part r T) (in_part r T') p (Some (part_of r h')) (part_written r) (one (same_part r s && (u == t))) 0 u (change r u) q in
+              let a = neither (is_prefix q p) in let b = in_both (same_part r s) (is_prefix q p) (u == t) in omega (arith, z, a, b);
+        }
+
+-- ---- the same held
+
+-- nobody holds anything there
+abbrev pub IsFree : Held → Type 0
+IsFree h = (r : Part) (u : ℕ) → held_by (part_of r h) u ≡ 0
+
+module _ (T T' : HeldByPath) (p : Path) (o : Option Held) (set : T' ≡ set_at T p o) (same : (r : Part) (u : ℕ) → held_if (option_map (part_of r) o) u ≡ held_at (in_part r T) p u) where
+  set_alike : IsSameHeld T T'
+  set_alike = record {
+    at = λ r q u. (as_before (in_part r T) (in_part r T') p 0 (option_map (part_of r) o) (ap (in_part r) set ∙ part-set r T p o) (same r)).at q u;
+    below = λ r q u. (as_before (in_part r T) (in_part r T') p 0 (option_map (part_of r) o) (ap (in_part r) set ∙ part-set r T p o) (same r)).below q u;
+  }
+
+pub made_alike : (T T' : HeldByPath) (p : Path) (h : Held) → get T p ≡ None → T' ≡ set_at T p (Some h) → IsFree h → IsSameHeld T T'
+made_alike T T' p h absent set free = set_alike T T' p (Some h) set (λ r u. free r u ∙ sym (held_nowhere r T p u absent))
+
+pub dropped_alike : (T T' : HeldByPath) (p : Path) (h : Held) → get T p ≡ Some h → T' ≡ set_at T p None → IsFree h → IsSameHeld T T'
+dropped_alike T T' p h there set free = set_alike T T' p None set (λ r u. sym (held_there r T p h u there ∙ free r u))
+
+pub unchanged : (T T' : HeldByPath) → T' ≡ T → IsSameHeld T T'
+unchanged T T' e = record {
+  at = λ r q u. ap (λ M. held_at (in_part r M) q u) e;
+  below = λ r q u. ap (λ M. held_below (in_part r M) q u) e;
+}
+
+pub alike_then : (T M T' : HeldByPath) → IsSameHeld T M → IsSameHeld M T' → IsSameHeld T T'
+alike_then T M T' a b = record {
+  at = λ r q u. b.at r q u ∙ a.at r q u;
+  below = λ r q u. b.below r q u ∙ a.below r q u;
+}
+
+-- what is added and taken away again
+pub undone : (T M M' T' : HeldByPath) (s : Part) (p : Path) (t : ℕ) → IsOneMoreIn T s p t M → IsSameHeld M M' → IsOneMoreIn T' s p t M' → IsSameHeld T T'
+undone T M M' T' s p t more same less = record {
+  at = λ r q u. let a = more.at r q u in let b = same.at r q u in let c = less.at r q u in omega (arith, a, b, c);
+  below = λ r q u. let a = more.below r q u in let b = same.below r q u in let c = less.below r q u in omega (arith, a, b, c);
+}
+
+pub alike_more : (T M T' : HeldByPath) (s : Part) (p : Path) (t : ℕ) → IsSameHeld T M → IsOneMoreIn M s p t T' → IsOneMoreIn T s p t T'
+alike_more T M T' s p t same more = record {
+  at = λ r q u. let a = more.at r q u in let b = same.at r q u in omega (arith, a, b);
+  below = λ r q u. let a = more.below r q u in let b = same.below r q u in omega (arith, a, b);
+}
+
+sum_alike : (T T' : HeldByPath) (a b : Part) → IsSameHeld T T' → IsSummedUp (in_part a T) (in_part b T) → IsSummedUp (in_part a T') (in_part b T')
+sum_alike T T' a b same h q u = same.at b q u ∙ h q u ∙ sym (same.below a q u)
+
+pub summed_alike : (T T' : HeldByPath) → IsSameHeld T T' → AreSummedUp T → AreSummedUp T'
+summed_alike T T' same h = record {
+  changed = sum_alike T T' _ _ same h.changed;
+  read = sum_alike T T' _ _ same h.read;
+  stays = sum_alike T T' _ _ same h.stays;
+}
+
+-- what is at a path written again
+pub unwritten : (T : HeldByPath) (p q : Path) (h h' : Held) → q ≡ p → get T p ≡ Some h → h' ≡ h → set_at T q (Some h') ≡ T
+unwritten T p q h h' at there same =
+    ap (λ x. set_at T x (Some h')) at ∙ ap (λ x. set_at T p (Some x)) same ∙ ap (set_at T p) (sym there) ∙ maps.set_same path_cmp_total path_cmp_exact T p

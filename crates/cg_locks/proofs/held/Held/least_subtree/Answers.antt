@@ -1,0 +1,10 @@
+use Rattle.std.proofs.Common.{◌+◌, sym, subst}
+use Rattle.cg_locks.specs.Holders.{held_by, IsLeastOther}
+use Rattle.cg_locks.proofs.Counts.{least_of_sum}
+use Rattle.cg_locks.proofs.held.Held.least_subtree.Goals as goal
+
+pub returns : goal.returns
+returns c =
+    let t = c.args.transaction.0 in
+    let h = c.args.self.now in
+    subst (IsLeastOther t (λ u. held_by h.changed u + held_by h.read u)) (sym c.lesser.ensures) (least_of_sum t (held_by h.changed) (held_by h.read) _ _ c.least_other.ensures c.least_other-2.ensures)

@@ -1,0 +1,66 @@
+-- Who holds what at the paths of a tree.
+use Rattle.std.specs.Prelude.{◌≡◌, ℕ, zero, suc, ◌+◌, ◌==◌, ◌&&◌, false, length, map, take, Option, Some, None}
+use Rattle.cg_maps.specs.FiniteMap.{FiniteMap, entries, from_entries, get}
+use Rattle.cg_name.specs.Path.{Path, path_cmp, same_path, is_prefix}
+use Rattle.cg_locks.specs.declared.held.Held.{Held}
+use Rattle.cg_locks.specs.declared.held.Kind.{Kind}
+use Rattle.cg_locks.specs.declared.held.Part.{Part}
+use Rattle.cg_locks.specs.declared.held.Part.TheVariants.{ChangedAt, ReadAt, StaysAt, CountedAt, ChangedBelow, ReadBelow, StaysBelow}
+use Rattle.cg_locks.specs.Held.{at_path, part_of, same_kind, same_part, Marked}
+use Rattle.cg_locks.specs.Holders.{PathCounts, held_at, held_below, one, IsSummedUp}
+
+abbrev pub HeldByPath : Type 0
+HeldByPath = FiniteMap path_cmp Held
+
+-- the holders in one part, by paths
+unfoldable pub in_part : Part → HeldByPath → PathCounts
+in_part s T = from_entries path_cmp (map (λ e. (e.0, part_of s e.1)) (entries T))
+
+abbrev pub marked : HeldByPath → Marked
+marked T = record { changed = in_part ChangedAt T; read = in_part ReadAt T; stays = in_part StaysAt T; descendants = in_part CountedAt T }
+
+-- each path has, how often what is at it or below it is held
+pub record AreSummedUp (T : HeldByPath) : Type 0 where
+  pub changed : IsSummedUp (in_part ChangedAt T) (in_part ChangedBelow T)
+  pub read : IsSummedUp (in_part ReadAt T) (in_part ReadBelow T)
+  pub stays : IsSummedUp (in_part StaysAt T) (in_part StaysBelow T)
+
+-- in T' the transaction t holds one more in the part s at p
+pub record IsOneMoreIn (T : HeldByPath) (s : Part) (p : Path) (t : ℕ) (T' : HeldByPath) : Type 0 where
+  pub at : (r : Part) (q : Path) (u : ℕ) → held_at (in_part r T') q u ≡ held_at (in_part r T) q u + one (same_part r s && (same_path q p && (u == t)))
+  pub below : (r : Part) (q : Path) (u : ℕ) → held_below (in_part r T') q u ≡ held_below (in_part r T) q u + one (same_part r s && (is_prefix q p && (u == t)))
+
+-- and so at each path with which p begins
+pub record IsOneMoreUp (T : HeldByPath) (s : Part) (p : Path) (t : ℕ) (T' : HeldByPath) : Type 0 where
+  pub at : (r : Part) (q : Path) (u : ℕ) → held_at (in_part r T') q u ≡ held_at (in_part r T) q u + one (same_part r s && (is_prefix q p && (u == t)))
+  pub below : (r : Part) → same_part r s ≡ false → (q : Path) (u : ℕ) → held_below (in_part r T') q u ≡ held_below (in_part r T) q u
+
+-- in T' the same is held
+pub record IsSameHeld (T T' : HeldByPath) : Type 0 where
+  pub at : (r : Part) (q : Path) (u : ℕ) → held_at (in_part r T') q u ≡ held_at (in_part r T) q u
+  pub below : (r : Part) (q : Path) (u : ℕ) → held_below (in_part r T') q u ≡ held_below (in_part r T) q u
+
+-- in T' the transaction t holds the mark of the kind k at p once more, and what is at a path or below it is counted as in T
+pub record IsMarkMore (T : HeldByPath) (k : Kind) (p : Path) (t : ℕ) (T' : HeldByPath) : Type 0 where
+  pub at : (j : Kind) (q : Path) (u : ℕ) → held_at (in_part (at_path j) T') q u ≡ held_at (in_part (at_path j) T) q u + one (same_kind j k && (same_path q p && (u == t)))
+  pub summed : AreSummedUp T → AreSummedUp T'
+  pub back : AreSummedUp T' → AreSummedUp T
+
+-- ---- along a path
+
+-- what w says of u at a path, or 0 where there is no node
+abbrev pub weighed_if : (Held → ℕ → ℕ) → Option Held → ℕ → ℕ
+weighed_if w None u = 0
+weighed_if w (Some h) u = w h u
+
+abbrev pub weighed : (Held → ℕ → ℕ) → HeldByPath → Path → ℕ → ℕ
+weighed w T p u = weighed_if w (get T p) u
+
+-- and at the first n of the paths with which the path begins, the root's first
+abbrev pub weighed_until : (Held → ℕ → ℕ) → HeldByPath → Path → ℕ → ℕ → ℕ
+weighed_until w T p zero u = 0
+weighed_until w T p (suc n) u = weighed_until w T p n u + weighed w T (take n p) u
+
+-- at all of these, itself too
+abbrev pub weighed_above : (Held → ℕ → ℕ) → HeldByPath → Path → ℕ → ℕ
+weighed_above w T p u = weighed_until w T p (suc (length p)) u

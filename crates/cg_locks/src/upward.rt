@@ -1,0 +1,219 @@
+//! Walks from a node upward, and the nodes that they need.
+ghost use Rattle.std.specs.Prelude.{◌≡◌, ◌<◌, ◌≤◌, true, List, ℕ, IfOk, None, OnErr, OnOk, Some, length, option_map, suc, take, IsSome};
+ghost use Rattle.cg_maps.specs.FiniteMap.{get, set_at};
+ghost use Rattle.cg_name.specs.Path.{is_prefix};
+ghost use Rattle.cg_path_tree.specs.Nodes.{HasParent, IsKey};
+ghost use Rattle.cg_locks.specs.Held.{above_of, at_path};
+ghost use Rattle.cg_locks.specs.HeldByPath.{in_part, weighed_above, AreSummedUp, IsMarkMore, IsOneMoreIn, IsOneMoreUp, IsSameHeld};
+ghost use Rattle.cg_locks.specs.Holders.{held_at, number_of, IsLeastOther};
+
+use crate::held::{Held, Kind, Part};
+use crate::holders::lesser;
+use cg_name::{Path, TxnNumber};
+use cg_path_tree::{NodeKey, PathTree};
+use std::alloc::{AllocError, Global};
+
+// The least other transaction with a mark at the node's path or above that clashes with one of this kind there.
+pub(crate) fn least_above(
+    nodes: &PathTree<Held>,
+    key: NodeKey,
+    kind: Kind,
+    transaction: TxnNumber,
+) -> Option<TxnNumber>
+    requires { IsKey nodes.now.keys key }
+    ensures { (p : List (List ℕ)) → get nodes.now.keys p ≡ Some key → IsLeastOther transaction.0 (weighed_above (above_of kind) nodes.now.values p) (option_map number_of result) }
+{
+    nodes.laws();
+    let own = nodes.get(key).least_above(kind, transaction);
+    match nodes.parent(key) {
+        Some(parent) => lesser(own, least_above(nodes, parent, kind, transaction)),
+        None => own,
+    }
+}
+
+// One holding more by the transaction in this part of the node. An error, where there is no memory for it, changes
+// nothing.
+fn add_at(
+    nodes: &mut PathTree<Held>,
+    key: NodeKey,
+    part: Part,
+    transaction: TxnNumber,
+) -> Result<(), AllocError>
+    requires { IsKey nodes.old.keys key }
+    ensures keys { nodes.new.keys ≡ nodes.old.keys }
+    ensures ok { OnOk result ((p : List (List ℕ)) → get nodes.old.keys p ≡ Some key → IsOneMoreIn nodes.old.values part p transaction.0 nodes.new.values) }
+    ensures err { OnErr result (nodes.new ≡ nodes.old) }
+{
+    nodes.get_mut(key).add(part, transaction)
+}
+
+// One holding less by the transaction in this part of the node, where it has one.
+fn remove_at(nodes: &mut PathTree<Held>, key: NodeKey, part: Part, transaction: TxnNumber)
+    requires there { IsKey nodes.old.keys key }
+    requires held { (p : List (List ℕ)) → get nodes.old.keys p ≡ Some key → 0 < held_at (in_part part nodes.old.values) p transaction.0 }
+    ensures keys { nodes.new.keys ≡ nodes.old.keys }
+    ensures less { (p : List (List ℕ)) → get nodes.old.keys p ≡ Some key → IsOneMoreIn nodes.new.values part p transaction.0 nodes.old.values }
+{
+    nodes.get_mut(key).remove(part, transaction);
+}
+
+// One holding more by the transaction in this part of the node and of each above. An error, where there is no memory for
+// them, leaves what was held.
+fn add_up(
+    nodes: &mut PathTree<Held>,
+    key: NodeKey,
+    part: Part,
+    transaction: TxnNumber,
+) -> Result<(), AllocError>
+    requires { IsKey nodes.old.keys key }
+    ensures keys { nodes.new.keys ≡ nodes.old.keys }
+    ensures ok { OnOk result ((p : List (List ℕ)) → get nodes.old.keys p ≡ Some key → IsOneMoreUp nodes.old.values part p transaction.0 nodes.new.values) }
+    ensures err { OnErr result (IsSameHeld nodes.old.values nodes.new.values) }
+{
+    nodes.laws();
+    add_at(nodes, key, part, transaction)?;
+    let Some(parent) = nodes.parent(key) else {
+        return Ok(());
+    };
+    let added = add_up(nodes, parent, part, transaction);
+    if added.is_err() {
+        remove_at(nodes, key, part, transaction);
+    }
+    added
+}
+
+// One holding less by the transaction in this part of the node and of each above, where it has one.
+fn remove_up(nodes: &mut PathTree<Held>, key: NodeKey, part: Part, transaction: TxnNumber)
+    requires there { IsKey nodes.old.keys key }
+    requires held { (p q : List (List ℕ)) → get nodes.old.keys p ≡ Some key → is_prefix q p ≡ true → 0 < held_at (in_part part nodes.old.values) q transaction.0 }
+    ensures keys { nodes.new.keys ≡ nodes.old.keys }
+    ensures less { (p : List (List ℕ)) → get nodes.old.keys p ≡ Some key → IsOneMoreUp nodes.new.values part p transaction.0 nodes.old.values }
+{
+    nodes.laws();
+    remove_at(nodes, key, part, transaction);
+    if let Some(parent) = nodes.parent(key) {
+        remove_up(nodes, parent, part, transaction);
+    }
+}
+
+// One holding more by the transaction of the mark of this kind at the node's path. An error, where there is no memory for
+// it, leaves what was held.
+pub(crate) fn add_mark(
+    nodes: &mut PathTree<Held>,
+    key: NodeKey,
+    kind: Kind,
+    transaction: TxnNumber,
+) -> Result<(), AllocError>
+    requires { IsKey nodes.old.keys key }
+    ensures keys { nodes.new.keys ≡ nodes.old.keys }
+    ensures ok { OnOk result ((p : List (List ℕ)) → get nodes.old.keys p ≡ Some key → IsMarkMore nodes.old.values kind p transaction.0 nodes.new.values) }
+    ensures err { OnErr result (IsSameHeld nodes.old.values nodes.new.values) }
+{
+    add_at(nodes, key, kind.at_path(), transaction)?;
+    let Some(below) = kind.at_or_below() else {
+        return Ok(());
+    };
+    let added = add_up(nodes, key, below, transaction);
+    if added.is_err() {
+        remove_at(nodes, key, kind.at_path(), transaction);
+    }
+    added
+}
+
+// One holding less by the transaction of the mark of this kind at the node's path, where it has one.
+pub(crate) fn remove_mark(
+    nodes: &mut PathTree<Held>,
+    key: NodeKey,
+    kind: Kind,
+    transaction: TxnNumber,
+)
+    requires there { IsKey nodes.old.keys key }
+    requires summed { AreSummedUp nodes.old.values }
+    requires held { (p : List (List ℕ)) → get nodes.old.keys p ≡ Some key → 0 < held_at (in_part (at_path kind) nodes.old.values) p transaction.0 }
+    ensures keys { nodes.new.keys ≡ nodes.old.keys }
+    ensures less { (p : List (List ℕ)) → get nodes.old.keys p ≡ Some key → IsMarkMore nodes.new.values kind p transaction.0 nodes.old.values }
+{
+    remove_at(nodes, key, kind.at_path(), transaction);
+    if let Some(below) = kind.at_or_below() {
+        remove_up(nodes, key, below, transaction);
+    }
+}
+
+// Takes out the node where nobody holds anything and no node lies below, and then those above that are so.
+pub(crate) fn drop_free(nodes: &mut PathTree<Held>, key: NodeKey)
+    requires { IsKey nodes.old.keys key }
+    ensures { IsSameHeld nodes.old.values nodes.new.values }
+{
+    if nodes.child_count(key) > 0 || !nodes.get(key).is_empty() {
+        return;
+    }
+    let parent = nodes.parent(key);
+    nodes.laws();
+    let _ = nodes.remove(key);
+    if let Some(parent) = parent {
+        nodes.laws();
+        drop_free(nodes, parent);
+    }
+}
+
+// Makes a node at a path that has none.
+fn put(nodes: &mut PathTree<Held>, alloc: Global, path: &Path) -> Result<NodeKey, AllocError>
+    requires absent { get nodes.old.keys path.now ≡ None }
+    requires parent { HasParent nodes.old.keys path.now }
+    ensures keys { IfOk result (λ key. nodes.new.keys ≡ set_at nodes.old.keys path.now (Some key)) }
+    ensures held { IsSameHeld nodes.old.values nodes.new.values }
+{
+    nodes.laws();
+    let key = nodes.add(alloc, path, Held::new(alloc))?;
+    Ok(key)
+}
+
+// How many names the first path has that has no node, among those with which this one begins, of that many names.
+fn first_missing(nodes: &PathTree<Held>, path: &Path, end: u32) -> u32
+    requires absent { get nodes.now.keys path.now ≡ None }
+    requires end { end ≡ length path.now }
+    ensures within { result ≤ length path.now }
+    ensures absent { (d : ℕ) → result ≤ d → d ≤ length path.now → get nodes.now.keys (take d path.now) ≡ None }
+    ensures there { (d : ℕ) → suc d ≡ result → IsSome (get nodes.now.keys (take d path.now)) }
+{
+    match nodes.deepest(path) {
+        Some((_, depth)) => end.min(depth.saturating_add(1)),
+        None => 0,
+    }
+}
+
+// Makes the nodes that are missing above a path that has none. An error, where there is no memory for them, leaves some of
+// them, which hold nothing.
+fn make_above(nodes: &mut PathTree<Held>, alloc: Global, path: &Path) -> Result<(), AllocError>
+    requires { get nodes.old.keys path.now ≡ None }
+    ensures absent { OnOk result (get nodes.new.keys path.now ≡ None) }
+    ensures parent { OnOk result (HasParent nodes.new.keys path.now) }
+    ensures held { IsSameHeld nodes.old.values nodes.new.values }
+{
+    let end = path.depth();
+    let first = first_missing(nodes, path, end);
+    for depth in first..end {
+        let above = path.prefix(alloc, depth)?;
+        put(nodes, alloc, &above)?;
+    }
+    Ok(())
+}
+
+// The node at the path, which it makes where there is none. An error, where there is no memory for it, leaves what was held.
+pub(crate) fn reach(
+    nodes: &mut PathTree<Held>,
+    alloc: Global,
+    path: &Path,
+) -> Result<NodeKey, AllocError>
+    ensures key { IfOk result (λ key. get nodes.new.keys path.now ≡ Some key) }
+    ensures held { IsSameHeld nodes.old.values nodes.new.values }
+{
+    if let Some(key) = nodes.find(path) {
+        return Ok(key);
+    }
+    if nodes.has_parent(path) {
+        return put(nodes, alloc, path);
+    }
+    make_above(nodes, alloc, path)?;
+    put(nodes, alloc, path)
+}
