@@ -1,5 +1,5 @@
 -- What a tree is seen as when a node is written, put in or taken out.
-use Rattle.std.proofs.Common.{◌≡◌, ◌≢◌, zero, suc, ◌==◌, Bool, true, false, cond, List, [], ◌∷◌, Contains, Some, String, refl, sym, ap, ◌∙◌, inl, inr, arith, true≢false, eq-eqb}
+use Rattle.std.proofs.Common.{◌≡◌, ◌≢◌, zero, suc, ◌==◌, Bool, true, false, cond, List, [], ◌∷◌, length, Contains, Some, option_map, String, refl, sym, ap, subst, ◌∙◌, inl, inr, arith, true≢false, eq-eqb}
 use Rattle.std.specs.List.{AllByRecursion}
 use Rattle.std.specs.Ordering.{eq_by_cmp}
 use Rattle.std.specs.FinMap.Entries.{find}
@@ -12,14 +12,10 @@ use Rattle.cg_name.specs.Path.{Path, path_cmp}
 use Rattle.cg_path_tree.specs.declared.node.Node.{Node}
 use Rattle.cg_path_tree.specs.declared.node.NodeKey.{NodeKey}
 use Rattle.cg_path_tree.specs.Nodes.{Nodes, path_in, path_of, with_value, HaveOnePath}
-use Rattle.cg_path_tree.specs.Linked.{paths_of, children_in, node_in, value_of, values_at, IsTree, IsLinked, seen}
+use Rattle.cg_path_tree.specs.Linked.{NodeView, paths_of, children_in, node_in, kin_of, kin_in, value_of, values_at, Writes, AreKin, IsTree, IsLinked, seen}
 use Rattle.cg_path_tree.proofs.Finding.{tell, itself, differs}
-use Rattle.cg_path_tree.proofs.Linking.{has_nodes, tree-write, values-changed, one_path}
+use Rattle.cg_path_tree.proofs.Linking.{cases_key, has_nodes, tree-write, values-changed, one_path}
 use Rattle.cg_path_tree.proofs.Seen.{found_is, node_at}
-
--- keys with another number are others
-pub other_number : (i k : NodeKey) → i ≢ k → i.0 ≢ k.0
-other_number i k ne same = ne (λ j. record { 0 = same j })
 
 -- ---- the path of a key
 
@@ -42,10 +38,10 @@ path_of-is keys k p one h =
 module _ {V Z : Type 0} (es : List (String Z × NodeKey)) (nodes : slab.Slab (Node V)) (l : IsLinked es nodes) (g : Nodes V) (is : seen es nodes ≡ g) where
   -- ---- a value is written
 
-  module _ (later : slab.Slab (Node V)) (p : Path) (k : NodeKey) (n m : Node V) (h : get g.keys p ≡ Some k) (at : node_in nodes k ≡ Some n) (up : slab.Updates nodes later k.0 (Some m))
-      (entry : m.entry ≡ n.entry) (depth : m.depth ≡ n.depth) (parent : m.parent ≡ n.parent) (children : m.children ≡ n.children) where
+  module _ (later : slab.Slab (Node V)) (p : Path) (k : NodeKey) (n m : NodeView V) (h : get g.keys p ≡ Some k) (at : node_in nodes k ≡ Some n) (up : Writes nodes later k (Some m))
+      (entry : m.entry ≡ n.entry) (depth : m.depth ≡ n.depth) (parent : m.parent ≡ n.parent) (place : m.place ≡ n.place) (children : m.children ≡ n.children) where
     others : (i : NodeKey) → i ≢ k → node_in later i ≡ node_in nodes i
-    others i ne = up.others i.0 (other_number i k ne)
+    others i ne = up.others i ne
 
     there : find path_cmp p (paths_of es) ≡ Some k
     there = found_is es nodes l g is p ∙ h
@@ -53,10 +49,21 @@ module _ {V Z : Type 0} (es : List (String Z × NodeKey)) (nodes : slab.Slab (No
     tree_written : IsTree (children_in (paths_of es)) (paths_of es) (node_in later)
     tree_written =
         tree-write (node_in nodes) (node_in later) k n m at up.changed others (children_in (paths_of es)) (children_in (paths_of es)) (paths_of es) p l.tree there entry depth parent
-        (children ∙ (node_at es nodes l g is p k n h at).2.children) (λ q ne. refl)
+        (ap length children ∙ (node_at es nodes l g is p k n h at).2.children) (λ q ne. refl)
+
+    same_kin : kin_of m ≡ kin_of n
+    same_kin = λ i. record { parent = parent i; depth = depth i; place = place i; children = children i }
+
+    kin_kept : (i : NodeKey) → kin_in later i ≡ kin_in nodes i
+    kin_kept i = elim (cases_key i k) [
+      | inl same ↦ ap (kin_in later) same ∙ ap (option_map kin_of) up.changed ∙ ap Some same_kin ∙ sym (ap (option_map kin_of) at) ∙ ap (kin_in nodes) (sym same)
+      | inr ne ↦ ap (option_map kin_of) (others i ne)
+    ]
 
     pub linked-written : IsLinked es later
-    linked-written = record { packed = l.packed; tree = tree_written }
+    linked-written =
+        let same : kin_in later ≡ kin_in nodes = λ j i. kin_kept i j in
+        record { packed = l.packed; tree = tree_written; kin = subst (AreKin (paths_of es)) (sym same) l.kin }
 
     found_again : (q : Path) → find path_cmp q (paths_of es) ≡ cond (eq_by_cmp path_cmp q p) (Some k) (find path_cmp q (paths_of es))
     found_again q = elim (tell q p) [

@@ -3,11 +3,14 @@ pub mod Changing
 pub mod Counting
 pub mod Finding
 pub mod Indexed
+pub mod Kinship
 pub mod LastName
 pub mod Linking
 pub mod ListChanges
+pub mod Listing
 pub mod Parents
 pub mod Prefixes
 pub mod Removing
 pub mod Seen
 pub mod Texts
+pub mod Views

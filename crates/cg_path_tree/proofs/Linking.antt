@@ -8,10 +8,9 @@ use Rattle.cg_maps.specs.FiniteMap.{from_entries, get, set_at}
 use Rattle.cg_maps.proofs.Maps.{same_map, get-set_at}
 use Rattle.cg_name.specs.Order.{path_cmp_total, path_cmp_exact}
 use Rattle.cg_name.specs.Path.{Path, path_cmp, is_root, is_parent}
-use Rattle.cg_path_tree.specs.declared.node.Node.{Node}
 use Rattle.cg_path_tree.specs.declared.node.NodeKey.{NodeKey}
 use Rattle.cg_path_tree.specs.Nodes.{parent_path}
-use Rattle.cg_path_tree.specs.Linked.{value_of, valued, values_at, IsNodeAt, IsTree}
+use Rattle.cg_path_tree.specs.Linked.{NodeView, value_of, valued, values_at, IsNodeAt, IsTree}
 use Rattle.cg_path_tree.proofs.ListChanges.{same_some, some_not_none, pushed_cases, LosesAt, left_cases}
 use Rattle.cg_path_tree.proofs.Finding.{tell, itself, differs, found_at, standing_of, find-push, once-push, find-lose, once-lose}
 use Rattle.cg_path_tree.proofs.Indexed.{get_by_find}
@@ -26,39 +25,39 @@ cases_key k l = elim (cases_eq k.0 l.0) [
 
 module _ {V : Type 0} where
   -- the value of the node that was found
-  abbrev pub value_there : (NodeKey → Option (Node V)) → Option NodeKey → Option V
+  abbrev pub value_there : (NodeKey → Option (NodeView V)) → Option NodeKey → Option V
   value_there node None = None
   value_there node (Some k) = value_of (node k)
 
   -- each entry has a node
-  abbrev pub HasNodes : List (Path × NodeKey) → (NodeKey → Option (Node V)) → Type 0
-  HasNodes es node = (j : ℕ) (e : Path × NodeKey) → slice_get es j ≡ Some e → (n : Node V) × (node e.1 ≡ Some n)
+  abbrev pub HasNodes : List (Path × NodeKey) → (NodeKey → Option (NodeView V)) → Type 0
+  HasNodes es node = (j : ℕ) (e : Path × NodeKey) → slice_get es j ≡ Some e → (n : NodeView V) × (node e.1 ≡ Some n)
 
-  pub has_nodes : (es : List (Path × NodeKey)) (node : NodeKey → Option (Node V)) (count : Path → ℕ) → IsTree count es node → HasNodes es node
+  pub has_nodes : (es : List (Path × NodeKey)) (node : NodeKey → Option (NodeView V)) (count : Path → ℕ) → IsTree count es node → HasNodes es node
   has_nodes es node count t j e h = let x = t.node_of j e h in (x.0, x.1)
 
   -- ---- what is seen at a path
 
-  one_value : (node : NodeKey → Option (Node V)) (q : Path) (e : Path × NodeKey) (n : Node V) (b : Bool) (o : Option NodeKey) (rest : Option V) → node e.1 ≡ Some n → rest ≡ value_there node o
+  one_value : (node : NodeKey → Option (NodeView V)) (q : Path) (e : Path × NodeKey) (n : NodeView V) (b : Bool) (o : Option NodeKey) (rest : Option V) → node e.1 ≡ Some n → rest ≡ value_there node o
       → cond b (Some n.value) rest ≡ value_there node (cond b (Some e.1) o)
   one_value node q e n true o rest is h = sym (ap value_of is)
   one_value node q e n false o rest is h = h
 
-  find-values_at : (node : NodeKey → Option (Node V)) (q : Path) (es : List (Path × NodeKey)) → HasNodes es node → find path_cmp q (values_at node es) ≡ value_there node (find path_cmp q es)
+  find-values_at : (node : NodeKey → Option (NodeView V)) (q : Path) (es : List (Path × NodeKey)) → HasNodes es node → find path_cmp q (values_at node es) ≡ value_there node (find path_cmp q es)
   find-values_at node q [] has = refl
   find-values_at node q (e ∷ es) has =
       let first = has 0 e refl in
       ap (λ o. find path_cmp q (valued e.0 o (values_at node es))) first.1
       ∙ one_value node q e first.0 (eq_by_cmp path_cmp q e.0) (find path_cmp q es) (find path_cmp q (values_at node es)) first.1 (find-values_at node q es (λ j. has (suc j)))
 
-  pub get-values : (node : NodeKey → Option (Node V)) (es : List (Path × NodeKey)) → HasNodes es node → (q : Path) → get (from_entries path_cmp (values_at node es)) q ≡ value_there node (find path_cmp q es)
+  pub get-values : (node : NodeKey → Option (NodeView V)) (es : List (Path × NodeKey)) → HasNodes es node → (q : Path) → get (from_entries path_cmp (values_at node es)) q ≡ value_there node (find path_cmp q es)
   get-values node es has q = get_by_find (values_at node es) q ∙ find-values_at node q es has
 
   -- ---- from a key to its path and back
 
-  module _ (count : Path → ℕ) (es : List (Path × NodeKey)) (node : NodeKey → Option (Node V)) (t : IsTree count es node) where
+  module _ (count : Path → ℕ) (es : List (Path × NodeKey)) (node : NodeKey → Option (NodeView V)) (t : IsTree count es node) where
     -- the node that is found at a path
-    pub node_found : (p : Path) (k : NodeKey) → find path_cmp p es ≡ Some k → (j : ℕ) × (n : Node V) × (slice_get es j ≡ Some (p, k)) × (node k ≡ Some n) × IsNodeAt count es j p n
+    pub node_found : (p : Path) (k : NodeKey) → find path_cmp p es ≡ Some k → (j : ℕ) × (n : NodeView V) × (slice_get es j ≡ Some (p, k)) × (node k ≡ Some n) × IsNodeAt count es j p n
     node_found p k h =
         let at = standing_of es p k h in
         let there = t.node_of at.0 (p, k) at.1 in
@@ -69,7 +68,7 @@ module _ {V : Type 0} where
         let x = node_found q k a in
         let y = node_found p k b in
         let same : x.1 ≡ y.1 = same_some x.1 y.1 (sym x.3 ∙ y.3) in
-        let entry : x.0 ≡ y.0 = sym x.4.entry ∙ ap (λ (n : Node V). n.entry) same ∙ y.4.entry in
+        let entry : x.0 ≡ y.0 = sym x.4.entry ∙ ap (λ (n : NodeView V). n.entry) same ∙ y.4.entry in
         ap (λ (e : Path × NodeKey). e.0) (same_some (q, k) (p, k) (sym x.2 ∙ ap (slice_get es) entry ∙ y.2))
 
     -- no key stands twice
@@ -77,17 +76,17 @@ module _ {V : Type 0} where
     one_entry i j e f a b same =
         let x = t.node_of i e a in
         let y = t.node_of j f b in
-        sym x.2.entry ∙ ap (λ (n : Node V). n.entry) (same_some x.0 y.0 (sym x.1 ∙ ap node same ∙ y.1)) ∙ y.2.entry
+        sym x.2.entry ∙ ap (λ (n : NodeView V). n.entry) (same_some x.0 y.0 (sym x.1 ∙ ap node same ∙ y.1)) ∙ y.2.entry
 
     -- the node with the key of a path
-    pub node_there : (p : Path) (k : NodeKey) (n : Node V) → find path_cmp p es ≡ Some k → node k ≡ Some n → (j : ℕ) × (slice_get es j ≡ Some (p, k)) × IsNodeAt count es j p n
+    pub node_there : (p : Path) (k : NodeKey) (n : NodeView V) → find path_cmp p es ≡ Some k → node k ≡ Some n → (j : ℕ) × (slice_get es j ≡ Some (p, k)) × IsNodeAt count es j p n
     node_there p k n h is =
         let x = node_found p k h in
         (x.0, x.2, subst (IsNodeAt count es x.0 p) (same_some x.1 n (sym x.3 ∙ is)) x.4)
 
   -- ---- a change at one path
 
-  module _ (es fs : List (Path × NodeKey)) (node later : NodeKey → Option (Node V)) (p : Path) (k : Option NodeKey) (v : Option V) (had : HasNodes es node) (has : HasNodes fs later)
+  module _ (es fs : List (Path × NodeKey)) (node later : NodeKey → Option (NodeView V)) (p : Path) (k : Option NodeKey) (v : Option V) (had : HasNodes es node) (has : HasNodes fs later)
       (found : (q : Path) → find path_cmp q fs ≡ cond (eq_by_cmp path_cmp q p) k (find path_cmp q es)) where
     pub keys-changed : from_entries path_cmp fs ≡ set_at (from_entries path_cmp es) p k
     keys-changed = same_map path_cmp_total path_cmp_exact _ _ (λ q.
@@ -117,9 +116,9 @@ module _ {V : Type 0} where
 
   -- ---- one node is written
 
-  module _ (node later : NodeKey → Option (Node V)) (k : NodeKey) (n m : Node V) (at : node k ≡ Some n) (changed : later k ≡ Some m) (others : (i : NodeKey) → i ≢ k → later i ≡ node i) where
+  module _ (node later : NodeKey → Option (NodeView V)) (k : NodeKey) (n m : NodeView V) (at : node k ≡ Some n) (changed : later k ≡ Some m) (others : (i : NodeKey) → i ≢ k → later i ≡ node i) where
     -- the counts may change at the path of that node alone
-    pub tree-write : (count counts : Path → ℕ) (es : List (Path × NodeKey)) (p : Path) → IsTree count es node → find path_cmp p es ≡ Some k → m.entry ≡ n.entry → m.depth ≡ n.depth → m.parent ≡ n.parent → m.children ≡ counts p
+    pub tree-write : (count counts : Path → ℕ) (es : List (Path × NodeKey)) (p : Path) → IsTree count es node → find path_cmp p es ≡ Some k → m.entry ≡ n.entry → m.depth ≡ n.depth → m.parent ≡ n.parent → length m.children ≡ counts p
         → ((q : Path) → q ≢ p → counts q ≡ count q) → IsTree counts es later
     tree-write count counts es p t there entry depth parent children same = record {
       once = t.once;
@@ -133,10 +132,10 @@ module _ {V : Type 0} where
                   m,
                   ap later is ∙ changed,
                   record {
-                    entry = entry ∙ ap (λ (z : Node V). z.entry) own ∙ x.2.entry;
-                    depth = depth ∙ ap (λ (z : Node V). z.depth) own ∙ x.2.depth;
+                    entry = entry ∙ ap (λ (z : NodeView V). z.entry) own ∙ x.2.entry;
+                    depth = depth ∙ ap (λ (z : NodeView V). z.depth) own ∙ x.2.depth;
                     children = children ∙ ap counts (sym path);
-                    parent = λ r. x.2.parent r ∙ ap (λ (z : Node V). Some z.parent) (sym own) ∙ ap Some (sym parent);
+                    parent = λ r. x.2.parent r ∙ ap (λ (z : NodeView V). Some z.parent) (sym own) ∙ ap Some (sym parent);
                   },
                 )
             | inr ne ↦
@@ -156,7 +155,7 @@ module _ {V : Type 0} where
     ]
 
   -- the same counts
-  pub tree-recount : (count counts : Path → ℕ) (es : List (Path × NodeKey)) (node : NodeKey → Option (Node V)) → IsTree count es node → ((q : Path) → counts q ≡ count q) → IsTree counts es node
+  pub tree-recount : (count counts : Path → ℕ) (es : List (Path × NodeKey)) (node : NodeKey → Option (NodeView V)) → IsTree count es node → ((q : Path) → counts q ≡ count q) → IsTree counts es node
   tree-recount count counts es node t same = record {
     once = t.once;
     node_of = λ j e h.
@@ -164,9 +163,22 @@ module _ {V : Type 0} where
         (x.0, x.1, record { entry = x.2.entry; depth = x.2.depth; children = x.2.children ∙ sym (same e.0); parent = x.2.parent });
   }
 
+  -- each node that is there is there, and says the same but for its children
+  pub tree-over : (count counts : Path → ℕ) (es : List (Path × NodeKey)) (node later : NodeKey → Option (NodeView V)) → IsTree count es node
+      → ((p : Path) (k : NodeKey) (n : NodeView V) → find path_cmp p es ≡ Some k → node k ≡ Some n → length n.children ≡ count p
+      → (m : NodeView V) × (later k ≡ Some m) × (m.entry ≡ n.entry) × (m.depth ≡ n.depth) × (m.parent ≡ n.parent) × (length m.children ≡ counts p))
+      → IsTree counts es later
+  tree-over count counts es node later t over = record {
+    once = t.once;
+    node_of = λ j e h.
+        let x = t.node_of j e h in
+        let y = over e.0 e.1 x.0 (found_at es t.once j e h) x.1 x.2.children in
+        (y.0, y.1, record { entry = y.2 ∙ x.2.entry; depth = y.3 ∙ x.2.depth; children = y.5; parent = λ r. x.2.parent r ∙ ap Some (sym y.4) });
+  }
+
   -- ---- a new node
 
-  module _ (count : Path → ℕ) (es : List (Path × NodeKey)) (node later : NodeKey → Option (Node V)) (p : Path) (k : NodeKey) (m : Node V) (t : IsTree count es node) (absent : find path_cmp p es ≡ None)
+  module _ (count : Path → ℕ) (es : List (Path × NodeKey)) (node later : NodeKey → Option (NodeView V)) (p : Path) (k : NodeKey) (m : NodeView V) (t : IsTree count es node) (absent : find path_cmp p es ≡ None)
       (vacant : node k ≡ None) (changed : later k ≡ Some m) (others : (i : NodeKey) → i ≢ k → later i ≡ node i) where
     -- what was found is found, and has another key
     pub still_found : (q : Path) (i : NodeKey) → find path_cmp q es ≡ Some i → (find path_cmp q (es ++ (p, k) ∷ []) ≡ Some i) × (i ≢ k)
@@ -177,7 +189,7 @@ module _ {V : Type 0} where
           λ same. some_not_none x.1 (node i) x.3 (ap node same ∙ vacant),
         )
 
-    pub tree-push : m.entry ≡ length es → m.depth ≡ length p → m.children ≡ count p → (is_root p ≡ false → find path_cmp (parent_path p) es ≡ Some m.parent) → IsTree count (es ++ (p, k) ∷ []) later
+    pub tree-push : m.entry ≡ length es → m.depth ≡ length p → length m.children ≡ count p → (is_root p ≡ false → find path_cmp (parent_path p) es ≡ Some m.parent) → IsTree count (es ++ (p, k) ∷ []) later
     tree-push entry depth children parent = record {
       once = once-push es p k absent t.once;
       node_of = λ j e h.
@@ -206,7 +218,7 @@ module _ {V : Type 0} where
 
   -- ---- a node goes, and another entry gets its entry's number
 
-  module _ (count : Path → ℕ) (es fs : List (Path × NodeKey)) (i : ℕ) (node mid later : NodeKey → Option (Node V)) (p : Path) (k : NodeKey) (t : IsTree count es node)
+  module _ (count : Path → ℕ) (es fs : List (Path × NodeKey)) (i : ℕ) (node mid later : NodeKey → Option (NodeView V)) (p : Path) (k : NodeKey) (t : IsTree count es node)
       (at : slice_get es i ≡ Some (p, k)) (loses : LosesAt es fs i) (others : (x : NodeKey) → x ≢ k → mid x ≡ node x) where
     -- an entry that is left has another key
     pub left_key : (j : ℕ) (e : Path × NodeKey) → slice_get es j ≡ Some e → j ≢ i → e.1 ≢ k
@@ -214,7 +226,7 @@ module _ {V : Type 0} where
         let x = t.node_of j e h in
         let y = t.node_of i (p, k) at in
         let own : x.0 ≡ y.0 = same_some x.0 y.0 (sym x.1 ∙ ap node same ∙ y.1) in
-        apart (sym x.2.entry ∙ ap (λ (n : Node V). n.entry) own ∙ y.2.entry)
+        apart (sym x.2.entry ∙ ap (λ (n : NodeView V). n.entry) own ∙ y.2.entry)
 
     -- no node lies right below the path that goes
     pub leaf_there : ((q : Path) → is_parent p q ≡ true → find path_cmp q es ≡ None) → (j : ℕ) (e : Path × NodeKey) → slice_get es j ≡ Some e → is_root e.0 ≡ false → parent_path e.0 ≢ p
@@ -222,13 +234,13 @@ module _ {V : Type 0} where
         some_not_none e.1 (find path_cmp e.0 es) (found_at es t.once j e h) (leaf e.0 (ap (λ q. is_parent q e.0) (sym same) ∙ below_parent e.0 r))
 
     pub tree-lose : ((q : Path) → is_parent p q ≡ true → find path_cmp q es ≡ None)
-        → ((e : Path × NodeKey) (n : Node V) → slice_get fs i ≡ Some e → mid e.1 ≡ Some n → (m : Node V) × (later e.1 ≡ Some m) × (m.entry ≡ i) × (m.depth ≡ n.depth) × (m.children ≡ n.children) × (m.parent ≡ n.parent))
+        → ((e : Path × NodeKey) (n : NodeView V) → slice_get fs i ≡ Some e → mid e.1 ≡ Some n → (m : NodeView V) × (later e.1 ≡ Some m) × (m.entry ≡ i) × (m.depth ≡ n.depth) × (m.children ≡ n.children) × (m.parent ≡ n.parent))
         → ((j : ℕ) (e : Path × NodeKey) → slice_get fs j ≡ Some e → j ≢ i → later e.1 ≡ mid e.1)
         → IsTree count fs later
     tree-lose leaf moved kept = record {
       once = once-lose es fs i p k loses at t.once;
       node_of = λ j e h.
-          let gives : (d : ℕ) → slice_get es d ≡ Some e → (n : Node V) → IsNodeAt count es d e.0 n → is_root e.0 ≡ false → find path_cmp (parent_path e.0) fs ≡ Some n.parent =
+          let gives : (d : ℕ) → slice_get es d ≡ Some e → (n : NodeView V) → IsNodeAt count es d e.0 n → is_root e.0 ≡ false → find path_cmp (parent_path e.0) fs ≡ Some n.parent =
           λ d was n is r.
           find-lose es fs i p k loses at t.once (parent_path e.0)
           ∙ ap (λ b. cond b None (find path_cmp (parent_path e.0) es)) (differs (parent_path e.0) p (leaf_there leaf d e was r))
@@ -244,7 +256,7 @@ module _ {V : Type 0} where
                   record {
                     entry = now.2 ∙ sym a.0;
                     depth = now.3 ∙ x.2.depth;
-                    children = now.4 ∙ x.2.children;
+                    children = ap length now.4 ∙ x.2.children;
                     parent = λ r. gives (length fs) a.2 x.0 x.2 r ∙ ap Some (sym now.5);
                   },
                 )

@@ -1,9 +1,9 @@
 -- What stands where in a list that grows by one or loses one.
-use Rattle.std.proofs.Common.{◌≡◌, ◌≢◌, ◌⊎◌, ℕ, zero, suc, ◌-◌, ◌<◌, ◌≤◌, List, [], ◌∷◌, ◌++◌, length, get_or, set, take, Option, None, Some, unwrap_or, refl, sym, ap, ◌∙◌, inl, inr, arith, length-take, get_or-take, get_or-set_same, get_or-set_other}
+use Rattle.std.proofs.Common.{Contains, map, ◌≡◌, ◌≢◌, ◌⊎◌, ℕ, zero, suc, ◌-◌, ◌<◌, ◌≤◌, List, [], ◌∷◌, ◌++◌, length, get_or, set, take, Option, None, Some, unwrap_or, refl, sym, ap, ◌∙◌, inl, inr, arith, length-take, get_or-take, get_or-set_same, get_or-set_other}
 use Rattle.std.specs.List.{slice_get, swap_remove}
 use Rattle.std.proofs.lemmas.Bool.{cases_eq}
 use Rattle.std.proofs.lemmas.List.{length-set}
-use Rattle.std.proofs.lemmas.Option.{slice_get_within, slice_get-get_or}
+use Rattle.std.proofs.lemmas.Option.{slice_get_within, slice_get-get_or, get_or_from_slice_get}
 
 pub same_some : {A : Type 0} (x y : A) → Some x ≡ Some y → x ≡ y
 same_some x y e = ap (λ o. unwrap_or o x) e
@@ -89,3 +89,21 @@ module _ {A : Type 0} where
               (i, loses.moved first ∙ ap (slice_get xs) (sym last) ∙ h)
           | inr before ↦ (j, loses.kept j (omega (arith, loses.len)) apart ∙ h)
         ]
+
+-- ---- members
+
+pub contains_at : {A : Type 0} (xs : List A) (j : ℕ) (x : A) → slice_get xs j ≡ Some x → Contains xs x
+contains_at xs j x h = (j, slice_get_within xs j x h, get_or_from_slice_get xs j x x h)
+
+pub at_contained : {A : Type 0} (xs : List A) (x : A) → Contains xs x → (j : ℕ) × (slice_get xs j ≡ Some x)
+at_contained xs x h = (h.0, slice_get-get_or xs h.0 x h.1 ∙ ap Some h.2)
+
+pub at_mapped : {A B : Type 0} (f : A → B) (xs : List A) (j : ℕ) (x : A) → slice_get xs j ≡ Some x → slice_get (map f xs) j ≡ Some (f x)
+at_mapped f [] j x h = absurd (some_not_none x None h refl)
+at_mapped f (y ∷ ys) zero x h = ap (λ z. Some (f z)) (same_some y x h)
+at_mapped f (y ∷ ys) (suc j) x h = at_mapped f ys j x h
+
+pub mapped_at : {A B : Type 0} (f : A → B) (xs : List A) (j : ℕ) (y : B) → slice_get (map f xs) j ≡ Some y → (x : A) × (slice_get xs j ≡ Some x) × (f x ≡ y)
+mapped_at f [] j y h = absurd (some_not_none y None h refl)
+mapped_at f (x ∷ xs) zero y h = (x, refl, same_some (f x) y h)
+mapped_at f (x ∷ xs) (suc j) y h = mapped_at f xs j y h

@@ -1,5 +1,5 @@
 -- What is seen of a tree says what its nodes hold.
-use Rattle.std.proofs.Common.{◌≡◌, ◌≢◌, ℕ, zero, suc, ◌-◌, ◌≤◌, Bool, true, false, List, [], ◌∷◌, length, take, Option, None, Some, IsSome, is_some, String, string_bytes, option_map, not, inl, inr, refl, sym, ap, subst, ◌∙◌, arith, length-append, length-take, true≢false}
+use Rattle.std.proofs.Common.{◌≡◌, ◌≢◌, ◌↔◌, ℕ, zero, suc, ◌-◌, ◌<◌, ◌≤◌, Contains, Bool, true, false, List, [], ◌∷◌, length, take, Option, None, Some, IsSome, is_some, String, string_bytes, option_map, not, inl, inr, refl, sym, ap, subst, ◌∙◌, arith, length-append, length-take, true≢false}
 use Rattle.std.specs.List.{slice_get}
 use Rattle.std.specs.FinMap.Entries.{find}
 use Rattle.std.proofs.Math.Seq.{take-append_seam, take-length}
@@ -12,12 +12,13 @@ use Rattle.cg_maps.specs.FiniteMap.{get, len, retain}
 use Rattle.cg_name.specs.Path.{Path, path_cmp, is_root, is_parent}
 use Rattle.cg_path_tree.specs.declared.node.Node.{Node}
 use Rattle.cg_path_tree.specs.declared.node.NodeKey.{NodeKey}
-use Rattle.cg_path_tree.specs.Nodes.{Nodes, parent_path, AreClosed, IsKey, IsLeaf, HaveOnePath}
-use Rattle.cg_path_tree.specs.Linked.{paths_of, children_in, node_in, value_of, IsNodeAt, IsLinked, seen}
-use Rattle.cg_path_tree.proofs.ListChanges.{same_some, some_not_none}
+use Rattle.cg_path_tree.specs.Nodes.{Nodes, parent_path, AreClosed, IsKey, IsLeaf, IsRightBelow, HaveOnePath}
+use Rattle.cg_path_tree.specs.Linked.{NodeView, Kin, paths_of, children_in, node_view, node_in, kin_of, kin_in, value_of, IsNodeAt, IsLinked, seen}
+use Rattle.cg_path_tree.proofs.ListChanges.{same_some, some_not_none, contains_at, at_contained}
 use Rattle.cg_path_tree.proofs.Finding.{found_at, standing_of, absent_by}
 use Rattle.cg_path_tree.proofs.Indexed.{get_by_find, length-by_paths, by_path, same_at, packed_at}
-use Rattle.cg_path_tree.proofs.Parents.{none_counted}
+use Rattle.cg_path_tree.proofs.Parents.{none_counted, below_parent, not_root, parent_is}
+use Rattle.cg_path_tree.proofs.Views.{there_mapped}
 use Rattle.cg_path_tree.proofs.Counting.{count_is, len-from_entries, distinct_from_once}
 use Rattle.cg_path_tree.proofs.Linking.{value_there, has_nodes, get-values, node_found, node_there, one_path}
 
@@ -32,28 +33,28 @@ module _ {V Z : Type 0} (es : List (String Z × NodeKey)) (nodes : slab.Slab (No
   value_is p = sym (get-values (node_in nodes) (paths_of es) (has_nodes (paths_of es) (node_in nodes) count l.tree) p) ∙ ap (λ v. get v.values p) is
 
   -- the node with the key of a path
-  pub node_of_key : (p : Path) (k : NodeKey) → get g.keys p ≡ Some k → (n : Node V) × (node_in nodes k ≡ Some n)
+  pub node_of_key : (p : Path) (k : NodeKey) → get g.keys p ≡ Some k → (n : NodeView V) × (node_in nodes k ≡ Some n)
   node_of_key p k h = let x = node_found count (paths_of es) (node_in nodes) l.tree p k (found_is p ∙ h) in (x.1, x.3)
 
   pub key_there : (k : NodeKey) → IsKey g.keys k → IsSome (node_in nodes k)
   key_there k key = let x = node_of_key key.0 k key.1 in ap is_some x.1
 
-  pub node_at : (p : Path) (k : NodeKey) (n : Node V) → get g.keys p ≡ Some k → node_in nodes k ≡ Some n → (j : ℕ) × (slice_get (paths_of es) j ≡ Some (p, k)) × IsNodeAt count (paths_of es) j p n
+  pub node_at : (p : Path) (k : NodeKey) (n : NodeView V) → get g.keys p ≡ Some k → node_in nodes k ≡ Some n → (j : ℕ) × (slice_get (paths_of es) j ≡ Some (p, k)) × IsNodeAt count (paths_of es) j p n
   node_at p k n h at = node_there count (paths_of es) (node_in nodes) l.tree p k n (found_is p ∙ h) at
 
-  pub value_at : (p : Path) (k : NodeKey) (n : Node V) → get g.keys p ≡ Some k → node_in nodes k ≡ Some n → get g.values p ≡ Some n.value
+  pub value_at : (p : Path) (k : NodeKey) (n : NodeView V) → get g.keys p ≡ Some k → node_in nodes k ≡ Some n → get g.values p ≡ Some n.value
   value_at p k n h at = sym (value_is p) ∙ ap (value_there (node_in nodes)) (found_is p ∙ h) ∙ ap value_of at
 
-  pub depth_at : (p : Path) (k : NodeKey) (n : Node V) → get g.keys p ≡ Some k → node_in nodes k ≡ Some n → n.depth ≡ length p
+  pub depth_at : (p : Path) (k : NodeKey) (n : NodeView V) → get g.keys p ≡ Some k → node_in nodes k ≡ Some n → n.depth ≡ length p
   depth_at p k n h at = (node_at p k n h at).2.depth
 
-  pub parent_at : (p : Path) (k : NodeKey) (n : Node V) → get g.keys p ≡ Some k → node_in nodes k ≡ Some n → is_root p ≡ false → Some n.parent ≡ get g.keys (parent_path p)
+  pub parent_at : (p : Path) (k : NodeKey) (n : NodeView V) → get g.keys p ≡ Some k → node_in nodes k ≡ Some n → is_root p ≡ false → Some n.parent ≡ get g.keys (parent_path p)
   parent_at p k n h at r = sym ((node_at p k n h at).2.parent r) ∙ found_is (parent_path p)
 
-  pub children_at : (p : Path) (k : NodeKey) (n : Node V) → get g.keys p ≡ Some k → node_in nodes k ≡ Some n → n.children ≡ len (retain g.keys (is_parent p))
+  pub children_at : (p : Path) (k : NodeKey) (n : NodeView V) → get g.keys p ≡ Some k → node_in nodes k ≡ Some n → length n.children ≡ len (retain g.keys (is_parent p))
   children_at p k n h at = (node_at p k n h at).2.children ∙ count_is (is_parent p) (paths_of es) l.tree.once ∙ ap (λ v. len (retain v.keys (is_parent p))) is
 
-  pub leaf_at : (p : Path) (k : NodeKey) (n : Node V) → get g.keys p ≡ Some k → node_in nodes k ≡ Some n → n.children ≡ 0 → IsLeaf g.keys p
+  pub leaf_at : (p : Path) (k : NodeKey) (n : NodeView V) → get g.keys p ≡ Some k → node_in nodes k ≡ Some n → length n.children ≡ 0 → IsLeaf g.keys p
   leaf_at p k n h at none q below = absent_by (get g.keys q) (λ x there.
       let at_q = standing_of (paths_of es) q x (found_is q ∙ there) in
       let zero_count : count p ≡ 0 = sym ((node_at p k n h at).2.children) ∙ none in
@@ -69,7 +70,7 @@ module _ {V Z : Type 0} (es : List (String Z × NodeKey)) (nodes : slab.Slab (No
   both_so None h = refl
   both_so (Some k) h = valued (node_in nodes k) (h k refl)
     where
-      valued : (o : Option (Node V)) → IsSome o → is_some (value_of o) ≡ true
+      valued : (o : Option (NodeView V)) → IsSome o → is_some (value_of o) ≡ true
       valued None h = h
       valued (Some n) h = refl
 
@@ -125,14 +126,14 @@ module _ {V Z : Type 0} (es : List (String Z × NodeKey)) (nodes : slab.Slab (No
 
   -- ---- the root is the path with no name
 
-  pub root_by_depth : (p : Path) (k : NodeKey) (n : Node V) → get g.keys p ≡ Some k → node_in nodes k ≡ Some n → n.depth ≡ 0 → is_root p ≡ true
+  pub root_by_depth : (p : Path) (k : NodeKey) (n : NodeView V) → get g.keys p ≡ Some k → node_in nodes k ≡ Some n → n.depth ≡ 0 → is_root p ≡ true
   root_by_depth p k n h at none = empty p (sym (depth_at p k n h at) ∙ none)
     where
       empty : (x : Path) → length x ≡ 0 → is_root x ≡ true
       empty [] e = refl
       empty (m ∷ x) e = absurd (omega arith)
 
-  pub deep_by_depth : (p : Path) (k : NodeKey) (n : Node V) → get g.keys p ≡ Some k → node_in nodes k ≡ Some n → n.depth ≢ 0 → is_root p ≡ false
+  pub deep_by_depth : (p : Path) (k : NodeKey) (n : NodeView V) → get g.keys p ≡ Some k → node_in nodes k ≡ Some n → n.depth ≢ 0 → is_root p ≡ false
   deep_by_depth p k n h at some = nonempty p (λ e. some (depth_at p k n h at ∙ e))
     where
       nonempty : (x : Path) → length x ≢ 0 → is_root x ≡ false
@@ -146,15 +147,15 @@ module _ {V Z : Type 0} (es : List (String Z × NodeKey)) (nodes : slab.Slab (No
     pub packed : IsPacked (string_bytes e.0)
     pub found : get g.keys (names_in (string_bytes e.0)) ≡ Some k
 
-  entry_at : (k : NodeKey) (n : Node V) (key : IsKey g.keys k) → node_in nodes k ≡ Some n → option_map (by_path (λ s. string_bytes s)) (slice_get es n.entry) ≡ Some (key.0, k)
+  entry_at : (k : NodeKey) (n : NodeView V) (key : IsKey g.keys k) → node_in nodes k ≡ Some n → option_map (by_path (λ s. string_bytes s)) (slice_get es n.entry) ≡ Some (key.0, k)
   entry_at k n key at =
       let x = node_at key.0 k n key.1 at in
       ap (λ j. option_map (by_path (λ s. string_bytes s)) (slice_get es j)) x.2.entry ∙ sym (same_at (λ s. string_bytes s) es x.0) ∙ x.1
 
-  pub entry_there : (k : NodeKey) (n : Node V) → IsKey g.keys k → node_in nodes k ≡ Some n → slice_get es n.entry ≢ None
+  pub entry_there : (k : NodeKey) (n : NodeView V) → IsKey g.keys k → node_in nodes k ≡ Some n → slice_get es n.entry ≢ None
   entry_there k n key at none = some_not_none (key.0, k) None (sym (ap (option_map (by_path (λ s. string_bytes s))) none) ∙ entry_at k n key at) refl
 
-  pub entry_of : (k : NodeKey) (n : Node V) → IsKey g.keys k → node_in nodes k ≡ Some n → (e : String Z × NodeKey) → slice_get es n.entry ≡ Some e → IsEntryOf k e
+  pub entry_of : (k : NodeKey) (n : NodeView V) → IsKey g.keys k → node_in nodes k ≡ Some n → (e : String Z × NodeKey) → slice_get es n.entry ≡ Some e → IsEntryOf k e
   entry_of k n key at e there =
       let same : by_path (λ s. string_bytes s) e ≡ (key.0, k) =
       same_some (by_path (λ s. string_bytes s) e) (key.0, k) (sym (ap (option_map (by_path (λ s. string_bytes s))) there) ∙ entry_at k n key at) in
@@ -164,7 +165,7 @@ module _ {V Z : Type 0} (es : List (String Z × NodeKey)) (nodes : slab.Slab (No
       }
 
   -- what a node says of its parent is so
-  pub parent_so : (p : Path) (k : NodeKey) (n : Node V) → get g.keys p ≡ Some k → node_in nodes k ≡ Some n → (o : Option NodeKey) → (n.depth ≡ 0 → o ≡ None) → (n.depth ≢ 0 → o ≡ Some n.parent)
+  pub parent_so : (p : Path) (k : NodeKey) (n : NodeView V) → get g.keys p ≡ Some k → node_in nodes k ≡ Some n → (o : Option NodeKey) → (n.depth ≡ 0 → o ≡ None) → (n.depth ≢ 0 → o ≡ Some n.parent)
       → (is_some o ≡ not (is_root p)) × (is_root p ≡ false → o ≡ get g.keys (parent_path p))
   parent_so p k n h at o root value = elim (cases_eq n.depth 0) [
     | inl none ↦
@@ -175,7 +176,7 @@ module _ {V Z : Type 0} (es : List (String Z × NodeKey)) (nodes : slab.Slab (No
         (ap is_some (value some) ∙ sym (ap not r), λ deep. value some ∙ parent_at p k n h at deep)
   ]
 
-  pub the_entry : (k : NodeKey) (n : Node V) → IsKey g.keys k → node_in nodes k ≡ Some n → (e : String Z × NodeKey) × (slice_get es n.entry ≡ Some e)
+  pub the_entry : (k : NodeKey) (n : NodeView V) → IsKey g.keys k → node_in nodes k ≡ Some n → (e : String Z × NodeKey) × (slice_get es n.entry ≡ Some e)
   the_entry k n key at = by (slice_get es n.entry) refl
     where
       by : (o : Option (String Z × NodeKey)) → slice_get es n.entry ≡ o → (e : String Z × NodeKey) × (slice_get es n.entry ≡ Some e)
@@ -184,15 +185,74 @@ module _ {V Z : Type 0} (es : List (String Z × NodeKey)) (nodes : slab.Slab (No
 
   -- ---- a key is that of a node where the entry with the node's number has it
 
-  pub key_from_entry : (k : NodeKey) (n : Node V) (e : String Z × NodeKey) → slice_get es n.entry ≡ Some e → e.1 ≡ k → IsKey g.keys k
+  pub key_from_entry : (k : NodeKey) (n : NodeView V) (e : String Z × NodeKey) → slice_get es n.entry ≡ Some e → e.1 ≡ k → IsKey g.keys k
   key_from_entry k n e there own =
       let path = by_path (λ s. string_bytes s) e in
       let at : slice_get (paths_of es) n.entry ≡ Some path = same_at (λ s. string_bytes s) es n.entry ∙ ap (option_map (by_path (λ s. string_bytes s))) there in
       (path.0, sym (found_is path.0) ∙ found_at (paths_of es) l.tree.once n.entry path at ∙ ap Some own)
 
-  pub key_of_entry : (k : NodeKey) (n : Node V) → IsKey g.keys k → node_in nodes k ≡ Some n → (e : String Z × NodeKey) → slice_get es n.entry ≡ Some e → e.1 ≡ k
+  pub key_of_entry : (k : NodeKey) (n : NodeView V) → IsKey g.keys k → node_in nodes k ≡ Some n → (e : String Z × NodeKey) → slice_get es n.entry ≡ Some e → e.1 ≡ k
   key_of_entry k n key at e there =
       ap (λ (f : Path × NodeKey). f.1) (same_some (by_path (λ s. string_bytes s) e) (key.0, k) (sym (ap (option_map (by_path (λ s. string_bytes s))) there) ∙ entry_at k n key at))
 
   pub no_key : (k : NodeKey) → node_in nodes k ≡ None → ¬ (IsKey g.keys k)
   no_key k none key = true≢false (sym (key_there k key) ∙ ap is_some none)
+
+  pub slot_there : (k : NodeKey) (number : ℕ) → number ≡ k.0 → IsKey g.keys k → IsSome (slab.get nodes number)
+  slot_there k number is key = subst (λ i. IsSome (slab.get nodes i)) (sym is) (there_mapped node_view (slab.get nodes k.0) (key_there k key))
+
+  -- ---- the children of a node
+
+  kin_at : (k : NodeKey) (n : NodeView V) → node_in nodes k ≡ Some n → kin_in nodes k ≡ Some (kin_of n)
+  kin_at k n at = ap (option_map kin_of) at
+
+  no_name : (q : Path) (d : ℕ) → length q ≡ suc d → is_root q ≡ false
+  no_name [] d e = absurd (omega arith)
+  no_name (m ∷ q) d e = refl
+
+  some_name : (q : Path) → is_root q ≡ false → length q ≢ 0
+  some_name [] r = absurd (true≢false r)
+  some_name (m ∷ q) r = λ e. absurd (omega arith)
+
+  listed_below : (p : Path) (k : NodeKey) (n : NodeView V) → get g.keys p ≡ Some k → node_in nodes k ≡ Some n → (c : NodeKey) → Contains n.children c → IsRightBelow g.keys p c
+  listed_below p k n h at c has =
+      let x = at_contained n.children c has in
+      let y = l.kin.child k c (kin_of n) x.0 (kin_at k n at) x.1 in
+      let o = l.kin.owned c y.own y.there in
+      let z = node_found count (paths_of es) (node_in nodes) l.tree o.0 c o.1 in
+      let m : NodeView V = z.1 in
+      let own : y.own ≡ kin_of m = same_some y.own (kin_of m) (sym y.there ∙ kin_at c m z.3) in
+      let r : is_root o.0 ≡ false = no_name o.0 n.depth (sym z.4.depth ∙ ap (λ (w : Kin). w.depth) (sym own) ∙ y.depth) in
+      let parent : m.parent ≡ k = ap (λ (w : Kin). w.parent) (sym own) ∙ y.parent in
+      let path : parent_path o.0 ≡ p = one_path count (paths_of es) (node_in nodes) l.tree (parent_path o.0) p k (z.4.parent r ∙ ap Some parent) (found_is p ∙ h) in
+      (o.0, sym (found_is o.0) ∙ o.1, subst (λ w. is_parent w o.0 ≡ true) path (below_parent o.0 r))
+
+  below_listed : (p : Path) (k : NodeKey) (n : NodeView V) → get g.keys p ≡ Some k → node_in nodes k ≡ Some n → (c : NodeKey) → IsRightBelow g.keys p c → Contains n.children c
+  below_listed p k n h at c x =
+      let z = node_found count (paths_of es) (node_in nodes) l.tree x.0 c (found_is x.0 ∙ x.1) in
+      let m : NodeView V = z.1 in
+      let r : is_root x.0 ≡ false = not_root p x.0 x.2 in
+      let y = l.kin.listed c (kin_of m) (kin_at c m z.3) (λ none. some_name x.0 r (sym z.4.depth ∙ none)) in
+      let parent : m.parent ≡ k = same_some m.parent k (sym (z.4.parent r) ∙ ap (λ q. find path_cmp q (paths_of es)) (sym (parent_is p x.0 x.2)) ∙ found_is p ∙ h) in
+      let own : y.0 ≡ kin_of n = same_some y.0 (kin_of n) (sym y.1 ∙ ap (kin_in nodes) parent ∙ kin_at k n at) in
+      contains_at n.children m.place c (ap (λ (w : Kin). slice_get w.children m.place) (sym own) ∙ y.2)
+
+  pub children_are : (p : Path) (k : NodeKey) (n : NodeView V) → get g.keys p ≡ Some k → node_in nodes k ≡ Some n → (c : NodeKey) → Contains n.children c ↔ IsRightBelow g.keys p c
+  children_are p k n h at c = (listed_below p k n h at c, below_listed p k n h at c)
+
+  pub children_once : (k : NodeKey) (n : NodeView V) → node_in nodes k ≡ Some n → (i j : ℕ) (c : NodeKey) → slice_get n.children i ≡ Some c → slice_get n.children j ≡ Some c → i ≡ j
+  children_once k n at i j c a b =
+      let x = l.kin.child k c (kin_of n) i (kin_at k n at) a in
+      let y = l.kin.child k c (kin_of n) j (kin_at k n at) b in
+      sym x.place ∙ ap (λ (z : Kin). z.place) (same_some x.own y.own (sym x.there ∙ y.there)) ∙ y.place
+
+  pub children_fit : (k : NodeKey) (n : NodeView V) → node_in nodes k ≡ Some n → length n.children < 4294967296
+  children_fit k n at = l.kin.fits k (kin_of n) (kin_at k n at)
+
+  -- the node at the path one name shorter, if there is one, is there
+  pub parent_key_there : (p : Path) (o : Option NodeKey) → (is_root p ≡ true → o ≡ None) → (is_root p ≡ false → o ≡ get g.keys (parent_path p)) → (k : NodeKey) → o ≡ Some k → IsSome (node_in nodes k)
+  parent_key_there p o root value k is = by (is_root p) refl
+    where
+      by : (b : Bool) → is_root p ≡ b → IsSome (node_in nodes k)
+      by true r = absurd (some_not_none k o is (root r))
+      by false r = key_there k (parent_path p, sym (value r) ∙ is)

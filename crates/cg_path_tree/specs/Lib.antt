@@ -1,3 +1,4 @@
 pub mod Nodes
 pub mod Linked
 pub mod Lends
+pub mod Listing

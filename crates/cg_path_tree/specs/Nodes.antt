@@ -1,5 +1,5 @@
 -- What a contract sees of a tree: the value and the key at each path.
-use Rattle.std.specs.Prelude.{◌≡◌, ◌-◌, ◌==◌, ℕ, true, false, cond, List, [], ◌∷◌, length, take, None, Some, IsSome, refl}
+use Rattle.std.specs.Prelude.{◌≡◌, ◌-◌, ◌==◌, ℕ, true, false, cond, List, [], ◌∷◌, map, length, take, None, Some, IsSome, refl}
 use Rattle.std.specs.Coded.{Coded, code_by, coded×, coded_ℕ, coded_list}
 use Rattle.cg_maps.specs.FiniteMap.{FiniteMap, get, set_at, entries}
 use Rattle.cg_maps.specs.Code.{map_code}
@@ -45,6 +45,14 @@ path_in (e ∷ es) key = cond (key.0 == e.1.0) e.0 (path_in es key)
 -- the path of the node with this key
 abbrev pub path_of : FiniteMap path_cmp NodeKey → NodeKey → Path
 path_of keys key = path_in (entries keys) key
+
+-- the keys, each with the path of its node
+abbrev pub with_paths : FiniteMap path_cmp NodeKey → List NodeKey → List (Path × NodeKey)
+with_paths keys ks = map (λ k. (path_of keys k, k)) ks
+
+-- the key is that of a node right below the path
+abbrev pub IsRightBelow : FiniteMap path_cmp NodeKey → Path → NodeKey → Type 0
+IsRightBelow keys p key = (q : Path) × (get keys q ≡ Some key) × (is_parent p q ≡ true)
 
 -- these nodes, with this value at the path
 abbrev pub with_value : {V : Type 0} → Nodes V → Path → V → Nodes V

@@ -3,26 +3,14 @@ ghost use Rattle.std.specs.Prelude.{◌≡◌, ◌<◌, ◌++◌, ◌∷◌, [],
 ghost use Rattle.std.specs.FinMap.Entries.{find};
 ghost use Rattle.slab.specs.Slab as slab;
 ghost use Rattle.cg_name.specs.Path.{path_cmp};
-ghost use Rattle.cg_path_tree.specs.declared.node.Node.{Node};
-ghost use Rattle.cg_path_tree.specs.Linked.{node_in, paths_of, HavePaths};
+ghost use Rattle.cg_path_tree.specs.Linked.{NodeView, node_in, paths_of, HavePaths, Writes};
 
-use crate::node::{Node, NodeKey, set_entry};
+use crate::node::{Node, NodeKey, narrow, set_entry};
 use crate::path_text::text;
 use cg_name::Path;
 use indexmap::IndexMap;
 use slab::Slab;
 use std::alloc::{AllocError, Global};
-
-// The number in 32 bits; an error where it doesn't fit, or is the greatest.
-fn narrow(number: usize) -> Result<u32, AllocError>
-    ensures value { IfOk result (λ n. n ≡ number) }
-    ensures below { IfOk result (λ n. n < 4294967295) }
-{
-    if number < 4294967295 {
-        return Ok(number as u32);
-    }
-    Err(AllocError)
-}
 
 // Puts an entry for the path, which has none, behind the others, and makes room for its node: gives that node's key and
 // the entry's number. Where there is no memory for them, the entries stay as they are.
@@ -61,7 +49,7 @@ pub(crate) fn leave<V: Drop>(
     requires within { entry < length index.old.entries }
     requires moved { (e f : _) → slice_get index.old.entries entry ≡ Some e → slice_get (swap_remove index.old.entries entry e) entry ≡ Some f → IsSome (node_in nodes.old f.1) }
     ensures entries { (e : _) → slice_get index.old.entries entry ≡ Some e → index.new.entries ≡ swap_remove index.old.entries entry e }
-    ensures moved { (e : _) (n : Node V) → slice_get index.new.entries entry ≡ Some e → node_in nodes.old e.1 ≡ Some n → slab.Updates nodes.old nodes.new e.1.0 (Some (record n { entry = entry })) }
+    ensures moved { (e : _) (n : NodeView V) → slice_get index.new.entries entry ≡ Some e → node_in nodes.old e.1 ≡ Some n → Writes nodes.old nodes.new e.1 (Some (record n { entry = entry })) }
     ensures unmoved { slice_get index.new.entries entry ≡ None → nodes.new ≡ nodes.old }
 {
     let _ = index.swap_remove_index(entry as usize);

@@ -5,6 +5,7 @@ mod entering;
 mod node;
 mod path_text;
 mod path_tree;
+mod sorting;
 
 pub use node::NodeKey;
 pub use path_tree::PathTree;

@@ -1,17 +1,19 @@
 //! Trees of paths.
-ghost use Rattle.std.specs.Prelude.{◌≡◌, ◌↔◌, ◌==◌, false, true, ◌<◌, ◌≤◌, ℕ, List, length, take, not, is_some, IsTrue, IfOk, IfErr, IfNone, IfSome, OnOk, OnErr, None, Some};
+ghost use Rattle.std.specs.Prelude.{◌≡◌, ◌↔◌, ◌==◌, false, true, ◌<◌, ◌≤◌, ℕ, List, Contains, length, take, slice_get, not, is_some, IsTrue, IfOk, IfErr, IfNone, IfSome, OnOk, OnErr, None, Some};
 ghost use Rattle.std.specs.Borrow.{sem};
-ghost use Rattle.cg_maps.specs.FiniteMap.{empty, get, len, retain, set_at};
+ghost use Rattle.cg_maps.specs.FiniteMap.{empty, entries, get, len, retain, set_at};
+ghost use Rattle.cg_name.specs.Packed.{names_in, IsPacked};
 ghost use Rattle.cg_name.specs.Path.{is_parent, is_root};
-ghost use Rattle.cg_path_tree.specs.Nodes.{parent_path, path_of, AreClosed, HaveOnePath, HasParent, IsKey, IsLeaf};
+ghost use Rattle.cg_path_tree.specs.Nodes.{parent_path, path_of, with_paths, AreClosed, HaveOnePath, HasParent, IsKey, IsLeaf, IsRightBelow};
 
 use crate::entering::{enter, leave};
-use crate::node::{Node, NodeKey, add_child, remove_child};
+use crate::node::{Node, NodeKey, add_child, make_room, remove_child};
 use crate::path_text::{parent_text, prefix_text, text};
+use crate::sorting::in_order;
 use cg_name::{Path, PathRef};
 use indexmap::IndexMap;
 use slab::Slab;
-use std::alloc::{AllocFailed, Global};
+use std::alloc::{AllocError, AllocFailed, Global};
 use std::marker::Model;
 
 /// A tree of paths with a value at each. Where it has a node it has one at each prefix of its path. A node is found by its
@@ -204,7 +206,57 @@ impl<V: Drop> PathTree<V> {
         ensures count { (p : List (List ℕ)) → get self.now.keys p ≡ Some key → result ≡ len (retain self.now.keys (is_parent p)) }
         ensures leaf { (p : List (List ℕ)) → get self.now.keys p ≡ Some key → result ≡ 0 → IsLeaf self.now.keys p }
     {
-        self.nodes[key.number()].children
+        self.nodes[key.number()].children.len() as u32
+    }
+
+    /// The nodes right below the one with that key, in no order.
+    pub fn children(&self, key: NodeKey) -> &[NodeKey]
+        requires { IsKey self.now.keys key }
+        ensures below { (p : List (List ℕ)) → get self.now.keys p ≡ Some key → (k : NodeKey) → Contains result.now k ↔ IsRightBelow self.now.keys p k }
+        ensures once { (i j : ℕ) (k : NodeKey) → slice_get result.now i ≡ Some k → slice_get result.now j ≡ Some k → i ≡ j }
+        ensures count { (p : List (List ℕ)) → get self.now.keys p ≡ Some key → length result.now ≡ len (retain self.now.keys (is_parent p)) }
+    {
+        &self.nodes[key.number()].children
+    }
+
+    /// The nodes right below the one with that key, in the order of their paths.
+    pub fn sorted_children(&self, alloc: Global, key: NodeKey) -> Result<Vec<NodeKey>, AllocError>
+        requires { IsKey self.now.keys key }
+        ensures { IfOk result (λ found. (p : List (List ℕ)) → get self.now.keys p ≡ Some key → with_paths self.now.keys found.items ≡ entries (retain self.now.keys (is_parent p))) }
+    {
+        self.laws();
+        let children = self.children(key);
+        let mut found = Vec::with_capacity(alloc, children.len())?;
+        for child in children {
+            found.push((self.text_of(*child), *child))?;
+        }
+        in_order(alloc, found)
+    }
+
+    /// All nodes, in the order of their paths.
+    pub fn sorted(&self, alloc: Global) -> Result<Vec<NodeKey>, AllocError>
+        ensures { IfOk result (λ found. with_paths self.now.keys found.items ≡ entries self.now.keys) }
+    {
+        let mut found = Vec::with_capacity(alloc, self.index.len())?;
+        for i in 0..self.index.len() {
+            if let Some((text, key)) = self.index.get_index(i) {
+                found.push((text.as_str(), *key))?;
+            }
+        }
+        in_order(alloc, found)
+    }
+
+    // The text of the path of the node with that key.
+    fn text_of(&self, key: NodeKey) -> &str
+        requires { IsKey self.now.keys key }
+        ensures packed { IsPacked result.now }
+        ensures found { get self.now.keys (names_in result.now) ≡ Some key }
+    {
+        let node = &self.nodes[key.number()];
+        match self.index.get_index(node.entry as usize) {
+            Some((text, _)) => text.as_str(),
+            None => unreachable!(),
+        }
     }
 
     /// The path of the node with that key.
@@ -212,11 +264,7 @@ impl<V: Drop> PathTree<V> {
         requires { IsKey self.now.keys key }
         ensures { get self.now.keys result ≡ Some key }
     {
-        let node = &self.nodes[key.number()];
-        match self.index.get_index(node.entry as usize) {
-            Some((text, _)) => PathRef::new(text.as_bytes()),
-            None => unreachable!(),
-        }
+        PathRef::new(self.text_of(key).as_bytes())
     }
 
     /// Puts a node with that value at a path that has none, the root's or right below a node. Where there is no memory for
@@ -231,6 +279,9 @@ impl<V: Drop> PathTree<V> {
         ensures err { OnErr result (self.new ≡ self.old) }
     {
         let parent = self.find_parent(path);
+        let Ok(place) = make_room(&mut self.nodes, parent) else {
+            return Err(AllocFailed { value });
+        };
         let Ok((key, entry)) = enter(&mut self.index, &mut self.nodes, alloc, path) else {
             return Err(AllocFailed { value });
         };
@@ -238,10 +289,11 @@ impl<V: Drop> PathTree<V> {
             entry,
             parent: parent.unwrap_or(key),
             depth: path.depth(),
-            children: 0,
+            place,
+            children: Vec::new(alloc),
             value,
         });
-        add_child(&mut self.nodes, parent);
+        add_child(&mut self.nodes, parent, key);
         Ok(key)
     }
 
@@ -255,7 +307,7 @@ impl<V: Drop> PathTree<V> {
     {
         let node = self.nodes.remove(key.number());
         leave(&mut self.index, &mut self.nodes, node.entry);
-        remove_child(&mut self.nodes, node.parent());
+        remove_child(&mut self.nodes, node.parent(), node.place);
         node.value
     }
 }

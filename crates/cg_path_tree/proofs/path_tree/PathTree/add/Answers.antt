@@ -1,75 +1,103 @@
--- A node goes in at a path that has none, and its parent counts it.
-use Rattle.std.proofs.Common.{◌≡◌, ℕ, Some, sym, ap, subst, ◌∙◌, refl}
+-- A node goes in at a path that has none, and its parent lists it.
+use Rattle.std.proofs.Common.{◌≡◌, ◌≢◌, ℕ, List, Some, sym, ap, subst, ◌∙◌, refl}
 use Rattle.slab.specs.Slab as slab
 use Rattle.cg_path_tree.specs.declared.node.Node.{Node}
 use Rattle.cg_path_tree.specs.declared.node.NodeKey.{NodeKey}
-use Rattle.cg_path_tree.specs.Linked.{node_in}
-use Rattle.cg_path_tree.proofs.Seen.{found_is}
-use Rattle.cg_path_tree.proofs.Adding.{linked-added, keys-added, values-added, fresh, parent_node, parent_room, linked-grown}
+use Rattle.cg_path_tree.specs.Linked.{NodeView, node_view, node_in, HasRoom, Writes}
+use Rattle.cg_path_tree.proofs.Seen.{found_is, parent_key_there}
+use Rattle.cg_path_tree.proofs.Adding.{linked-added, keys-added, values-added, fresh, is_new, parent_node, linked-same, seen-same}
+use Rattle.cg_path_tree.proofs.Views.{other_number, writes-updates}
 use Rattle.cg_path_tree.proofs.path_tree.PathTree.add.Goals as goal
 
--- the node that goes in
-abbrev put_in : {V : Type 0} → ℕ → NodeKey → ℕ → V → Node V
-put_in entry parent depth value = record { entry = entry; parent = parent; depth = depth; children = 0; value = value }
+-- what the node that goes in says
+abbrev put_in : {V : Type 0} → ℕ → NodeKey → ℕ → ℕ → List NodeKey → V → NodeView V
+put_in entry parent depth place children value = record { entry = entry; parent = parent; depth = depth; place = place; children = children; value = value }
 
-module _ {V : Type 0} (nodes grown : slab.Slab (Node V)) (room : grown ≡ record nodes { capacity = grown.capacity }) where
-  same_nodes : (i : NodeKey) → node_in grown i ≡ node_in nodes i
-  same_nodes i = ap (λ s. slab.get s i.0) room
+module _ {V : Type 0} (nodes made grown : slab.Slab (Node V)) (room : grown ≡ record made { capacity = grown.capacity }) (same : (k : NodeKey) → node_in made k ≡ node_in nodes k) where
+  kept : (i : NodeKey) → node_in grown i ≡ node_in nodes i
+  kept i = ap (λ s. node_in s i) room ∙ same i
 
-  vacant_key_kept : grown.vacant_key ≡ nodes.vacant_key
-  vacant_key_kept = ap (λ (s : slab.Slab (Node V)). s.vacant_key) room
+module _ {V : Type 0} (made grown put : slab.Slab (Node V)) (k : NodeKey) (number : ℕ) {m : Node V} (room : grown ≡ record made { capacity = grown.capacity }) (key : k.0 ≡ made.vacant_key) (is : number ≡ grown.vacant_key) (up : slab.Updates grown put number (Some m)) where
+  its_number : number ≡ k.0
+  its_number = is ∙ ap (λ (s : slab.Slab (Node V)). s.vacant_key) room ∙ sym key
 
-put_there : {V : Type 0} (grown put : slab.Slab (Node V)) (k : NodeKey) (number : ℕ) (m : Node V) → k.0 ≡ number → slab.Updates grown put number (Some m) → slab.Updates grown put k.0 (Some m)
-put_there grown put k number m same up = subst (λ i. slab.Updates grown put i (Some m)) (sym same) up
+  put_there : Writes grown put k (Some (node_view m))
+  put_there = writes-updates grown put k (Some m) (subst (λ i. slab.Updates grown put i (Some m)) its_number up)
+
+  still_room : (i : NodeKey) → i ≢ k → HasRoom made i → HasRoom put i
+  still_room i ne has n at = has n (sym (up.others i.0 (λ same. other_number i k ne (same ∙ its_number)) ∙ ap (λ s. slab.get s i.0) room) ∙ at)
+
+pub make_room-requires : goal.make_room-requires
+make_room-requires g c = record {
+  there = λ k is. parent_key_there c.self.inside.index.entries c.self.inside.nodes c.self.invariant c.args.self.now c.self.view_is c.args.path.now c.find_parent-parent.result c.find_parent-parent.ensures.root c.find_parent-parent.ensures.value k is;
+}
+
+pub invariant_of-self : goal.invariant_of-self
+invariant_of-self g c = linked-same c.self.inside.index.entries c.self.inside.index.entries c.self.inside.nodes c.make_room.new.nodes c.self.invariant refl c.make_room.ensures.same
 
 pub enter-requires-clause-absent : goal.enter-requires-clause-absent
 enter-requires-clause-absent g c = found_is c.self.inside.index.entries c.self.inside.nodes c.self.invariant c.args.self.now c.self.view_is c.args.path.now ∙ c.requires.absent
 
-pub invariant_of-self : goal.invariant_of-self
-invariant_of-self g c = linked-grown c.self.inside.index.entries c.enter.new.index.entries c.self.inside.nodes c.enter.new.nodes c.self.invariant c.in_default.ensures.err c.in_default.ensures.slots
+pub invariant_of-self-in_default-enter : goal.invariant_of-self-in_default-enter
+invariant_of-self-in_default-enter g c =
+    linked-same c.self.inside.index.entries c.enter.new.index.entries c.self.inside.nodes c.enter.new.nodes c.self.invariant c.in_default-enter.ensures.err
+    (kept c.self.inside.nodes c.make_room.new.nodes c.enter.new.nodes c.in_default-enter.ensures.slots c.make_room.ensures.same)
 
 pub add_child-requires-clause-there : goal.add_child-requires-clause-there
 add_child-requires-clause-there g c =
-    parent_node c.self.inside.index.entries c.enter.new.index.entries c.self.inside.nodes c.self.invariant c.args.self.now c.self.view_is c.args.path.now c.in-Ok.key (put_in c.in-Ok.entry c.unwrap_or.result c.depth.result c.args.value)
-    c.requires.absent c.requires.parent c.in-Ok.ensures.entries c.in-Ok.ensures.packed c.enter.new.nodes c.insert_reserved.new.self (same_nodes c.self.inside.nodes c.enter.new.nodes c.in-Ok.ensures.slots) c.in-Ok.ensures.vacant
-    (put_there c.enter.new.nodes c.insert_reserved.new.self c.in-Ok.key c.insert_reserved.result (put_in c.in-Ok.entry c.unwrap_or.result c.depth.result c.args.value) (c.in-Ok.ensures.key ∙ sym (vacant_key_kept c.self.inside.nodes c.enter.new.nodes c.in-Ok.ensures.slots) ∙ sym c.insert_reserved.ensures.key) c.insert_reserved.ensures.updates)
-    c.in-Ok.ensures.entry c.depth.ensures.value refl c.find_parent-parent.result c.find_parent-parent.ensures.root c.find_parent-parent.ensures.value c.unwrap_or.ensures
+    parent_node c.self.inside.index.entries c.enter.new.index.entries c.self.inside.nodes c.self.invariant c.args.self.now c.self.view_is c.args.path.now c.in-Ok-enter.key (put_in c.in-Ok-enter.entry c.unwrap_or.result c.depth.result c.in-Ok.place c.new.result.items c.args.value)
+    c.requires.absent c.requires.parent c.in-Ok-enter.ensures.entries c.in-Ok-enter.ensures.packed c.enter.new.nodes c.insert_reserved.new.self
+    (kept c.self.inside.nodes c.make_room.new.nodes c.enter.new.nodes c.in-Ok-enter.ensures.slots c.make_room.ensures.same) (sym (c.make_room.ensures.same c.in-Ok-enter.key) ∙ c.in-Ok-enter.ensures.vacant)
+    (put_there c.make_room.new.nodes c.enter.new.nodes c.insert_reserved.new.self c.in-Ok-enter.key c.insert_reserved.result c.in-Ok-enter.ensures.slots c.in-Ok-enter.ensures.key c.insert_reserved.ensures.key c.insert_reserved.ensures.updates)
+    c.in-Ok-enter.ensures.entry c.depth.ensures.value c.new.ensures.items c.find_parent-parent.result c.find_parent-parent.ensures.root c.find_parent-parent.ensures.value c.unwrap_or.ensures
+    c.in-Ok.ensures.place c.in-Ok.ensures.below
 
 pub add_child-requires-clause-room : goal.add_child-requires-clause-room
-add_child-requires-clause-room g c =
-    parent_room c.self.inside.index.entries c.enter.new.index.entries c.self.inside.nodes c.self.invariant c.args.self.now c.self.view_is c.args.path.now c.in-Ok.key (put_in c.in-Ok.entry c.unwrap_or.result c.depth.result c.args.value)
-    c.requires.absent c.requires.parent c.in-Ok.ensures.entries c.in-Ok.ensures.packed c.enter.new.nodes c.insert_reserved.new.self (same_nodes c.self.inside.nodes c.enter.new.nodes c.in-Ok.ensures.slots) c.in-Ok.ensures.vacant
-    (put_there c.enter.new.nodes c.insert_reserved.new.self c.in-Ok.key c.insert_reserved.result (put_in c.in-Ok.entry c.unwrap_or.result c.depth.result c.args.value) (c.in-Ok.ensures.key ∙ sym (vacant_key_kept c.self.inside.nodes c.enter.new.nodes c.in-Ok.ensures.slots) ∙ sym c.insert_reserved.ensures.key) c.insert_reserved.ensures.updates)
-    c.in-Ok.ensures.entry c.depth.ensures.value refl c.find_parent-parent.result c.find_parent-parent.ensures.root c.find_parent-parent.ensures.value c.unwrap_or.ensures
-    c.in-Ok.ensures.below
+add_child-requires-clause-room g c k is =
+    let new = is_new c.self.inside.index.entries c.enter.new.index.entries c.self.inside.nodes c.self.invariant c.args.self.now c.self.view_is c.args.path.now c.in-Ok-enter.key (put_in c.in-Ok-enter.entry c.unwrap_or.result c.depth.result c.in-Ok.place c.new.result.items c.args.value)
+    c.requires.absent c.requires.parent c.in-Ok-enter.ensures.entries c.in-Ok-enter.ensures.packed c.enter.new.nodes c.insert_reserved.new.self
+    (kept c.self.inside.nodes c.make_room.new.nodes c.enter.new.nodes c.in-Ok-enter.ensures.slots c.make_room.ensures.same) (sym (c.make_room.ensures.same c.in-Ok-enter.key) ∙ c.in-Ok-enter.ensures.vacant)
+    (put_there c.make_room.new.nodes c.enter.new.nodes c.insert_reserved.new.self c.in-Ok-enter.key c.insert_reserved.result c.in-Ok-enter.ensures.slots c.in-Ok-enter.ensures.key c.insert_reserved.ensures.key c.insert_reserved.ensures.updates)
+    c.in-Ok-enter.ensures.entry c.depth.ensures.value c.new.ensures.items c.find_parent-parent.result c.find_parent-parent.ensures.root c.find_parent-parent.ensures.value c.unwrap_or.ensures
+    c.in-Ok.ensures.place c.in-Ok.ensures.below k is in
+    still_room c.make_room.new.nodes c.enter.new.nodes c.insert_reserved.new.self c.in-Ok-enter.key c.insert_reserved.result c.in-Ok-enter.ensures.slots c.in-Ok-enter.ensures.key c.insert_reserved.ensures.key c.insert_reserved.ensures.updates
+    k new (c.in-Ok.ensures.room k is)
 
 pub invariant_of-self-2 : goal.invariant_of-self-2
 invariant_of-self-2 g c =
-    linked-added c.self.inside.index.entries c.enter.new.index.entries c.self.inside.nodes c.self.invariant c.args.self.now c.self.view_is c.args.path.now c.in-Ok.key (put_in c.in-Ok.entry c.unwrap_or.result c.depth.result c.args.value)
-    c.requires.absent c.requires.parent c.in-Ok.ensures.entries c.in-Ok.ensures.packed c.enter.new.nodes c.insert_reserved.new.self (same_nodes c.self.inside.nodes c.enter.new.nodes c.in-Ok.ensures.slots) c.in-Ok.ensures.vacant
-    (put_there c.enter.new.nodes c.insert_reserved.new.self c.in-Ok.key c.insert_reserved.result (put_in c.in-Ok.entry c.unwrap_or.result c.depth.result c.args.value) (c.in-Ok.ensures.key ∙ sym (vacant_key_kept c.self.inside.nodes c.enter.new.nodes c.in-Ok.ensures.slots) ∙ sym c.insert_reserved.ensures.key) c.insert_reserved.ensures.updates)
-    c.in-Ok.ensures.entry c.depth.ensures.value refl c.find_parent-parent.result c.find_parent-parent.ensures.root c.find_parent-parent.ensures.value c.unwrap_or.ensures
+    linked-added c.self.inside.index.entries c.enter.new.index.entries c.self.inside.nodes c.self.invariant c.args.self.now c.self.view_is c.args.path.now c.in-Ok-enter.key (put_in c.in-Ok-enter.entry c.unwrap_or.result c.depth.result c.in-Ok.place c.new.result.items c.args.value)
+    c.requires.absent c.requires.parent c.in-Ok-enter.ensures.entries c.in-Ok-enter.ensures.packed c.enter.new.nodes c.insert_reserved.new.self
+    (kept c.self.inside.nodes c.make_room.new.nodes c.enter.new.nodes c.in-Ok-enter.ensures.slots c.make_room.ensures.same) (sym (c.make_room.ensures.same c.in-Ok-enter.key) ∙ c.in-Ok-enter.ensures.vacant)
+    (put_there c.make_room.new.nodes c.enter.new.nodes c.insert_reserved.new.self c.in-Ok-enter.key c.insert_reserved.result c.in-Ok-enter.ensures.slots c.in-Ok-enter.ensures.key c.insert_reserved.ensures.key c.insert_reserved.ensures.updates)
+    c.in-Ok-enter.ensures.entry c.depth.ensures.value c.new.ensures.items c.find_parent-parent.result c.find_parent-parent.ensures.root c.find_parent-parent.ensures.value c.unwrap_or.ensures
+    c.in-Ok.ensures.place c.in-Ok.ensures.below
     c.add_child.new.nodes c.add_child.ensures.none c.add_child.ensures.some
 
 pub returns-clause-keys : goal.returns-clause-keys
 returns-clause-keys g c =
-    keys-added c.self.inside.index.entries c.enter.new.index.entries c.self.inside.nodes c.self.invariant c.args.self.now c.self.view_is c.args.path.now c.in-Ok.key (put_in c.in-Ok.entry c.unwrap_or.result c.depth.result c.args.value)
-    c.requires.absent c.requires.parent c.in-Ok.ensures.entries c.in-Ok.ensures.packed c.enter.new.nodes c.insert_reserved.new.self (same_nodes c.self.inside.nodes c.enter.new.nodes c.in-Ok.ensures.slots) c.in-Ok.ensures.vacant
-    (put_there c.enter.new.nodes c.insert_reserved.new.self c.in-Ok.key c.insert_reserved.result (put_in c.in-Ok.entry c.unwrap_or.result c.depth.result c.args.value) (c.in-Ok.ensures.key ∙ sym (vacant_key_kept c.self.inside.nodes c.enter.new.nodes c.in-Ok.ensures.slots) ∙ sym c.insert_reserved.ensures.key) c.insert_reserved.ensures.updates)
-    c.in-Ok.ensures.entry c.depth.ensures.value refl c.find_parent-parent.result c.find_parent-parent.ensures.root c.find_parent-parent.ensures.value c.unwrap_or.ensures
+    keys-added c.self.inside.index.entries c.enter.new.index.entries c.self.inside.nodes c.self.invariant c.args.self.now c.self.view_is c.args.path.now c.in-Ok-enter.key (put_in c.in-Ok-enter.entry c.unwrap_or.result c.depth.result c.in-Ok.place c.new.result.items c.args.value)
+    c.requires.absent c.requires.parent c.in-Ok-enter.ensures.entries c.in-Ok-enter.ensures.packed c.enter.new.nodes c.insert_reserved.new.self
+    (kept c.self.inside.nodes c.make_room.new.nodes c.enter.new.nodes c.in-Ok-enter.ensures.slots c.make_room.ensures.same) (sym (c.make_room.ensures.same c.in-Ok-enter.key) ∙ c.in-Ok-enter.ensures.vacant)
+    (put_there c.make_room.new.nodes c.enter.new.nodes c.insert_reserved.new.self c.in-Ok-enter.key c.insert_reserved.result c.in-Ok-enter.ensures.slots c.in-Ok-enter.ensures.key c.insert_reserved.ensures.key c.insert_reserved.ensures.updates)
+    c.in-Ok-enter.ensures.entry c.depth.ensures.value c.new.ensures.items c.find_parent-parent.result c.find_parent-parent.ensures.root c.find_parent-parent.ensures.value c.unwrap_or.ensures
+    c.in-Ok.ensures.place c.in-Ok.ensures.below
     c.add_child.new.nodes c.add_child.ensures.none c.add_child.ensures.some
 
 pub returns-clause-values : goal.returns-clause-values
 returns-clause-values g c =
-    values-added c.self.inside.index.entries c.enter.new.index.entries c.self.inside.nodes c.self.invariant c.args.self.now c.self.view_is c.args.path.now c.in-Ok.key (put_in c.in-Ok.entry c.unwrap_or.result c.depth.result c.args.value)
-    c.requires.absent c.requires.parent c.in-Ok.ensures.entries c.in-Ok.ensures.packed c.enter.new.nodes c.insert_reserved.new.self (same_nodes c.self.inside.nodes c.enter.new.nodes c.in-Ok.ensures.slots) c.in-Ok.ensures.vacant
-    (put_there c.enter.new.nodes c.insert_reserved.new.self c.in-Ok.key c.insert_reserved.result (put_in c.in-Ok.entry c.unwrap_or.result c.depth.result c.args.value) (c.in-Ok.ensures.key ∙ sym (vacant_key_kept c.self.inside.nodes c.enter.new.nodes c.in-Ok.ensures.slots) ∙ sym c.insert_reserved.ensures.key) c.insert_reserved.ensures.updates)
-    c.in-Ok.ensures.entry c.depth.ensures.value refl c.find_parent-parent.result c.find_parent-parent.ensures.root c.find_parent-parent.ensures.value c.unwrap_or.ensures
+    values-added c.self.inside.index.entries c.enter.new.index.entries c.self.inside.nodes c.self.invariant c.args.self.now c.self.view_is c.args.path.now c.in-Ok-enter.key (put_in c.in-Ok-enter.entry c.unwrap_or.result c.depth.result c.in-Ok.place c.new.result.items c.args.value)
+    c.requires.absent c.requires.parent c.in-Ok-enter.ensures.entries c.in-Ok-enter.ensures.packed c.enter.new.nodes c.insert_reserved.new.self
+    (kept c.self.inside.nodes c.make_room.new.nodes c.enter.new.nodes c.in-Ok-enter.ensures.slots c.make_room.ensures.same) (sym (c.make_room.ensures.same c.in-Ok-enter.key) ∙ c.in-Ok-enter.ensures.vacant)
+    (put_there c.make_room.new.nodes c.enter.new.nodes c.insert_reserved.new.self c.in-Ok-enter.key c.insert_reserved.result c.in-Ok-enter.ensures.slots c.in-Ok-enter.ensures.key c.insert_reserved.ensures.key c.insert_reserved.ensures.updates)
+    c.in-Ok-enter.ensures.entry c.depth.ensures.value c.new.ensures.items c.find_parent-parent.result c.find_parent-parent.ensures.root c.find_parent-parent.ensures.value c.unwrap_or.ensures
+    c.in-Ok.ensures.place c.in-Ok.ensures.below
     c.add_child.new.nodes c.add_child.ensures.none c.add_child.ensures.some
 
 pub returns-clause-fresh : goal.returns-clause-fresh
 returns-clause-fresh g c =
-    fresh c.self.inside.index.entries c.enter.new.index.entries c.self.inside.nodes c.self.invariant c.args.self.now c.self.view_is c.args.path.now c.in-Ok.key (put_in c.in-Ok.entry c.unwrap_or.result c.depth.result c.args.value)
-    c.requires.absent c.requires.parent c.in-Ok.ensures.entries c.in-Ok.ensures.packed c.enter.new.nodes c.insert_reserved.new.self (same_nodes c.self.inside.nodes c.enter.new.nodes c.in-Ok.ensures.slots) c.in-Ok.ensures.vacant
-    (put_there c.enter.new.nodes c.insert_reserved.new.self c.in-Ok.key c.insert_reserved.result (put_in c.in-Ok.entry c.unwrap_or.result c.depth.result c.args.value) (c.in-Ok.ensures.key ∙ sym (vacant_key_kept c.self.inside.nodes c.enter.new.nodes c.in-Ok.ensures.slots) ∙ sym c.insert_reserved.ensures.key) c.insert_reserved.ensures.updates)
-    c.in-Ok.ensures.entry c.depth.ensures.value refl c.find_parent-parent.result c.find_parent-parent.ensures.root c.find_parent-parent.ensures.value c.unwrap_or.ensures
+    fresh c.self.inside.index.entries c.enter.new.index.entries c.self.inside.nodes c.self.invariant c.args.self.now c.self.view_is c.args.path.now c.in-Ok-enter.key (put_in c.in-Ok-enter.entry c.unwrap_or.result c.depth.result c.in-Ok.place c.new.result.items c.args.value)
+    c.requires.absent c.requires.parent c.in-Ok-enter.ensures.entries c.in-Ok-enter.ensures.packed c.enter.new.nodes c.insert_reserved.new.self
+    (kept c.self.inside.nodes c.make_room.new.nodes c.enter.new.nodes c.in-Ok-enter.ensures.slots c.make_room.ensures.same) (sym (c.make_room.ensures.same c.in-Ok-enter.key) ∙ c.in-Ok-enter.ensures.vacant)
+    (put_there c.make_room.new.nodes c.enter.new.nodes c.insert_reserved.new.self c.in-Ok-enter.key c.insert_reserved.result c.in-Ok-enter.ensures.slots c.in-Ok-enter.ensures.key c.insert_reserved.ensures.key c.insert_reserved.ensures.updates)
+    c.in-Ok-enter.ensures.entry c.depth.ensures.value c.new.ensures.items c.find_parent-parent.result c.find_parent-parent.ensures.root c.find_parent-parent.ensures.value c.unwrap_or.ensures
+    c.in-Ok.ensures.place c.in-Ok.ensures.below

@@ -1,14 +1,12 @@
-use Rattle.std.proofs.Common.{IsSome, sym, ap, subst, ◌∙◌}
-use Rattle.slab.specs.Slab as slab
-use Rattle.cg_path_tree.proofs.Seen.{key_there, value_at}
+use Rattle.cg_path_tree.specs.Linked.{node_view}
+use Rattle.cg_path_tree.proofs.Seen.{slot_there, value_at}
+use Rattle.cg_path_tree.proofs.Views.{seen_at}
 use Rattle.cg_path_tree.proofs.path_tree.PathTree.get.Goals as goal
 
 pub index-requires : goal.index-requires
-index-requires g c =
-    subst (λ i. IsSome (slab.get c.self.inside.nodes i)) (sym c.number.ensures)
-    (key_there c.self.inside.index.entries c.self.inside.nodes c.self.invariant c.args.self.now c.self.view_is c.args.key c.requires)
+index-requires g c = slot_there c.self.inside.index.entries c.self.inside.nodes c.self.invariant c.args.self.now c.self.view_is c.args.key c.number.result c.number.ensures c.requires
 
 pub returns : goal.returns
 returns g c p h =
-    value_at c.self.inside.index.entries c.self.inside.nodes c.self.invariant c.args.self.now c.self.view_is p c.args.key c.index.result.now h
-    (ap (slab.get c.self.inside.nodes) (sym c.number.ensures) ∙ c.index.ensures)
+    value_at c.self.inside.index.entries c.self.inside.nodes c.self.invariant c.args.self.now c.self.view_is p c.args.key (node_view c.index.result.now) h
+    (seen_at c.self.inside.nodes c.args.key c.number.result c.index.result.now c.number.ensures c.index.ensures)
