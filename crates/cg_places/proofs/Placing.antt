@@ -1,0 +1,159 @@
+-- What is seen of processes, by their numbers.
+use Rattle.std.proofs.Common.{◌≡◌, ◌≢◌, ℕ, zero, suc, ◌<◌, Bool, true, false, cond, List, [], ◌∷◌, ◌++◌, map, length, take, drop, Option, None, Some, IsSome, is_some, option_map, refl, sym, ap, subst, ◌∙◌, inl, inr, arith, true≢false}
+use Rattle.std.specs.List.{slice_get}
+use Rattle.std.specs.Ordering.{nat_cmp, eq_by_cmp}
+use Rattle.std.specs.Cmp.{nat_cmp_total}
+use Rattle.std.specs.FinMap.{nat_cmp-IsAntisymmetric}
+use Rattle.std.specs.FinMap.Entries.{find}
+use Rattle.std.proofs.Math.Seq.{take-append_seam}
+use Rattle.std.proofs.lemmas.Bool.{cases_eq}
+use Rattle.std.proofs.lemmas.Option.{slice_get_within}
+use Rattle.cg_maps.specs.FiniteMap.{from_entries, get, set_at}
+use Rattle.cg_maps.proofs.Maps.{here, is_same, apart, same_map, get-set_at, get-from_entries}
+use Rattle.cg_places.specs.declared.seats.Process.{Process}
+use Rattle.cg_places.specs.declared.seats.Cell.{Cell}
+use Rattle.cg_places.specs.declared.seats.Stack.{Stack}
+use Rattle.cg_places.specs.Seats.{who, AreSeated}
+use Rattle.cg_places.specs.Placed.{number_of, ArePlaced, located}
+use Rattle.cg_places.specs.Located.{Located}
+use Rattle.cg_places.proofs.Lists.{same_some, some_not_none, unmap}
+
+at_mapped : {A B : Type 0} (f : A → B) (xs : List A) (j : ℕ) → slice_get (map f xs) j ≡ option_map f (slice_get xs j)
+at_mapped f [] j = refl
+at_mapped f (y ∷ ys) zero = refl
+at_mapped f (y ∷ ys) (suc j) = at_mapped f ys j
+
+-- what is written back into a list as long
+pub refilled : {A : Type 0} (n : ℕ) (new old : List A) → n ≡ length old → length new ≡ length old → take n (new ++ drop (length new) old) ≡ new
+refilled n new old is same = ap (λ k. take k (new ++ drop (length new) old)) (is ∙ sym same) ∙ take-append_seam new (drop (length new) old)
+
+-- ---- what is found at a number
+
+itself : (q : ℕ) → eq_by_cmp nat_cmp q q ≡ true
+itself = here nat_cmp_total nat_cmp-IsAntisymmetric
+
+differs : (q p : ℕ) → q ≢ p → eq_by_cmp nat_cmp q p ≡ false
+differs = apart nat_cmp_total nat_cmp-IsAntisymmetric
+
+found_at : (es : List (ℕ × ℕ)) → ((i j : ℕ) (e f : ℕ × ℕ) → slice_get es i ≡ Some e → slice_get es j ≡ Some f → e.0 ≡ f.0 → i ≡ j) → (j : ℕ) (e : ℕ × ℕ) → slice_get es j ≡ Some e → find nat_cmp e.0 es ≡ Some e.1
+found_at [] once j e h = absurd (some_not_none e None h refl)
+found_at (f ∷ es) once zero e h =
+    let same : f ≡ e = same_some f e h in
+    ap (λ b. cond b (Some f.1) (find nat_cmp e.0 es)) (ap (λ (x : ℕ × ℕ). eq_by_cmp nat_cmp e.0 x.0) same ∙ itself e.0) ∙ ap (λ (x : ℕ × ℕ). Some x.1) same
+found_at (f ∷ es) once (suc j) e h =
+    let ne : e.0 ≢ f.0 = λ same. let no : zero ≡ suc j = once zero (suc j) f e refl h (sym same) in absurd (omega arith) in
+    ap (λ b. cond b (Some f.1) (find nat_cmp e.0 es)) (differs e.0 f.0 ne)
+    ∙ found_at es (λ i k a b x y z. let next : suc i ≡ suc k = once (suc i) (suc k) a b x y z in omega arith) j e h
+
+not_found : (es : List (ℕ × ℕ)) (q : ℕ) → ((j : ℕ) (e : ℕ × ℕ) → slice_get es j ≡ Some e → e.0 ≢ q) → find nat_cmp q es ≡ None
+not_found [] q none = refl
+not_found (e ∷ es) q none = ap (λ b. cond b (Some e.1) (find nat_cmp q es)) (differs q e.0 (λ same. none 0 e refl (sym same))) ∙ not_found es q (λ j. none (suc j))
+
+-- the group of the process with this number
+abbrev pub at_number : List Process → Option ℕ → Option ℕ
+at_number ps None = None
+at_number ps (Some i) = option_map (λ p. p.group) (slice_get ps i)
+
+module _ (numbers : List (ℕ × ℕ)) (ps : List Process) (cells : List Cell) (ss : List Stack) (h : ArePlaced numbers ps cells ss) where
+  process_at : (j : ℕ) (e : ℕ × ℕ) → slice_get (map who ps) j ≡ Some e → (p : Process) × (slice_get ps j ≡ Some p) × (who p ≡ e)
+  process_at j e at = unmap who (slice_get ps j) e (sym (at_mapped who ps j) ∙ at)
+
+  once : (i j : ℕ) (e f : ℕ × ℕ) → slice_get (map who ps) i ≡ Some e → slice_get (map who ps) j ≡ Some f → e.0 ≡ f.0 → i ≡ j
+  once i j e f a b same =
+      let p = process_at i e a in
+      let q = process_at j f b in
+      let pids : p.0.pid ≡ q.0.pid = ap (λ (x : ℕ × ℕ). x.0) p.2 ∙ same ∙ sym (ap (λ (x : ℕ × ℕ). x.0) q.2) in
+      same_some i j (sym (h.known i p.0 p.1) ∙ ap (number_of numbers) pids ∙ h.known j q.0 q.1)
+
+  found_by : (pid : ℕ) (o : Option ℕ) → number_of numbers pid ≡ o → find nat_cmp pid (map who ps) ≡ at_number ps o
+  found_by pid None none = not_found (map who ps) pid (λ j e at same.
+      let p = process_at j e at in
+      some_not_none j (number_of numbers pid) (ap (number_of numbers) (sym (ap (λ (x : ℕ × ℕ). x.0) p.2 ∙ same)) ∙ h.known j p.0 p.1) none)
+  found_by pid (Some i) some =
+      let p = h.named pid i some in
+      ap (λ q. find nat_cmp q (map who ps)) (sym p.2) ∙ found_at (map who ps) once i (who p.0) (at_mapped who ps i ∙ ap (option_map who) p.1) ∙ sym (ap (option_map (λ (x : Process). x.group)) p.1)
+
+  -- what is seen of a PID
+  pub place_is : (pid : ℕ) → get (from_entries nat_cmp (map who ps)) pid ≡ at_number ps (number_of numbers pid)
+  place_is pid = get-from_entries nat_cmp_total nat_cmp-IsAntisymmetric (map who ps) pid ∙ found_by pid (number_of numbers pid) refl
+
+module _ (numbers : List (ℕ × ℕ)) (ps : List Process) (cells : List Cell) (ss : List Stack) (h : ArePlaced numbers ps cells ss) where
+  -- what is seen of a PID
+  pub seen_place : (v : Located) → located ps ss ≡ v → (pid : ℕ) → get v.places pid ≡ at_number ps (number_of numbers pid)
+  seen_place v is pid = sym (ap (λ (x : Located). get x.places pid) is) ∙ place_is numbers ps cells ss h pid
+
+  pub seen_none : (v : Located) → located ps ss ≡ v → (pid : ℕ) → number_of numbers pid ≡ None → get v.places pid ≡ None
+  seen_none v is pid none = seen_place v is pid ∙ ap (at_number ps) none
+
+  pub seen_some : (v : Located) → located ps ss ≡ v → (pid i : ℕ) → number_of numbers pid ≡ Some i → (p : Process) × (slice_get ps i ≡ Some p) × (get v.places pid ≡ Some p.group)
+  seen_some v is pid i some =
+      let p = h.named pid i some in
+      (p.0, p.1, seen_place v is pid ∙ ap (at_number ps) some ∙ ap (option_map (λ (x : Process). x.group)) p.1)
+
+  pub number_within : (pid i : ℕ) → number_of numbers pid ≡ Some i → i < length ps
+  number_within pid i is = let p = h.named pid i is in slice_get_within ps i p.0 p.1
+
+  -- other groups, and all else the same
+  module _ (qs : List Process) (ds : List Cell) (ts : List Stack) (seated : AreSeated qs ds ts) (pid i g : ℕ) (is : number_of numbers pid ≡ Some i) (moved : (p : Process) → slice_get ps i ≡ Some p → option_map who (slice_get qs i) ≡ Some (p.pid, g))
+      (others : (j : ℕ) → j ≢ i → option_map who (slice_get qs j) ≡ option_map who (slice_get ps j)) (many : length qs ≡ length ps) where
+    its : (p : Process) × (slice_get ps i ≡ Some p) × (p.pid ≡ pid)
+    its = h.named pid i is
+
+    -- each process has the PID that it had
+    was : (j : ℕ) (q : Process) → slice_get qs j ≡ Some q → (p : Process) × (slice_get ps j ≡ Some p) × (p.pid ≡ q.pid)
+    was j q at = elim (cases_eq j i) [
+      | inl same ↦
+          let own : who q ≡ (its.0.pid, g) = same_some (who q) (its.0.pid, g) (sym (ap (option_map who) at) ∙ ap (λ k. option_map who (slice_get qs k)) same ∙ moved its.0 its.1) in
+          (its.0, ap (slice_get ps) same ∙ its.1, sym (ap (λ (x : ℕ × ℕ). x.0) own))
+      | inr ne ↦
+          let p = unmap who (slice_get ps j) (who q) (sym (others j ne) ∙ ap (option_map who) at) in
+          (p.0, p.1, ap (λ (x : ℕ × ℕ). x.0) p.2)
+    ]
+
+    is_there : (j : ℕ) (p : Process) → slice_get ps j ≡ Some p → (q : Process) × (slice_get qs j ≡ Some q) × (q.pid ≡ p.pid)
+    is_there j p at = elim (cases_eq j i) [
+      | inl same ↦
+          let x = unmap who (slice_get qs j) (p.pid, g) (ap (λ k. option_map who (slice_get qs k)) same ∙ moved p (ap (slice_get ps) (sym same) ∙ at)) in
+          (x.0, x.1, ap (λ (y : ℕ × ℕ). y.0) x.2)
+      | inr ne ↦
+          let x = unmap who (slice_get qs j) (who p) (others j ne ∙ ap (option_map who) at) in
+          (x.0, x.1, ap (λ (y : ℕ × ℕ). y.0) x.2)
+    ]
+
+    pub placed-put : ArePlaced numbers qs ds ts
+    placed-put = record {
+      seated = seated;
+      known = λ j q at. let p = was j q at in ap (number_of numbers) (sym p.2) ∙ h.known j p.0 p.1;
+      named = λ pid' j found. let p = h.named pid' j found in let q = is_there j p.0 p.1 in (q.0, q.1, q.2 ∙ p.2);
+      few = subst (λ k. k < 4294967295) (sym many) h.few;
+    }
+
+    by_group : (o o' : Option Process) → option_map who o ≡ option_map who o' → option_map (λ (x : Process). x.group) o ≡ option_map (λ (x : Process). x.group) o'
+    by_group None None e = refl
+    by_group None (Some x) e = absurd (cc)
+    by_group (Some x) None e = absurd (cc)
+    by_group (Some x) (Some y) e = ap (λ (z : ℕ × ℕ). Some z.1) (same_some (who x) (who y) e)
+
+    group_elsewhere : (q : ℕ) (o : Option ℕ) → q ≢ pid → number_of numbers q ≡ o → at_number qs o ≡ at_number ps o
+    group_elsewhere q None ne at = refl
+    group_elsewhere q (Some j) ne at =
+        let other : j ≢ i = λ same. let p = h.named q j at in ne (sym p.2 ∙ ap (λ (x : Process). x.pid) (same_some p.0 its.0 (sym p.1 ∙ ap (slice_get ps) same ∙ its.1)) ∙ its.2) in
+        by_group (slice_get qs j) (slice_get ps j) (others j other)
+
+    group_here : at_number qs (number_of numbers pid) ≡ Some g
+    group_here =
+        let q = unmap who (slice_get qs i) (its.0.pid, g) (moved its.0 its.1) in
+        ap (at_number qs) is ∙ ap (option_map (λ (x : Process). x.group)) q.1 ∙ ap (λ (x : ℕ × ℕ). Some x.1) q.2
+
+    pub places-put : from_entries nat_cmp (map who qs) ≡ set_at (from_entries nat_cmp (map who ps)) pid (Some g)
+    places-put = same_map nat_cmp_total nat_cmp-IsAntisymmetric (from_entries nat_cmp (map who qs)) (set_at (from_entries nat_cmp (map who ps)) pid (Some g)) (λ q.
+        place_is numbers qs ds ts placed-put q
+        ∙ (elim (cases_eq q pid) [
+          | inl same ↦
+              ap (λ k. at_number qs (number_of numbers k)) same ∙ group_here
+              ∙ sym (ap (λ b. cond b (Some g) (get (from_entries nat_cmp (map who ps)) q)) (ap (λ k. eq_by_cmp nat_cmp k pid) same ∙ itself pid))
+          | inr ne ↦
+              group_elsewhere q (number_of numbers q) ne refl ∙ sym (place_is numbers ps cells ss h q)
+              ∙ sym (ap (λ b. cond b (Some g) (get (from_entries nat_cmp (map who ps)) q)) (differs q pid ne))
+        ])
+        ∙ sym (get-set_at nat_cmp_total nat_cmp-IsAntisymmetric (from_entries nat_cmp (map who ps)) pid (Some g) q))

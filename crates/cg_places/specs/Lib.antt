@@ -1,0 +1,5 @@
+pub mod Lists
+pub mod Located
+pub mod Placed
+pub mod Seats
+pub mod Stacks

@@ -1,0 +1,7 @@
+//! Processes by the group that each is in.
+#![tactic(auto)]
+
+mod places;
+mod seats;
+
+pub use places::Places;
