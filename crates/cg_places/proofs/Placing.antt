@@ -1,5 +1,5 @@
 -- What is seen of processes, by their numbers.
-use Rattle.std.proofs.Common.{◌≡◌, ◌≢◌, ℕ, zero, suc, ◌<◌, Bool, true, false, cond, List, [], ◌∷◌, ◌++◌, map, length, take, drop, Option, None, Some, IsSome, is_some, option_map, refl, sym, ap, subst, ◌∙◌, inl, inr, arith, true≢false}
+use Rattle.std.proofs.Common.{◌≡◌, ◌≢◌, ℕ, zero, suc, ◌<◌, Bool, true, false, cond, List, [], ◌∷◌, ◌++◌, map, length, take, drop, Option, None, Some, option_map, nat_eq, refl, sym, ap, subst, ◌∙◌, inl, inr, arith, eq-eqb, length-append}
 use Rattle.std.specs.List.{slice_get}
 use Rattle.std.specs.Ordering.{nat_cmp, eq_by_cmp}
 use Rattle.std.specs.Cmp.{nat_cmp_total}
@@ -8,6 +8,7 @@ use Rattle.std.specs.FinMap.Entries.{find}
 use Rattle.std.proofs.Math.Seq.{take-append_seam}
 use Rattle.std.proofs.lemmas.Bool.{cases_eq}
 use Rattle.std.proofs.lemmas.Option.{slice_get_within}
+use borrow.Author.Tests.{ne_eqb}
 use Rattle.cg_maps.specs.FiniteMap.{from_entries, get, set_at}
 use Rattle.cg_maps.proofs.Maps.{here, is_same, apart, same_map, get-set_at, get-from_entries}
 use Rattle.cg_places.specs.declared.seats.Process.{Process}
@@ -17,6 +18,7 @@ use Rattle.cg_places.specs.Seats.{who, AreSeated}
 use Rattle.cg_places.specs.Placed.{number_of, ArePlaced, located}
 use Rattle.cg_places.specs.Located.{Located}
 use Rattle.cg_places.proofs.Lists.{same_some, some_not_none, unmap}
+use Rattle.cg_places.proofs.Seating.{push_old, push_end, none_behind}
 
 at_mapped : {A B : Type 0} (f : A → B) (xs : List A) (j : ℕ) → slice_get (map f xs) j ≡ option_map f (slice_get xs j)
 at_mapped f [] j = refl
@@ -90,6 +92,28 @@ module _ (numbers : List (ℕ × ℕ)) (ps : List Process) (cells : List Cell) (
       let p = h.named pid i some in
       (p.0, p.1, seen_place v is pid ∙ ap (at_number ps) some ∙ ap (option_map (λ (x : Process). x.group)) p.1)
 
+  pub absent_number : (v : Located) → located ps ss ≡ v → (pid : ℕ) → get v.places pid ≡ None → number_of numbers pid ≡ None
+  absent_number v is pid none = by (number_of numbers pid) refl
+    where
+      by : (o : Option ℕ) → number_of numbers pid ≡ o → o ≡ None
+      by None e = refl
+      by (Some i) e = let p = seen_some v is pid i e in absurd (some_not_none p.0.group (get v.places pid) p.2 none)
+
+  -- the process that is seen in a group
+  pub seen_in : (v : Located) → located ps ss ≡ v → (pid g : ℕ) → get v.places pid ≡ Some g → (i : ℕ) × (p : Process) × (slice_get ps i ≡ Some p) × (p.pid ≡ pid) × (p.group ≡ g)
+  seen_in v is pid g there = by (number_of numbers pid) refl
+    where
+      by : (o : Option ℕ) → number_of numbers pid ≡ o → (i : ℕ) × (p : Process) × (slice_get ps i ≡ Some p) × (p.pid ≡ pid) × (p.group ≡ g)
+      by None e = absurd (some_not_none g (get v.places pid) there (seen_none v is pid e))
+      by (Some i) e =
+          let p = h.named pid i e in
+          let q = seen_some v is pid i e in
+          (i, p.0, p.1, p.2, ap (λ (x : Process). x.group) (same_some p.0 q.0 (sym p.1 ∙ q.1)) ∙ same_some q.0.group g (sym q.2 ∙ there))
+
+  -- and a process is seen in its group
+  pub is_seen : (v : Located) → located ps ss ≡ v → (i : ℕ) (p : Process) → slice_get ps i ≡ Some p → get v.places p.pid ≡ Some p.group
+  is_seen v is i p at = seen_place v is p.pid ∙ ap (at_number ps) (h.known i p at) ∙ ap (option_map (λ (x : Process). x.group)) at
+
   pub number_within : (pid i : ℕ) → number_of numbers pid ≡ Some i → i < length ps
   number_within pid i is = let p = h.named pid i is in slice_get_within ps i p.0 p.1
 
@@ -157,3 +181,54 @@ module _ (numbers : List (ℕ × ℕ)) (ps : List Process) (cells : List Cell) (
               ∙ sym (ap (λ b. cond b (Some g) (get (from_entries nat_cmp (map who ps)) q)) (differs q pid ne))
         ])
         ∙ sym (get-set_at nat_cmp_total nat_cmp-IsAntisymmetric (from_entries nat_cmp (map who ps)) pid (Some g) q))
+
+-- one more
+
+module _ (numbers later : List (ℕ × ℕ)) (ps : List Process) (cells ds : List Cell) (ss ts : List Stack) (h : ArePlaced numbers ps cells ss) (p : Process) (absent : number_of numbers p.pid ≡ None)
+    (updates : (q : ℕ) → number_of later q ≡ cond (nat_eq p.pid q) (Some (length ps)) (number_of numbers q)) (seated : AreSeated (ps ++ p ∷ []) ds ts) (few : length ps < 4294967294) where
+  ties : (q : ℕ) → p.pid ≡ q → number_of later q ≡ Some (length ps)
+  ties q same = updates q ∙ ap (λ b. cond b (Some (length ps)) (number_of numbers q)) (eq-eqb p.pid q same)
+
+  stays : (q : ℕ) → p.pid ≢ q → number_of later q ≡ number_of numbers q
+  stays q ne = updates q ∙ ap (λ b. cond b (Some (length ps)) (number_of numbers q)) (ne_eqb p.pid q ne)
+
+  old_at : (i : ℕ) (x : Process) → slice_get ps i ≡ Some x → slice_get (ps ++ p ∷ []) i ≡ Some x
+  old_at i x at = push_old ps p i (λ same. some_not_none x (slice_get ps i) at (ap (slice_get ps) same ∙ none_behind ps)) ∙ at
+
+  known_after : (i : ℕ) (x : Process) → slice_get (ps ++ p ∷ []) i ≡ Some x → number_of later x.pid ≡ Some i
+  known_after i x at = elim (cases_eq i (length ps)) [
+    | inl e ↦
+        let own : p ≡ x = same_some p x (sym (push_end ps p) ∙ ap (slice_get (ps ++ p ∷ [])) (sym e) ∙ at) in
+        ties x.pid (ap (λ (y : Process). y.pid) own) ∙ ap Some (sym e)
+    | inr ne ↦
+        let was = h.known i x (sym (push_old ps p i ne) ∙ at) in
+        stays x.pid (λ same. some_not_none i (number_of numbers x.pid) was (ap (number_of numbers) (sym same) ∙ absent)) ∙ was
+  ]
+
+  named_after : (q i : ℕ) → number_of later q ≡ Some i → (x : Process) × (slice_get (ps ++ p ∷ []) i ≡ Some x) × (x.pid ≡ q)
+  named_after q i found = elim (cases_eq p.pid q) [
+    | inl same ↦
+        let last : length ps ≡ i = same_some (length ps) i (sym (ties q same) ∙ found) in
+        (p, ap (slice_get (ps ++ p ∷ [])) (sym last) ∙ push_end ps p, same)
+    | inr ne ↦ let x = h.named q i (sym (stays q ne) ∙ found) in (x.0, old_at i x.0 x.1, x.2)
+  ]
+
+  pub placed-added : ArePlaced later (ps ++ p ∷ []) ds ts
+  placed-added = record { seated = seated; known = known_after; named = named_after; few = omega (arith, length-append ps (p ∷ [])) }
+
+  same_group : (q : ℕ) (o : Option ℕ) → number_of numbers q ≡ o → at_number (ps ++ p ∷ []) o ≡ at_number ps o
+  same_group q None e = refl
+  same_group q (Some i) e = let x = h.named q i e in ap (option_map (λ (y : Process). y.group)) (old_at i x.0 x.1 ∙ sym x.1)
+
+  pub places-added : (v : Located) → located ps ss ≡ v → from_entries nat_cmp (map who (ps ++ p ∷ [])) ≡ set_at v.places p.pid (Some p.group)
+  places-added v is = same_map nat_cmp_total nat_cmp-IsAntisymmetric (from_entries nat_cmp (map who (ps ++ p ∷ []))) (set_at v.places p.pid (Some p.group)) (λ q.
+      place_is later (ps ++ p ∷ []) ds ts placed-added q
+      ∙ (elim (cases_eq p.pid q) [
+        | inl same ↦
+            ap (at_number (ps ++ p ∷ [])) (ties q same) ∙ ap (option_map (λ (y : Process). y.group)) (push_end ps p)
+            ∙ sym (ap (λ b. cond b (Some p.group) (get v.places q)) (ap (eq_by_cmp nat_cmp q) same ∙ itself q))
+        | inr ne ↦
+            ap (at_number (ps ++ p ∷ [])) (stays q ne) ∙ same_group q (number_of numbers q) refl ∙ sym (seen_place numbers ps cells ss h v is q)
+            ∙ sym (ap (λ b. cond b (Some p.group) (get v.places q)) (differs q p.pid (λ same. ne (sym same))))
+      ])
+      ∙ sym (get-set_at nat_cmp_total nat_cmp-IsAntisymmetric v.places p.pid (Some p.group) q))

@@ -1,5 +1,5 @@
 -- Processes trade cells, and a cell goes from one group's stack to another's.
-use Rattle.std.proofs.Common.{◌≡◌, ◌≢◌, ◌↔◌, ◌||◌, ℕ, zero, suc, ◌<◌, ◌≤◌, Bool, true, false, List, [], ◌∷◌, length, get_or, Option, None, Some, option_map, eqb, refl, sym, ap, subst, ◌∙◌, inl, inr, arith, true≢false}
+use Rattle.std.proofs.Common.{◌≡◌, ◌≢◌, ◌⊎◌, ◌↔◌, ◌||◌, ◌++◌, ℕ, zero, suc, ◌<◌, ◌≤◌, Bool, true, false, List, [], ◌∷◌, length, get_or, Option, None, Some, option_map, eqb, refl, sym, ap, subst, ◌∙◌, inl, inr, arith, true≢false, length-append}
 use Rattle.std.specs.List.{slice_get, IsDistinct, list_any}
 use Rattle.std.proofs.lemmas.Bool.{cases_eq, eqb-true}
 use Rattle.std.proofs.lemmas.Map.Keys.{IsDistinct-from_apart}
@@ -13,7 +13,7 @@ use Rattle.cg_places.specs.Lists.{WritesAt}
 use Rattle.cg_places.specs.Stacks.{Has, IsStack, IsStackOf, AreStacks}
 use Rattle.cg_places.specs.Seats.{who, next_in, group_at, group_in, stack_in, HaveSeats, AreSeated}
 use Rattle.cg_places.proofs.Lists.{same_some, some_not_none, unmap, item_at}
-use Rattle.cg_places.proofs.Stacks.{shifted}
+use Rattle.cg_places.proofs.Stacks.{shifted, pushed}
 
 -- ---- a trade
 
@@ -215,6 +215,25 @@ module _ (ps : List Process) (cells : List Cell) (ss : List Stack) (h : AreSeate
       let fits = length-le_from_distinct_below x.cells (length cells) distinct (λ k any. let has = stands x.cells k any in cell_within k g ((x.own k).0 has)) in
       omega (arith, fits, x.many)
 
+  -- a group whose stack has a cell has a process, and else it has none
+  pub someone : (g : ℕ) (s : Stack) → slice_get ss g ≡ Some s → s.count ≢ 0 → (i : ℕ) × (p : Process) × (slice_get ps i ≡ Some p) × (p.group ≡ g)
+  someone g s at some = let x = stack_of g s at in by x.cells x.many x.own
+    where
+      of_cell : (j : ℕ) (o : Option Cell) → slice_get cells j ≡ o → group_at ps o ≡ Some g → (i : ℕ) × (p : Process) × (slice_get ps i ≡ Some p) × (p.group ≡ g)
+      of_cell j None at e = absurd (some_not_none g None e refl)
+      of_cell j (Some d) at e = let p = unmap (λ (y : Process). y.group) (slice_get ps d.process) g e in (d.process, p.0, p.1, p.2)
+
+      by : (ks : List ℕ) → length ks ≡ s.count → ((k : ℕ) → Has ks k ↔ (group_in ps cells k ≡ Some g)) → (i : ℕ) × (p : Process) × (slice_get ps i ≡ Some p) × (p.group ≡ g)
+      by [] many own = absurd (some (sym many))
+      by (k ∷ ks) many own = of_cell k (slice_get cells k) refl ((own k).0 (zero, refl))
+
+  pub nobody : (g : ℕ) (s : Stack) → slice_get ss g ≡ Some s → s.count ≡ 0 → (i : ℕ) (p : Process) → slice_get ps i ≡ Some p → p.group ≢ g
+  nobody g s at none i p at_p is =
+      let c = h.seats.seat i p at_p in
+      let own : group_in ps cells p.cell ≡ Some p.group = ap (group_at ps) c.1 ∙ ap (λ k. option_map (λ (y : Process). y.group) (slice_get ps k)) c.2 ∙ ap (option_map (λ (y : Process). y.group)) at_p in
+      let top = top_there g s at p.cell (own ∙ ap Some is) in
+      absurd (omega (arith, top.0, none))
+
   -- the group of a process is that of its cell
   pub own_group : (i : ℕ) (p : Process) → slice_get ps i ≡ Some p → group_in ps cells p.cell ≡ Some p.group
   own_group i p at =
@@ -295,3 +314,108 @@ module _ (ps qs : List Process) (cells ds : List Cell) (ss ts : List Stack) (h :
         (λ j ne. ap (group_at qs) (wc.others j ne) ∙ stays j (slice_get cells j) ne refl)
         now_from now_to elsewhere;
   }
+
+-- ---- a process comes in
+
+pub push_old : {A : Type 0} (xs : List A) (x : A) (j : ℕ) → j ≢ length xs → slice_get (xs ++ x ∷ []) j ≡ slice_get xs j
+push_old [] x zero ne = absurd (ne refl)
+push_old [] x (suc j) ne = refl
+push_old (y ∷ ys) x zero ne = refl
+push_old (y ∷ ys) x (suc j) ne = push_old ys x j (λ same. ne (ap suc same))
+
+pub push_end : {A : Type 0} (xs : List A) (x : A) → slice_get (xs ++ x ∷ []) (length xs) ≡ Some x
+push_end [] x = refl
+push_end (y ∷ ys) x = push_end ys x
+
+pub none_behind : {A : Type 0} (xs : List A) → slice_get xs (length xs) ≡ None
+none_behind [] = refl
+none_behind (y ∷ ys) = none_behind ys
+
+module _ (ps : List Process) (cells : List Cell) (ss ts : List Stack) (h : AreSeated ps cells ss) (p : Process) (c : Cell) (t : Stack) (at_t : slice_get ss p.group ≡ Some t) (own_cell : p.cell ≡ length ps) (own_process : c.process ≡ length ps) (below : c.next ≡ t.first)
+    (now : stack_in ts p.group ≡ Some (length ps, suc t.count)) (others : (g : ℕ) → g ≢ p.group → stack_in ts g ≡ stack_in ss g) (many : length ts ≡ length ss) where
+  pub joined : AreSeated (ps ++ p ∷ []) (cells ++ c ∷ []) ts
+  joined =
+      let equal : length cells ≡ length ps = h.seats.many in
+      let new_p : slice_get (ps ++ p ∷ []) (length ps) ≡ Some p = push_end ps p in
+      let new_c : slice_get (cells ++ c ∷ []) (length ps) ≡ Some c = ap (slice_get (cells ++ c ∷ [])) (sym equal) ∙ push_end cells c in
+      let no_c : slice_get cells (length ps) ≡ None = ap (slice_get cells) (sym equal) ∙ none_behind cells in
+      let old_c : (j : ℕ) → j ≢ length ps → slice_get (cells ++ c ∷ []) j ≡ slice_get cells j = λ j ne. push_old cells c j (λ same. ne (same ∙ equal)) in
+      record {
+        seats = record {
+          seat = λ i x at. elim (cases_eq i (length ps)) [
+            | inl e ↦
+                let own : p ≡ x = same_some p x (sym new_p ∙ ap (slice_get (ps ++ p ∷ [])) (sym e) ∙ at) in
+                (c, ap (λ (y : Process). slice_get (cells ++ c ∷ []) y.cell) (sym own) ∙ ap (slice_get (cells ++ c ∷ [])) own_cell ∙ new_c, own_process ∙ sym e)
+            | inr ne ↦
+                let d = h.seats.seat i x (sym (push_old ps p i ne) ∙ at) in
+                let out : x.cell ≢ length ps = λ same. some_not_none d.0 (slice_get cells x.cell) d.1 (ap (slice_get cells) same ∙ no_c) in
+                (d.0, old_c x.cell out ∙ d.1, d.2)
+          ];
+          taken = λ j d at. elim (cases_eq j (length ps)) [
+            | inl e ↦
+                let own : c ≡ d = same_some c d (sym new_c ∙ ap (slice_get (cells ++ c ∷ [])) (sym e) ∙ at) in
+                (p, ap (λ (y : Cell). slice_get (ps ++ p ∷ []) y.process) (sym own) ∙ ap (slice_get (ps ++ p ∷ [])) own_process ∙ new_p, own_cell ∙ sym e)
+            | inr ne ↦
+                let x = h.seats.taken j d (sym (old_c j ne) ∙ at) in
+                let out : d.process ≢ length ps = λ same. some_not_none x.0 (slice_get ps d.process) x.1 (ap (slice_get ps) same ∙ none_behind ps) in
+                (x.0, push_old ps p d.process out ∙ x.1, x.2)
+          ];
+          many = omega (arith, length-append cells (c ∷ []), length-append ps (p ∷ []), equal);
+        };
+        within = λ i x at. elim (cases_eq i (length ps)) [
+          | inl e ↦
+              let own : p ≡ x = same_some p x (sym new_p ∙ ap (slice_get (ps ++ p ∷ [])) (sym e) ∙ at) in
+              let low : p.group < length ss = slice_get_within ss p.group t at_t in
+              subst (λ g. g < length ts) (ap (λ (y : Process). y.group) own) (subst (λ k. p.group < k) (sym many) low)
+          | inr ne ↦ subst (λ k. x.group < k) (sym many) (h.within i x (sym (push_old ps p i ne) ∙ at))
+        ];
+        stacks =
+            pushed (next_in cells) (next_in (cells ++ c ∷ [])) (group_in ps cells) (group_in (ps ++ p ∷ []) (cells ++ c ∷ [])) p.group (length ps) t.first
+            (ap (option_map (λ (y : Cell). y.next)) new_c ∙ ap Some below)
+            (λ j ne. ap (option_map (λ (y : Cell). y.next)) (old_c j ne))
+            (ap (group_at (ps ++ p ∷ [])) new_c ∙ ap (λ k. option_map (λ (y : Process). y.group) (slice_get (ps ++ p ∷ []) k)) own_process ∙ ap (option_map (λ (y : Process). y.group)) new_p)
+            (λ j ne. ap (group_at (ps ++ p ∷ [])) (old_c j ne) ∙ stays j (slice_get cells j) refl)
+            (stack_in ss) (stack_in ts) t.count h.stacks (ap (group_at ps) no_c) (ap (option_map (λ (y : Stack). (y.first, y.count))) at_t) now others;
+      }
+    where
+      stays : (j : ℕ) (o : Option Cell) → slice_get cells j ≡ o → group_at (ps ++ p ∷ []) o ≡ group_at ps o
+      stays j None at = refl
+      stays j (Some d) at =
+          let x = h.seats.taken j d at in
+          ap (option_map (λ (y : Process). y.group)) (push_old ps p d.process (λ same. some_not_none x.0 (slice_get ps d.process) x.1 (ap (slice_get ps) same ∙ none_behind ps)))
+
+-- ---- more groups
+
+pub widened : (ps : List Process) (cells : List Cell) (ss ts : List Stack) → AreSeated ps cells ss → length ss ≤ length ts → ((g : ℕ) → g < length ss → slice_get ts g ≡ slice_get ss g) → ((g : ℕ) (s : Stack) → length ss ≤ g → slice_get ts g ≡ Some s → s.count ≡ 0) → AreSeated ps cells ts
+widened ps cells ss ts h wider same empty = record {
+  seats = h.seats;
+  within = λ i p at. let low = h.within i p at in omega arith;
+  stacks = λ g s at.
+      let x = unmap (λ (y : Stack). (y.first, y.count)) (slice_get ts g) s at in
+      elim (below_or g (length ss)) [
+        | inl low ↦ h.stacks g s (ap (option_map (λ (y : Stack). (y.first, y.count))) (sym (same g low)) ∙ at)
+        | inr high ↦
+            let none : s.1 ≡ 0 = ap (λ (y : ℕ × ℕ). y.1) (sym x.2) ∙ empty g x.0 high x.1 in
+            record {
+              cells = [];
+              many = sym none;
+              linked = tt;
+              once = λ i j k a b. absurd (some_not_none k None a refl);
+              own = λ j. ((λ has. absurd (some_not_none j None has.1 refl)), λ is. absurd (no_group g j high is));
+            }
+      ];
+}
+  where
+    below_or : (g n : ℕ) → (g < n) ⊎ (n ≤ g)
+    below_or g zero = inr (omega arith)
+    below_or zero (suc n) = inl (omega arith)
+    below_or (suc g) (suc n) = elim (below_or g n) [ inl a ↦ inl (omega arith) | inr a ↦ inr (omega arith) ]
+
+    no_group : (g j : ℕ) → length ss ≤ g → group_in ps cells j ≡ Some g → ⊥
+    no_group g j high is = by (slice_get cells j) refl is
+      where
+        by : (o : Option Cell) → slice_get cells j ≡ o → group_at ps o ≡ Some g → ⊥
+        by None at e = some_not_none g None e refl
+        by (Some d) at e =
+            let p = unmap (λ (y : Process). y.group) (slice_get ps d.process) g e in
+            let low = h.within d.process p.0 p.1 in absurd (omega (arith, p.2))

@@ -1,10 +1,9 @@
 //! Processes by the group that each is in.
-ghost use Rattle.std.specs.Prelude.{◌≡◌, ◌==◌, ◌<◌, is_some, nat_eq, None, Some, IsSome, IfOk, OnOk, OnErr, max, ℕ, List};
-ghost use Rattle.cg_maps.specs.FiniteMap.{empty, get, len, set_at};
-ghost use Rattle.cg_places.specs.Located.{pids_of};
+ghost use Rattle.std.specs.Prelude.{◌≡◌, ◌≢◌, ◌↔◌, ◌<◌, is_some, None, Some, IsSome, IsTrue, IfOk, OnOk, OnErr, max, ℕ};
+ghost use Rattle.cg_maps.specs.FiniteMap.{empty, get, set_at};
 
-use crate::seats::{Cell, Process, Stack, carry};
-use std::alloc::Global;
+use crate::seats::{Cell, Process, Stack, carry, join, widen};
+use std::alloc::{AllocError, Global};
 use std::collections::HashMap;
 use std::marker::Model;
 
@@ -91,4 +90,55 @@ impl Places {
             group,
         );
     }
+
+    /// Makes room for that many groups, where there are fewer: numbers below that may be used. Nothing else changes, and
+    /// nothing at all where there is no memory for it.
+    pub fn make_room(&mut self, groups: u32) -> Result<(), AllocError>
+        ensures places { self.new.places ≡ self.old.places }
+        ensures groups { OnOk result (self.new.groups ≡ max self.old.groups groups) }
+        ensures err { OnErr result (self.new ≡ self.old) }
+    {
+        widen(&mut self.stacks, groups as usize)
+    }
+
+    /// Puts a process that isn't there into that group. Where there is no memory for it, all is as it was.
+    pub fn add(&mut self, pid: u32, group: u32) -> Result<(), AllocError>
+        requires absent { get self.old.places pid ≡ None }
+        requires group { group < self.old.groups }
+        ensures places { OnOk result (self.new.places ≡ set_at self.old.places pid (Some group)) }
+        ensures groups { self.new.groups ≡ self.old.groups }
+        ensures err { OnErr result (self.new ≡ self.old) }
+    {
+        let number = narrow(self.processes.len())?;
+        self.processes.reserve(1)?;
+        self.cells.reserve(1)?;
+        self.numbers.insert(pid, number)?;
+        join(
+            &mut self.processes,
+            &mut self.cells,
+            &mut self.stacks,
+            pid,
+            group,
+        );
+        Ok(())
+    }
+
+    /// Whether no process is in that group. Takes no memory.
+    pub fn is_empty(&self, group: u32) -> bool
+        requires { group < self.now.groups }
+        ensures { IsTrue result ↔ ((pid : ℕ) → get self.now.places pid ≢ Some group) }
+    {
+        self.stacks[group as usize].count == 0
+    }
+}
+
+// The number of one process more, where there are so many; an error where that is too many.
+fn narrow(number: usize) -> Result<u32, AllocError>
+    ensures value { IfOk result (λ n. n ≡ number) }
+    ensures below { IfOk result (λ n. n < 4294967294) }
+{
+    if number < 4294967294 {
+        return Ok(number as u32);
+    }
+    Err(AllocError)
 }

@@ -1,10 +1,12 @@
 //! Who sits where: each process has a cell, and each group a stack of the cells of its processes.
-ghost use Rattle.std.specs.Prelude.{◌≡◌, ◌≢◌, ◌+◌, ◌<◌, ℕ, length, suc, Some, slice_get, option_map};
+ghost use Rattle.std.specs.Prelude.{◌≡◌, ◌≢◌, ◌+◌, ◌<◌, ◌≤◌, ◌++◌, ◌∷◌, [], ℕ, length, max, suc, Some, OnOk, OnErr, slice_get, option_map, vec_len, vec_capacity};
 ghost use Rattle.cg_places.specs.declared.seats.Process.{Process};
 ghost use Rattle.cg_places.specs.declared.seats.Cell.{Cell};
 ghost use Rattle.cg_places.specs.declared.seats.Stack.{Stack};
 ghost use Rattle.cg_places.specs.Lists.{WritesAt};
 ghost use Rattle.cg_places.specs.Seats.{who, next_in, group_in, stack_in, HaveSeats, AreSeated};
+
+use std::alloc::AllocError;
 
 // A process.
 #[derive(Drop)]
@@ -26,7 +28,7 @@ pub(crate) struct Cell {
 }
 
 // The stack of a group.
-#[derive(Drop)]
+#[derive(Clone, Copy)]
 pub(crate) struct Stack {
     // The cell on top; of an empty stack, any.
     pub(crate) first: u32,
@@ -141,4 +143,52 @@ pub(crate) fn carry(
     trade(processes, cells, number, top);
     shift(stacks, cells, from, to);
     set_group(processes, number, to);
+}
+
+// Puts a process that is in that group behind the others. There is room for it.
+pub(crate) fn join(
+    processes: &mut Vec<Process>,
+    cells: &mut Vec<Cell>,
+    stacks: &mut [Stack],
+    pid: u32,
+    group: u32,
+)
+    requires seated { AreSeated processes.old.items cells.old.items stacks.old }
+    requires group { group < length stacks.old }
+    requires few { length processes.old.items < 4294967295 }
+    requires room { (vec_len processes.old < vec_capacity processes.old) × (vec_len cells.old < vec_capacity cells.old) }
+    ensures seated { AreSeated processes.new.items cells.new.items stacks.new }
+    ensures processes { processes.new.items ≡ processes.old.items ++ record { pid = pid; group = group; cell = length processes.old.items } ∷ [] }
+    ensures length { length stacks.new ≡ length stacks.old }
+{
+    let number = processes.len() as u32;
+    let below = stacks[group as usize].first;
+    let count = stacks[group as usize].count;
+    processes.push_reserved(Process {
+        pid,
+        group,
+        cell: number,
+    });
+    cells.push_reserved(Cell {
+        process: number,
+        next: below,
+    });
+    stacks[group as usize] = Stack {
+        first: number,
+        count: count + 1,
+    };
+}
+
+// Makes room for that many groups, where there are fewer. The new ones are empty.
+pub(crate) fn widen(stacks: &mut Vec<Stack>, groups: usize) -> Result<(), AllocError>
+    ensures longer { length stacks.old.items ≤ length stacks.new.items }
+    ensures same { (g : ℕ) → g < length stacks.old.items → slice_get stacks.new.items g ≡ slice_get stacks.old.items g }
+    ensures empty { (g : ℕ) (s : Stack) → length stacks.old.items ≤ g → slice_get stacks.new.items g ≡ Some s → s.count ≡ 0 }
+    ensures groups { OnOk result (length stacks.new.items ≡ max (length stacks.old.items) groups) }
+    ensures err { OnErr result (stacks.new.items ≡ stacks.old.items) }
+{
+    if groups <= stacks.len() {
+        return Ok(());
+    }
+    stacks.resize(groups, Stack { first: 0, count: 0 })
 }
