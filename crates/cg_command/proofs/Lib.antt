@@ -4,5 +4,4 @@ mod Applying
 mod Changing
 mod Emptying
 pub mod Proper
-mod Used
 pub mod Variants

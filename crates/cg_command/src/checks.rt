@@ -4,8 +4,7 @@ ghost use Rattle.cg_maps.specs.FiniteMap.{is_nonempty};
 ghost use Rattle.cg_maps.specs.FiniteSet.{FiniteSet};
 ghost use Rattle.cg_model.specs.Command as model;
 ghost use Rattle.cg_model.specs.Command.{IsAccepted};
-ghost use Rattle.cg_model.specs.Control.{used_below};
-ghost use Rattle.cg_model.specs.Derived.{children, processes};
+ghost use Rattle.cg_model.specs.Derived.{processes};
 ghost use Rattle.cg_model.specs.Effect.{effect};
 ghost use Rattle.cg_model.specs.Sound.{admits};
 ghost use Rattle.cg_model.specs.System.{Refuse};
@@ -15,7 +14,7 @@ use crate::limits::{too_deep, too_many};
 use cg_avail::plan;
 use cg_derive::{available, check_file, parent_settings};
 use cg_name::{Path, Refusal};
-use cg_text::{ControlOps, Controllers, FileName, Settings};
+use cg_text::{ControlOps, FileName, Settings};
 use cg_tree::Tree;
 
 // The path isn't the root's, its parent is there, it is free, and no group above it is full or too far above.
@@ -54,7 +53,7 @@ pub(crate) fn check_remove(path: &Path, tree: &Tree) -> Result<(), Refusal>
     if !tree.find(path) {
         return Err(Refusal::NoGroup);
     }
-    if has_children(path, tree) {
+    if tree.has_children(path) {
         return Err(Refusal::HasChildren);
     }
     if has_processes(path, tree) {
@@ -97,7 +96,7 @@ pub(crate) fn check_subtree(path: &Path, ops: ControlOps, tree: &Tree) -> Result
         available,
         settings.control,
         ops,
-        used_below(path, tree),
+        tree.control_below(path),
         has_processes(path, tree),
         path.is_root(),
     )?;
@@ -165,27 +164,9 @@ fn admits(path: &Path, settings: &Settings) -> bool
     path.is_root() || settings.control.is_empty()
 }
 
-// Whether the group has a child.
-fn has_children(path: &Path, tree: &Tree) -> bool
-    ensures { result ≡ is_nonempty (children tree.now.tree path.now) }
-{
-    tree.children(path).next().is_some()
-}
-
 // Whether the group has a process of its own.
 fn has_processes(path: &Path, tree: &Tree) -> bool
     ensures { result ≡ is_nonempty (processes tree.now.tree path.now) }
 {
     tree.pids().any(|pid| tree.is_at(pid, path))
-}
-
-// The controllers that a child passes on.
-fn used_below(path: &Path, tree: &Tree) -> Controllers
-    ensures { result ≡ used_below (children tree.now.tree path.now) }
-{
-    let mut used = Controllers::empty();
-    for (_child, settings) in tree.children(path) {
-        used = used.union(&settings.control);
-    }
-    used
 }

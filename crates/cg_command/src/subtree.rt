@@ -80,7 +80,7 @@ fn add_emptied(
     if !goes {
         return Ok(());
     }
-    for (child, settings) in tree.children(path) {
+    for (child, settings) in tree.children(alloc, path)? {
         if !settings.cpus.is_empty() {
             inverse.push(Change::Cpus {
                 path: child.to_path(alloc)?,

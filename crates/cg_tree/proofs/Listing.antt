@@ -1,27 +1,21 @@
 -- Trees to which groups and places are added.
-use Rattle.std.proofs.Common.{◌≡◌, ℕ, List, Option, Some, sym, ap, subst, ◌∙◌}
+use Rattle.std.proofs.Common.{◌≡◌, ℕ, List, Some, ap, subst, ◌∙◌}
 use Rattle.std.specs.Ordering.{nat_cmp}
 use Rattle.std.specs.BTreeMap.{BTreeMap, IsOrdered}
 use Rattle.std.specs.Cmp.{nat_cmp_total}
 use Rattle.std.specs.FinMap.{nat_cmp-IsAntisymmetric}
 use Rattle.std.specs.List.{AllByRecursion}
-use Rattle.cg_maps.specs.FiniteMap.{FiniteMap, domain, empty, entries, from_entries, get}
+use Rattle.cg_maps.specs.FiniteMap.{FiniteMap, domain, entries, from_entries, get}
 use Rattle.cg_maps.proofs.Maps.{each_entry}
 use Rattle.cg_maps.proofs.TreeMaps.{entries-view}
 use Rattle.cg_name.specs.Path.{Path, path_cmp}
-use Rattle.cg_name.specs.Order.{path_cmp_total, path_cmp_exact}
 use Rattle.cg_text.specs.declared.settings.Settings.{Settings}
 use Rattle.cg_model.specs.Tree.{Tree}
 use Rattle.cg_world.proofs.Trees.{with_groups}
-use Rattle.cg_world.proofs.Puts.{puts, puts-entries}
 use Rattle.cg_tree.specs.declared.tree.Tree.TheInside.{Inside}
 use Rattle.cg_tree.specs.Inside.{room_of}
-use Rattle.cg_tree.specs.Present.{present, held_entries}
+use Rattle.cg_tree.specs.Present.{present}
 use Rattle.cg_tree.specs.Room.{TreeWithRoom}
-use Rattle.cg_tree.proofs.Presence.{entries-present}
-
-pub present_listed : (m : FiniteMap path_cmp (Option Settings)) → puts empty (held_entries (entries m)) ≡ present m
-present_listed m = ap (puts empty) (sym (entries-present m)) ∙ puts-entries path_cmp_total path_cmp_exact (present m)
 
 -- the entries are in the map
 abbrev pub AreIn : BTreeMap ℕ Path → List (ℕ × Path) → Type 0

@@ -1,5 +1,5 @@
 -- The places as they are kept, read and written.
-use Rattle.std.proofs.Common.{◌≡◌, ℕ, zero, suc, true, List, [], ◌∷◌, map, slice_get, Option, Some, None, option_map, IsSome, is_some, refl, sym, ap, ◌∙◌}
+use Rattle.std.proofs.Common.{◌≡◌, ℕ, zero, suc, true, List, [], ◌∷◌, map, filter, slice_get, Option, Some, None, option_map, IsSome, is_some, refl, sym, ap, ◌∙◌}
 use Rattle.std.specs.Ordering.{eq_by_cmp, nat_cmp}
 use Rattle.std.specs.BTreeMap as tree
 use Rattle.std.specs.BTreeMap.{BTreeMap, IsOrdered, is_at}
@@ -42,6 +42,10 @@ no_place_written t k p h =
     let same : replaced (place_of (room_of t).tree k) (Some p) ≡ place_of (room_of t).tree k = ap (λ w. replaced w (Some p)) (sym none) ∙ none in
     ap (λ n. record { tree = record (room_of t).tree { places = n }; entries = (room_of t).entries })
     (sym (ap (set_at (room_of t).tree.places k) same ∙ set_same nat_cmp_total nat_cmp-IsAntisymmetric (room_of t).tree.places k))
+
+pub all_kept : {A : Type 0} (xs : List A) → filter (λ x. true) xs ≡ xs
+all_kept [] = refl
+all_kept (x ∷ xs) = ap (λ z. x ∷ z) (all_kept xs)
 
 keys_mapped : (es : List (ℕ × Path)) → keys_of es ≡ map (λ e. e.0) es
 keys_mapped [] = refl

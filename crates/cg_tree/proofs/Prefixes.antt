@@ -1,12 +1,12 @@
 -- What holds from a path up to the root.
-use Rattle.std.proofs.Common.{◌≡◌, true, [], ◌∷◌, Option, is_some, refl, sym, subst}
+use Rattle.std.proofs.Common.{◌≡◌, false, true, [], ◌∷◌, Option, is_some, refl, sym, ap, subst, ◌∙◌, true≢false}
 use Rattle.std.proofs.lemmas.Bool.{false≢true, and_parts, and_from}
-use Rattle.cg_maps.proofs.Maps as maps
-use Rattle.cg_name.specs.Name.{Name, same_name}
-use Rattle.cg_name.specs.Order.{name_cmp_total, name_cmp_exact}
-use Rattle.cg_name.specs.Path.{Path, is_above, is_parent, along}
+use Rattle.cg_name.specs.Name.{Name}
+use Rattle.cg_name.specs.Path.{Path, is_above, is_parent, is_root, along}
 use Rattle.cg_name.proofs.Packing.{same_name-is, same_name-itself}
 use Rattle.cg_model.specs.Tree.{last_of}
+use Rattle.cg_path_tree.specs.Nodes.{parent_path}
+use Rattle.cg_path_tree.proofs.Parents.{below_parent, parent_is}
 
 -- what holds of a path holds of its parent
 abbrev pub HoldsOfParents : (Path → Type 0) → Type 0
@@ -45,3 +45,11 @@ above_child f P found h [] (m ∷ (k ∷ q)) e s =
 above_child f P found h (n ∷ p) (m ∷ (k ∷ q)) e s =
     let same : m ≡ n = sym (same_name-is n m (and_parts _ _ e).0) in
     subst (λ l. P (l ∷ p)) same (above_child (λ r. f (m ∷ r)) (λ r. P (m ∷ r)) (λ r. found (m ∷ r)) (above_below P m h) p (k ∷ q) (and_parts _ _ e).1 s)
+
+-- the last of what stands along a path is the parent's
+pub parent_along : {X : Type 0} (f : Path → Option X) (p : Path) → is_root p ≡ false → last_of (along f p) ≡ f (parent_path p)
+parent_along f [] h = absurd (true≢false h)
+parent_along f (n ∷ []) h = refl
+parent_along f (n ∷ (m ∷ q)) h =
+    let next : n ∷ parent_path (m ∷ q) ≡ parent_path (n ∷ (m ∷ q)) = parent_is (n ∷ parent_path (m ∷ q)) (n ∷ (m ∷ q)) (and_from _ _ (same_name-itself n) (below_parent (m ∷ q) refl)) in
+    parent_along (λ r. f (n ∷ r)) (m ∷ q) refl ∙ ap f next

@@ -77,6 +77,13 @@ module _ {K X : Type 0} {R : K → K → Ordering} (o : IsTotalOrder R) (same : 
       ∙ ap (cond (eq_by_cmp R q k) (option_flatten w)) (sym (get-present m q))
       ∙ sym (get-set_at o same (present m) k (option_flatten w) q))
 
+  -- a write where nothing is held, before and behind, keeps what is held
+  pub present_kept : (m : FiniteMap R (Option X)) (k : K) (w : Option (Option X)) → option_flatten (get m k) ≡ None → option_flatten w ≡ None → present (set_at m k w) ≡ present m
+  present_kept m k w before behind =
+      present-set m k w
+      ∙ ap (set_at (present m) k) (behind ∙ sym before ∙ sym (get-present m k))
+      ∙ set_same o same (present m) k
+
 module _ {K X : Type 0} {R : K → K → Ordering} (o : IsTotalOrder R) (same : IsAntisymmetric R) where
   -- and as it changes the keys
   pub domain-set : (m : FiniteMap R X) (k : K) (w : Option X) → domain (set_at m k w) ≡ set_at (domain m) k (nothing w)

@@ -1,20 +1,27 @@
 -- What the fields mean, as the map of the groups is read and written.
 use Rattle.std.proofs.lemmas.Bool.{false≢true, le-leb}
-use Rattle.std.proofs.Common.{◌≡◌, ℕ, ◌≤◌, length, take, IsSome, true, false, Option, Some, None, is_some, refl, sym, ap, ◌∙◌, cond}
+use Rattle.std.proofs.Common.{◌≡◌, ℕ, ◌≤◌, length, take, IsSome, true, false, Option, Some, None, is_some, not, ◌&&◌, ◌||◌, refl, sym, ap, ◌∙◌, cond}
 use Rattle.std.specs.Option.{option_flatten}
 use Rattle.cg_maps.specs.FiniteMap.{FiniteMap, get, set_at, domain}
 use Rattle.cg_maps.proofs.Maps.{set_same}
-use Rattle.cg_name.specs.Path.{Path, path_cmp}
+use Rattle.cg_name.specs.Path.{Path, path_cmp, is_parent, is_root}
 use Rattle.cg_name.specs.Order.{path_cmp_total, path_cmp_exact}
 use Rattle.cg_text.specs.declared.settings.Settings.{Settings}
-use Rattle.cg_model.specs.Tree.{Tree, group}
+use Rattle.cg_model.specs.Tree.{Tree, group, parent_group}
 use Rattle.cg_tree.specs.declared.tree.Tree.TheInside.{Inside}
 use Rattle.cg_tree.specs.Inside.{room_of}
 use Rattle.cg_tree.specs.Prefix.{prefix_group}
 use Rattle.cg_tree.specs.Present.{present}
-use Rattle.cg_tree.specs.Room.{TreeWithRoom, has_entry, with_entry, without_dead}
-use Rattle.cg_tree.proofs.Presence.{get-present, present-set, is_some-domain, domain-set, domain-replaced}
+use Rattle.cg_tree.specs.Room.{TreeWithRoom, has_entry, may_have_entry, with_entry, without_dead, MaySweepIfDead}
+use Rattle.cg_tree.proofs.Presence.{get-present, present-set, present_kept, is_some-domain, domain-set, domain-replaced}
+use Rattle.cg_tree.proofs.Climbing.{parent_is_above}
+use Rattle.cg_tree.proofs.Prefixes.{parent_along}
 use Rattle.cg_tree.proofs.Rooting.{with_group, with_entries}
+use Rattle.cg_path_tree.specs.Nodes.{parent_path}
+
+pub none_there : {X : Type 0} (w : Option X) → is_some w ≡ false → w ≡ None
+none_there None e = refl
+none_there (Some x) e = cc
 
 -- the settings at a path, and whether there is an entry
 pub settings_there : (t : Inside) (u : TreeWithRoom) → room_of t ≡ u → (p : Path) (w : Option (Option Settings)) → w ≡ get t.groups p → option_flatten w ≡ group u.tree p
@@ -34,24 +41,15 @@ module _ (t : Inside) (p : Path) (g : FiniteMap path_cmp (Option Settings)) wher
       let entries : domain g ≡ domain t.groups = ap domain e ∙ domain-replaced path_cmp_total path_cmp_exact t.groups p s h in
       λ i. record { tree = record (room_of t).tree { groups = groups i }; entries = entries i }
 
-  -- a write where there is no group, before and behind, keeps the groups
-  module _ (w : Option (Option Settings)) (e : g ≡ set_at t.groups p w) (before : option_flatten (get t.groups p) ≡ None) (behind : option_flatten w ≡ None) where
-    pub groups_kept : present g ≡ present t.groups
-    groups_kept =
-        ap present e
-        ∙ present-set path_cmp_total path_cmp_exact t.groups p w
-        ∙ ap (set_at (present t.groups) p) (behind ∙ sym before ∙ sym (get-present path_cmp_total path_cmp_exact t.groups p))
-        ∙ set_same path_cmp_total path_cmp_exact (present t.groups) p
-
   pub entry_made : g ≡ set_at t.groups p (Some None) → get t.groups p ≡ None → room_of with_map ≡ with_entries (room_of t) (set_at (domain t.groups) p (Some tt))
   entry_made e h =
-      let groups : present g ≡ present t.groups = groups_kept (Some None) e (ap option_flatten h) refl in
+      let groups : present g ≡ present t.groups = ap present e ∙ present_kept path_cmp_total path_cmp_exact t.groups p (Some None) (ap option_flatten h) refl in
       let entries : domain g ≡ set_at (domain t.groups) p (Some tt) = ap domain e ∙ domain-set path_cmp_total path_cmp_exact t.groups p (Some None) in
       λ i. record { tree = record (room_of t).tree { groups = groups i }; entries = entries i }
 
   pub entry_removed : g ≡ set_at t.groups p None → group (room_of t).tree p ≡ None → room_of with_map ≡ with_entries (room_of t) (set_at (domain t.groups) p None)
   entry_removed e h =
-      let groups : present g ≡ present t.groups = groups_kept None e (settings_there t (room_of t) refl p _ refl ∙ h) refl in
+      let groups : present g ≡ present t.groups = ap present e ∙ present_kept path_cmp_total path_cmp_exact t.groups p None (settings_there t (room_of t) refl p _ refl ∙ h) refl in
       let entries : domain g ≡ set_at (domain t.groups) p None = ap domain e ∙ domain-set path_cmp_total path_cmp_exact t.groups p None in
       λ i. record { tree = record (room_of t).tree { groups = groups i }; entries = entries i }
 
@@ -62,10 +60,6 @@ entry_same u p h = ap (set_at u.entries p) (sym (there (get u.entries p) h)) ∙
     there : (w : Option (Unit {0})) → is_some w ≡ true → w ≡ Some tt
     there None e = cc
     there (Some x) e = refl
-
-pub none_there : {X : Type 0} (w : Option X) → is_some w ≡ false → w ≡ None
-none_there None e = refl
-none_there (Some x) e = cc
 
 -- the entry of no group goes
 pub dead_swept : (u : TreeWithRoom) (p : Path) → group u.tree p ≡ None → without_dead u p ≡ set_at u.entries p None
@@ -80,3 +74,19 @@ nothing_written t p None e room =
 
 pub prefix_found : (T : Tree) (p : Path) (n : ℕ) → n ≤ length p → group T (take n p) ≡ prefix_group T p n
 prefix_found T p n h = ap (λ b. cond b (group T (take n p)) None) (sym (le-leb n (length p) h))
+
+-- where an entry may be made, the parent has one
+pub parent_has_entry : (t : Inside) (u : TreeWithRoom) → room_of t ≡ u → (p : Path) → may_have_entry u.tree p ≡ true → is_root p ≡ false → IsSome (get t.groups (parent_path p))
+parent_has_entry t u is p may deep =
+    let group_there : is_some (parent_group u.tree p) ≡ true = sym (ap (λ b. b || is_some (parent_group u.tree p)) deep) ∙ may in
+    flattened (get t.groups (parent_path p)) (ap is_some (settings_there t u is (parent_path p) _ refl ∙ sym (parent_along (group u.tree) p deep)) ∙ group_there)
+  where
+    flattened : (w : Option (Option Settings)) → is_some (option_flatten w) ≡ true → is_some w ≡ true
+    flattened None h = h
+    flattened (Some x) h = refl
+
+-- no entry is right below one that may be swept
+pub none_right_below : (t : Inside) (u : TreeWithRoom) → room_of t ≡ u → (p : Path) → group u.tree p ≡ None → MaySweepIfDead u p → IsSome (get t.groups p) → (q : Path) → is_parent p q ≡ true → get t.groups q ≡ None
+none_right_below t u is p none may some q h =
+    let dead : has_entry u p && not (is_some (group u.tree p)) ≡ true = λ i. (sym (entry_there t u is p) ∙ some) i && not (is_some (none i)) in
+    none_there _ (entry_there t u is q ∙ (may dead).below q (parent_is_above p q h))

@@ -1,11 +1,13 @@
--- What the entries of the map of groups mean.
-use Rattle.std.specs.Prelude.{◌≡◌, ℕ, ◌==◌, ◌++◌, List, [], Option, Some, None, IfSome, filter, length}
-use Rattle.cg_maps.specs.FiniteMap.{FiniteMap, entries, get}
-use Rattle.cg_name.specs.Path.{Path, path_cmp, is_prefix}
+-- What the nodes of the tree of groups hold: the settings of each group, and how many groups are below each path.
+use Rattle.std.specs.Prelude.{◌≡◌, ◌<◌, ◌+◌, ◌-◌, ◌^◌, ℕ, Bool, true, false, cond, Option, Some}
+use Rattle.cg_maps.specs.FiniteMap.{FiniteMap, get, len, retain}
+use Rattle.cg_name.specs.Path.{Path, path_cmp, is_above, is_parent}
+use Rattle.cg_path_tree.specs.declared.node.NodeKey.{NodeKey}
+use Rattle.cg_path_tree.specs.Nodes.{Nodes, path_of}
 use Rattle.cg_text.specs.declared.settings.Settings.{Settings}
 use Rattle.cg_tree.specs.declared.entry.Entry.{Entry}
-use Rattle.cg_tree.specs.Present.{held_entries}
-use Rattle.cg_tree.specs.Seen.{seen, seen_map}
+use Rattle.cg_tree.specs.Present.{present}
+use Rattle.cg_tree.specs.Seen.{seen_map}
 
 abbrev pub settings_of : Entry → Option Settings
 settings_of e = e.settings
@@ -14,25 +16,43 @@ settings_of e = e.settings
 abbrev pub groups_in : FiniteMap path_cmp Entry → FiniteMap path_cmp (Option Settings)
 groups_in m = seen_map settings_of m
 
--- each entry has the place behind its own path
-abbrev pub AreOwn : FiniteMap path_cmp Entry → Type 0
-AreOwn m = (p : Path) → IfSome (get m p) (λ e. e.behind ≡ p)
+-- the number of groups at paths that pass a test
+abbrev pub group_count : FiniteMap path_cmp (Option Settings) → (Path → Bool) → ℕ
+group_count m test = len (retain (present m) test)
 
--- the entries at paths of d names
-abbrev pub of_depth : {X : Type 0} → ℕ → List (Path × X) → List (Path × X)
-of_depth d es = filter (λ e. length e.0 == d) es
+-- the counts of an entry are those of its path
+pub record IsCounted (m : FiniteMap path_cmp (Option Settings)) (p : Path) (e : Entry) : Type 0 where
+  pub below : e.below ≡ group_count m (is_above p)
+  pub right_below : e.right_below ≡ group_count m (is_parent p)
 
--- the entries of paths with d names below p, of which some have passed
-pub record IsRightBelow (m : FiniteMap path_cmp Entry) (p : Path) (d : ℕ) (rest : List (Path × Entry)) : Type 0 where
-  pub own : AreOwn m
-  pub passed : List (Path × Entry)
-  pub split : of_depth d (filter (λ e. is_prefix p e.0) (entries m)) ≡ passed ++ of_depth d rest
+-- each entry has the counts of its path
+abbrev pub AreCounted : FiniteMap path_cmp Entry → Type 0
+AreCounted m = (p : Path) (e : Entry) → get m p ≡ Some e → IsCounted (groups_in m) p e
 
--- the groups among the entries
-abbrev pub held : List (Path × Entry) → List (Path × Settings)
-held es = held_entries (seen settings_of es)
+-- ---- a group that comes or goes
 
--- the same, if there are any
-abbrev pub some_held : Option (List (Path × Entry)) → List (Path × Settings)
-some_held None = []
-some_held (Some es) = held es
+-- the count with one more or one less
+abbrev pub counted : Bool → ℕ → ℕ
+counted comes n = cond comes (n + 1) (n - 1)
+
+-- the count can be so changed
+abbrev pub CanCount : Bool → ℕ → Type 0
+CanCount true n = n + 1 < 2 ^ 64
+CanCount false n = 0 < n
+
+-- the entry of q, as the group at p comes or goes: counted among those below, and among those right below
+abbrev pub with_below : Bool → Path → Path → Entry → Entry
+with_below comes p q e = record e { below = cond (is_above q p) (counted comes e.below) e.below }
+
+abbrev pub with_right_below : Bool → Path → Path → Entry → Entry
+with_right_below comes p q e = record e { right_below = cond (is_parent q p) (counted comes e.right_below) e.right_below }
+
+-- ---- nodes
+
+-- the path of a node
+abbrev pub path_at : Nodes Entry → NodeKey → Path
+path_at nodes key = path_of nodes.keys key
+
+-- what a node holds
+abbrev pub entry_at : Nodes Entry → NodeKey → Option Entry
+entry_at nodes key = get nodes.values (path_at nodes key)

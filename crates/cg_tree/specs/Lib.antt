@@ -1,4 +1,5 @@
 pub mod Entries
+pub mod Listing
 pub mod Seen
 pub mod Code
 pub mod Edit

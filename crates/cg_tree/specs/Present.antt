@@ -1,5 +1,5 @@
 -- A map whose keys may hold nothing, as the map of what is held.
-use Rattle.std.specs.Prelude.{Bool, true, false, ◌&&◌, T, List, [], ◌∷◌, Option, Some, None}
+use Rattle.std.specs.Prelude.{T, List, [], ◌∷◌, Option, Some, None}
 use Rattle.std.specs.declared.cmp.Ordering.{Ordering}
 use Rattle.std.specs.Ordering.{is_lt}
 use Rattle.std.specs.FinMap.Entries.{is_sorted, below_all}

@@ -1,10 +1,12 @@
 -- A tree with room: the tree of the definitions, and which paths have an entry (this project's own choice).
-use Rattle.std.specs.Prelude.{◌≡◌, ℕ, Bool, true, not, ◌&&◌, ◌||◌, cond, Option, Some, None, is_some}
+use Rattle.std.specs.Prelude.{◌≡◌, ℕ, Bool, false, true, not, ◌&&◌, ◌||◌, cond, Option, Some, None, IsSome, is_some}
 use Rattle.std.specs.Ordering.{nat_cmp}
 use Rattle.cg_maps.specs.FiniteMap.{FiniteMap, get, set_at}
 use Rattle.cg_name.specs.Path.{Path, path_cmp, is_root, is_above}
 use Rattle.cg_model.specs.Room.{MaySweep}
 use Rattle.cg_model.specs.Tree.{Tree, group, place_of, parent_group}
+use Rattle.cg_path_tree.specs.Nodes.{parent_path}
+use Rattle.cg_text.specs.declared.settings.Settings.{Settings}
 use Rattle.cg_world.specs.Representable.{IsPid, IsRepresentable}
 
 pub record TreeWithRoom : Type 0 where
@@ -48,3 +50,7 @@ without_dead t p = cond (is_some (group t.tree p)) t.entries (set_at t.entries p
 -- the keys are PIDs
 abbrev pub ArePids : FiniteMap nat_cmp Path → Type 0
 ArePids m = (k : ℕ) (p : Path) → get m k ≡ Some p → IsPid k
+
+-- each group but the root has its parent
+abbrev pub HaveParents : FiniteMap path_cmp Settings → Type 0
+HaveParents m = (p : Path) → is_root p ≡ false → IsSome (get m p) → IsSome (get m (parent_path p))

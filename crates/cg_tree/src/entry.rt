@@ -1,12 +1,34 @@
-// The entries of a tree's map of groups.
-use cg_path_map::Behind;
+// What a tree has at a path.
+ghost use Rattle.std.specs.Prelude.{◌≡◌};
+ghost use Rattle.cg_tree.specs.Entries.{counted, CanCount};
+
 use cg_text::Settings;
 
-// What the map has at a path.
-#[derive(Drop)]
+// The settings of a group, and how many groups are below.
 pub(crate) struct Entry {
     // The settings of the group, and `None` where the path is dead.
     pub(crate) settings: Option<Settings>,
-    // The place behind the paths that begin with this one.
-    pub(crate) behind: Behind,
+    // How many groups are below the path.
+    pub(crate) below: usize,
+    // How many of them are right below it.
+    pub(crate) right_below: usize,
+}
+
+// By hand, so that whoever drops one calls this, and doesn't drop each thing in it: that makes proofs shorter.
+impl Drop for Entry {
+    fn drop(self) {
+        let Entry {
+            settings: _,
+            below: _,
+            right_below: _,
+        } = self;
+    }
+}
+
+// The count with one group more, where it comes, and else with one less.
+pub(crate) fn counted(count: usize, comes: bool) -> usize
+    requires { CanCount comes count }
+    ensures { result ≡ counted comes count }
+{
+    if comes { count + 1 } else { count - 1 }
 }

@@ -1,22 +1,33 @@
-// The map of the groups, which tells of each path where what lies below it ends.
-ghost use Rattle.std.specs.Prelude.{◌≡◌, ◌==◌, ◌+◌, is_some, take, filter, length, IsSome, IfSome, OnErr, OnOk, Some, None};
-ghost use Rattle.cg_maps.specs.FiniteMap.{empty, entries, get, len, set_at};
-ghost use Rattle.cg_name.specs.Path.{is_prefix};
-ghost use Rattle.cg_tree.specs.Entries.{of_depth, settings_of};
-ghost use Rattle.cg_tree.specs.Seen.{seen};
+// The groups of a tree and its dead paths, each found by one look-up, with how many groups are below.
+ghost use Rattle.std.specs.Prelude.{◌≡◌, false, is_some, true, take, IsSome, IfOk, OnErr, OnOk, Some, None};
+ghost use Rattle.std.specs.Option.{option_flatten};
+ghost use Rattle.cg_maps.specs.FiniteMap.{empty, entries, get, is_nonempty, retain, set_at};
+ghost use Rattle.cg_model.specs.Control.{used_below};
+ghost use Rattle.cg_name.specs.Path.{is_above, is_parent, is_root};
+ghost use Rattle.cg_path_tree.specs.Nodes.{parent_path};
+ghost use Rattle.cg_tree.specs.Entries.{group_count};
+ghost use Rattle.cg_tree.specs.Present.{present};
 
+use crate::counting::{add_dead, put};
 use crate::entry::Entry;
-use crate::right_below::RightBelow;
+use crate::listed::{Listed, passed_on};
+use crate::looking::{entry, prefix_entry};
 use cg_name::Path;
-use cg_path_map::{Behind, Entries, PathMap, Subtree};
-use cg_text::Settings;
+use cg_path_tree::PathTree;
+use cg_text::{Controllers, Settings};
 use std::alloc::{AllocError, Global};
 use std::marker::Model;
 
 // The settings of each group, and `None` at each dead path.
-#[derive(Drop)]
 pub(crate) struct Groups {
-    by_path: PathMap<Entry>,
+    nodes: PathTree<Entry>,
+}
+
+// By hand, so that whoever drops one calls this, and doesn't drop each thing in it: that makes proofs shorter.
+impl Drop for Groups {
+    fn drop(self) {
+        let Groups { nodes: _ } = self;
+    }
 }
 
 impl Model for Groups {
@@ -27,15 +38,15 @@ impl Model for Groups {
     ghost use Rattle.cg_model.specs.Code.{path_code, settings_code};
     ghost use Rattle.cg_name.specs.Path.{path_cmp};
     ghost use Rattle.cg_text.specs.declared.settings.Settings.{Settings};
-    ghost use Rattle.cg_tree.specs.Entries.{groups_in, AreOwn};
+    ghost use Rattle.cg_tree.specs.Entries.{groups_in, AreCounted};
 
     ghost Value = { FiniteMap path_cmp (Option Settings) };
 
     ghost coded = { map_code path_code (coded_option settings_code) };
 
-    ghost view = { λ g. groups_in g.by_path };
+    ghost view = { λ g. groups_in g.nodes.values };
 
-    ghost invariant = { λ g. AreOwn g.by_path };
+    ghost invariant = { λ g. AreCounted g.nodes.values };
 }
 
 impl Groups {
@@ -44,51 +55,49 @@ impl Groups {
         ensures { result ≡ empty }
     {
         Groups {
-            by_path: PathMap::new(alloc),
+            nodes: PathTree::new(alloc),
         }
-    }
-
-    // How many entries the map has.
-    pub(crate) fn len(&self) -> usize
-        ensures { result ≡ len self.now }
-    {
-        self.by_path.len()
     }
 
     // What the map has at the path.
     pub(crate) fn get(&self, path: &Path) -> Option<Option<Settings>>
         ensures { result ≡ get self.now path.now }
     {
-        Some(self.by_path.get(path)?.settings)
+        Some(entry(&self.nodes, path)?.settings)
     }
 
     // What the map has at the path of the first `depth` names, or of all where there are fewer.
     pub(crate) fn get_prefix(&self, path: &Path, depth: u32) -> Option<Option<Settings>>
         ensures { result ≡ get self.now (take depth path.now) }
     {
-        Some(self.by_path.get_prefix(path, depth)?.settings)
+        Some(prefix_entry(&self.nodes, path, depth)?.settings)
     }
 
     // Whether the map has an entry at the path.
     pub(crate) fn contains(&self, path: &Path) -> bool
         ensures { result ≡ is_some (get self.now path.now) }
     {
-        self.by_path.contains(path)
+        self.nodes.laws();
+        self.nodes.find(path).is_some()
     }
 
-    // Makes an entry at the path; an error where there is no memory for it, which leaves the map as it was.
+    // Makes an entry at a path that has none, the root's or one whose parent has an entry; an error where there is no
+    // memory for it, which leaves the map as it was.
     pub(crate) fn insert(
         &mut self,
         alloc: Global,
         path: &Path,
         settings: Option<Settings>,
     ) -> Result<(), AllocError>
+        requires absent { get self.old path.now ≡ None }
+        requires parent { is_root path.now ≡ false → IsSome (get self.old (parent_path path.now)) }
         ensures ok { OnOk result (self.new ≡ set_at self.old path.now (Some settings)) }
         ensures err { OnErr result (self.new ≡ self.old) }
     {
-        let behind = Behind::new(alloc, path)?;
-        self.by_path
-            .insert(alloc, path, Entry { settings, behind })?;
+        self.nodes.laws();
+        let key = add_dead(&mut self.nodes, alloc, path)?;
+        self.nodes.laws();
+        put(&mut self.nodes, key, settings);
         Ok(())
     }
 
@@ -97,43 +106,75 @@ impl Groups {
         ensures there { IsSome (get self.old path.now) → self.new ≡ set_at self.old path.now (Some settings) }
         ensures absent { get self.old path.now ≡ None → self.new ≡ self.old }
     {
-        if let Some(entry) = self.by_path.get_mut(path) {
-            entry.settings = settings;
+        self.nodes.laws();
+        if let Some(key) = self.nodes.find(path) {
+            put(&mut self.nodes, key, settings);
         }
     }
 
-    // Takes out the entry at the path, if there is one.
+    // Takes out the entry at the path, if there is one: it is no group's, and none is right below it.
     pub(crate) fn remove(&mut self, path: &Path)
+        requires dead { option_flatten (get self.old path.now) ≡ None }
+        requires leaf { IsSome (get self.old path.now) → (q : _) → is_parent path.now q ≡ true → get self.old q ≡ None }
         ensures { self.new ≡ set_at self.old path.now None }
     {
-        self.by_path.remove(path);
+        self.nodes.laws();
+        if let Some(key) = self.nodes.find(path) {
+            self.nodes.remove(key);
+        }
     }
 
-    // The entries, in the order of the paths.
-    pub(crate) fn iter(&self) -> Entries<'_, Entry>
-        ensures { seen settings_of result ≡ entries self.now }
+    // How many groups are below the path of the first `depth` names, or of all where there are fewer.
+    pub(crate) fn descendants(&self, path: &Path, depth: u32) -> usize
+        ensures { result ≡ group_count self.now (is_above (take depth path.now)) }
     {
-        self.by_path.iter()
+        self.nodes.laws();
+        match prefix_entry(&self.nodes, path, depth) {
+            Some(entry) => entry.below,
+            None => 0,
+        }
     }
 
-    // The entries at the paths that begin with the first names of the path, in the order of the paths, if the map has one
-    // at the path of these names.
-    pub(crate) fn subtree(&self, path: &Path, depth: u32) -> Option<Subtree<'_, Entry>>
-        ensures present { is_some result ≡ is_some (get self.now (take depth path.now)) }
-        ensures value { IfSome result (λ es. seen settings_of es ≡ filter (λ e. is_prefix (take depth path.now) e.0) (entries self.now)) }
+    // Whether a group is right below the path.
+    pub(crate) fn has_children(&self, path: &Path) -> bool
+        ensures { result ≡ is_nonempty (entries (retain (present self.now) (is_parent path.now))) }
     {
-        self.by_path.subtree(path, depth)
+        self.nodes.laws();
+        match entry(&self.nodes, path) {
+            Some(entry) => entry.right_below > 0,
+            None => false,
+        }
     }
 
-    // The entries at the paths that begin with the path and have one name more, in their order, if the map has one at
-    // the path.
-    pub(crate) fn right_below(&self, path: &Path) -> Option<RightBelow<'_>>
-        ensures present { is_some result ≡ is_some (get self.now path.now) }
-        ensures value { IfSome result (λ es. seen settings_of es ≡ of_depth (length path.now + 1) (filter (λ e. is_prefix path.now e.0) (entries self.now))) }
+    // The groups, in the order of their paths.
+    pub(crate) fn present_groups(&self, alloc: Global) -> Result<Listed<'_>, AllocError>
+        ensures { IfOk result (λ l. l ≡ entries (present self.now)) }
     {
-        let depth = path.depth();
-        let entry = self.by_path.get(path)?;
-        let rest = self.by_path.subtree(path, depth)?;
-        Some(RightBelow::new(&self.by_path, &entry.behind, rest, depth + 1))
+        self.nodes.laws();
+        let keys = self.nodes.sorted(alloc)?;
+        Ok(Listed::new(&self.nodes, keys))
+    }
+
+    // The groups right below the path, in the order of their paths.
+    pub(crate) fn children(&self, alloc: Global, path: &Path) -> Result<Listed<'_>, AllocError>
+        ensures { IfOk result (λ l. l ≡ entries (retain (present self.now) (is_parent path.now))) }
+    {
+        self.nodes.laws();
+        let Some(key) = self.nodes.find(path) else {
+            return Ok(Listed::new(&self.nodes, Vec::new(alloc)));
+        };
+        let keys = self.nodes.sorted_children(alloc, key)?;
+        Ok(Listed::new(&self.nodes, keys))
+    }
+
+    // The controllers that a group right below the path passes on.
+    pub(crate) fn control_below(&self, path: &Path) -> Controllers
+        ensures { result ≡ used_below (entries (retain (present self.now) (is_parent path.now))) }
+    {
+        self.nodes.laws();
+        match self.nodes.find(path) {
+            Some(key) => passed_on(&self.nodes, self.nodes.children(key)),
+            None => Controllers::empty(),
+        }
     }
 }

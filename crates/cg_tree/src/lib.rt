@@ -2,18 +2,17 @@
 #![tactic(auto)]
 
 mod below;
-mod children;
+mod counting;
 mod edit;
 mod entry;
 mod groups;
+mod listed;
+mod looking;
 mod pids;
-mod present_groups;
-mod right_below;
 mod tree;
 mod worlds;
 
-pub use children::Children;
 pub use edit::Edit;
+pub use listed::Listed;
 pub use pids::Pids;
-pub use present_groups::PresentGroups;
 pub use tree::Tree;

@@ -1,5 +1,5 @@
 //! The text of a tree as a world's, written straight from its groups and processes.
-ghost use Rattle.std.specs.Prelude.{◌≡◌, ◌++◌, OnOk, OnErr, length, take};
+ghost use Rattle.std.specs.Prelude.{◌≡◌, ◌++◌, IfOk, OnOk, OnErr, length, take};
 ghost use Rattle.std.specs.List.{flat_map, list_all};
 ghost use Rattle.cg_maps.specs.FiniteMap.{entries};
 ghost use Rattle.cg_world_text.specs.World.{group_line, settings_fit_one, text_of_version, world_text, written_version};
@@ -9,40 +9,41 @@ use crate::version::Version;
 use crate::writing::{WriteWorld, append_end, append_group, append_head, append_processes};
 use cg_name::or_truncate;
 use cg_tree::Tree;
-use std::alloc::AllocError;
+use std::alloc::{AllocError, Global};
 
 impl WriteWorld for Tree {
     fn write(&self, out: &mut Vec<u8>) -> Result<(), AllocError>
         ensures ok { OnOk result (out.new.items ≡ out.old.items ++ world_text self.now.tree) }
         ensures err { OnErr result (out.new.items ≡ out.old.items) }
     {
+        let version = version_of_tree(self, *out.allocator())?;
         let start = out.len();
-        let written = append_tree(version_of_tree(self), self, out);
+        let written = append_tree(version, self, out);
         or_truncate(written, start, out)
     }
 }
 
 // The version in which the text is written: 1 where it can be.
-fn version_of_tree(tree: &Tree) -> Version
-    ensures { result ≡ written_version tree.now.tree }
+fn version_of_tree(tree: &Tree, alloc: Global) -> Result<Version, AllocError>
+    ensures { IfOk result (λ v. v ≡ written_version tree.now.tree) }
 {
-    if cpus_fit(&tree.online()) && groups_fit(tree) {
-        Version::One
+    if cpus_fit(&tree.online()) && groups_fit(tree, alloc)? {
+        Ok(Version::One)
     } else {
-        Version::Two
+        Ok(Version::Two)
     }
 }
 
 // Whether the groups' settings fit version 1.
-fn groups_fit(tree: &Tree) -> bool
-    ensures { result ≡ list_all (λ e. settings_fit_one e.1) (entries tree.now.tree.groups) }
+fn groups_fit(tree: &Tree, alloc: Global) -> Result<bool, AllocError>
+    ensures { IfOk result (λ fit. fit ≡ list_all (λ e. settings_fit_one e.1) (entries tree.now.tree.groups)) }
 {
-    for (_path, settings) in tree.present_groups() {
+    for (_path, settings) in tree.present_groups(alloc)? {
         if !settings_fit(&settings) {
-            return false;
+            return Ok(false);
         }
     }
-    true
+    Ok(true)
 }
 
 // What follows appends to `out`, and an error leaves what stood there at the front.
@@ -63,7 +64,7 @@ fn append_groups(version: Version, tree: &Tree, out: &mut Vec<u8>) -> Result<(),
     ensures ok { OnOk result (out.new.items ≡ out.old.items ++ flat_map (group_line version) (entries tree.now.tree.groups)) }
     ensures kept { OnErr result (take (length out.old.items) out.new.items ≡ out.old.items) }
 {
-    for (path, settings) in tree.present_groups() {
+    for (path, settings) in tree.present_groups(*out.allocator())? {
         append_group(version, &path, &settings, out)?;
     }
     Ok(())

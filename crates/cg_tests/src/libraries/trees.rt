@@ -66,27 +66,40 @@ fn write_location(
 }
 
 // Appends the paths of the children of the group at the path.
-fn write_children(tree: &Tree, path: &Path, out: &mut Vec<u8>) -> Result<(), AllocError> {
-    for (child, _) in tree.children(path) {
+fn write_children(
+    alloc: Global,
+    tree: &Tree,
+    path: &Path,
+    out: &mut Vec<u8>,
+) -> Result<(), AllocError> {
+    for (child, _) in tree.children(alloc, path)? {
         child.write(out)?;
     }
     Ok(())
 }
 
-// Appends the name of the first of them.
-fn write_first_child(tree: &Tree, path: &Path, out: &mut Vec<u8>) -> Result<(), AllocError> {
-    if let Some((name, _)) = tree.child_at(path, 0) {
-        out.extend_from_slice(name.as_bytes())?;
+// Appends the paths of all groups.
+fn write_groups(alloc: Global, tree: &Tree, out: &mut Vec<u8>) -> Result<(), AllocError> {
+    for (path, _) in tree.present_groups(alloc)? {
+        path.write(out)?;
     }
     Ok(())
 }
 
-// Appends both, and a `2` where two groups are below that one, and a newline.
-fn write_below(tree: &Tree, path: &Path, out: &mut Vec<u8>) -> Result<(), AllocError> {
-    write_children(tree, path, out)?;
-    write_first_child(tree, path, out)?;
+// Appends both, a `2` where two groups are below that one, a `c` where it has a child, and a newline.
+fn write_below(
+    alloc: Global,
+    tree: &Tree,
+    path: &Path,
+    out: &mut Vec<u8>,
+) -> Result<(), AllocError> {
+    write_children(alloc, tree, path, out)?;
+    write_groups(alloc, tree, out)?;
     if tree.descendants(path, 0) == 2 {
         out.push(b'2')?;
+    }
+    if tree.has_children(path) {
+        out.push(b'c')?;
     }
     out.push(b'\n')?;
     Ok(())
@@ -110,7 +123,7 @@ fn write_locations(alloc: Global, tree: &Tree, out: &mut Vec<u8>) -> Result<(), 
 // Appends what the tree shows: that, its groups and its PIDs.
 fn write_tree(alloc: Global, tree: &Tree, out: &mut Vec<u8>) -> Result<(), AllocError> {
     write_locations(alloc, tree, out)?;
-    write_below(tree, &Path::root(alloc), out)?;
+    write_below(alloc, tree, &Path::root(alloc), out)?;
     write_pids(tree, out)
 }
 
@@ -131,13 +144,13 @@ fn write_trees(alloc: Global, out: &mut Vec<u8>) -> Result<(), Refusal> {
 const SHOWN: &str = "/
 /
 
-
+/
 10
 11
 /
 /a/b
 
-/aa2
+/a//a/a/b2c
 10
 11
 ";

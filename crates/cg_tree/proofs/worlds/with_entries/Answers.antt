@@ -1,41 +1,27 @@
-use Rattle.std.proofs.Common.{◌≡◌, Some, sym, ap, ◌∙◌}
+-- What is put in comes next of the world's groups, and its parent came before.
+use Rattle.std.proofs.Common.{sym, subst}
 use Rattle.std.specs.Map.Iter.{deref_pair}
 use Rattle.std.proofs.lemmas.Map.Iter.{rest_more, rest_all}
-use Rattle.cg_maps.specs.FiniteMap.{set_at, domain, empty}
-use Rattle.cg_name.specs.Order.{path_cmp_total, path_cmp_exact}
-use Rattle.cg_text.specs.declared.settings.Settings.{Settings}
-use Rattle.cg_world.proofs.Puts.{puts, puts-view}
-use Rattle.cg_tree.specs.Present.{present}
-use Rattle.cg_tree.proofs.Presence.{present-set, present-empty, domain-empty, domain-set}
+use Rattle.cg_tree.proofs.WorldGroups.{IsPartOf, all_to_come, made_entries, made_groups, not_made, one_more, parent_made}
 use Rattle.cg_tree.proofs.worlds.with_entries.Goals as goal
 
 pub loop-path-init : goal.loop-path-init
-loop-path-init c = record {
-  groups = ap (λ m. puts m c.into_iter-path-iterator.result) (ap present c.new-made.ensures ∙ present-empty) ∙ ap (puts empty) (c.into_iter-path-iterator.ensures.into_iter_gives.0);
-  entries = ap domain c.new-made.ensures ∙ domain-empty Settings ∙ ap (λ m. domain (present m)) (sym c.new-made.ensures);
-}
+loop-path-init c =
+    subst (IsPartOf c.args.listed.now.entries c.new-made.result) (sym c.into_iter-path-iterator.ensures.into_iter_gives.0)
+    (all_to_come c.args.listed.now c.into_iter-path-iterator.ensures.into_iter_gives.5 c.new-made.result c.new-made.ensures)
+
+pub insert-requires-clause-absent : goal.insert-requires-clause-absent
+insert-requires-clause-absent c = not_made (subst (IsPartOf c.args.listed.now.entries c.loop-path.made) (rest_more deref_pair _ _ _ _ c.in-Some.is c.next.ensures.steps) c.loop-path.invariant)
+
+pub insert-requires-clause-parent : goal.insert-requires-clause-parent
+insert-requires-clause-parent c = parent_made (subst (IsPartOf c.args.listed.now.entries c.loop-path.made) (rest_more deref_pair _ _ _ _ c.in-Some.is c.next.ensures.steps) c.loop-path.invariant) c.requires
 
 pub loop-path-preserved : goal.loop-path-preserved
 loop-path-preserved c =
-    let made : present c.insert.new.self ≡ set_at (present c.loop-path.made) c.in-Some.path.now (Some c.in-Some.settings.now) =
-    ap present c.in_ok-insert.ensures.ok ∙ present-set path_cmp_total path_cmp_exact c.loop-path.made c.in-Some.path.now (Some (Some c.in-Some.settings.now)) in
-    record {
-      groups =
-          ap (λ m. puts m c.next.new.self) made
-          ∙ ap (puts (present c.loop-path.made)) (sym (rest_more deref_pair _ _ _ _ c.in-Some.is c.next.ensures.steps))
-          ∙ c.loop-path.invariant.groups;
-      entries =
-          ap domain c.in_ok-insert.ensures.ok
-          ∙ domain-set path_cmp_total path_cmp_exact c.loop-path.made c.in-Some.path.now (Some (Some c.in-Some.settings.now))
-          ∙ ap (λ E. set_at E c.in-Some.path.now (Some tt)) c.loop-path.invariant.entries
-          ∙ sym (ap domain made ∙ domain-set path_cmp_total path_cmp_exact (present c.loop-path.made) c.in-Some.path.now (Some c.in-Some.settings.now));
-    }
+    one_more (subst (IsPartOf c.args.listed.now.entries c.loop-path.made) (rest_more deref_pair _ _ _ _ c.in-Some.is c.next.ensures.steps) c.loop-path.invariant) c.insert.new.self c.in_ok-insert.ensures.ok
 
 pub returns-clause-groups : goal.returns-clause-groups
-returns-clause-groups c =
-    ap (puts (present c.loop-path.made)) (sym (rest_all deref_pair _ _ _ c.in-None.is c.next.ensures.steps))
-    ∙ c.loop-path.invariant.groups
-    ∙ puts-view path_cmp_total path_cmp_exact c.args.listed.now c.into_iter-path-iterator.ensures.into_iter_gives.5
+returns-clause-groups c = made_groups (subst (IsPartOf c.args.listed.now.entries c.loop-path.made) (rest_all deref_pair _ _ _ c.in-None.is c.next.ensures.steps) c.loop-path.invariant)
 
 pub returns-clause-entries : goal.returns-clause-entries
-returns-clause-entries c = c.loop-path.invariant.entries ∙ ap domain (returns-clause-groups c)
+returns-clause-entries c = made_entries (subst (IsPartOf c.args.listed.now.entries c.loop-path.made) (rest_all deref_pair _ _ _ c.in-None.is c.next.ensures.steps) c.loop-path.invariant)

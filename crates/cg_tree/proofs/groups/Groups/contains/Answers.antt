@@ -1,7 +1,7 @@
-use Rattle.std.proofs.Common.{refl, ◌∙◌}
-use Rattle.cg_tree.specs.Entries.{settings_of}
-use Rattle.cg_tree.proofs.Seeing.{there}
+-- There is a node where there is an entry.
+use Rattle.std.proofs.Common.{is_some, ap, ◌∙◌}
+use Rattle.cg_tree.proofs.Putting.{node_there}
 use Rattle.cg_tree.proofs.groups.Groups.contains.Goals as goal
 
 pub returns : goal.returns
-returns c = c.contains.ensures ∙ there settings_of c.self.inside.by_path c.args.self.now c.self.view_is c.args.path.now _ refl
+returns c = c.is_some.ensures ∙ ap is_some c.find.ensures ∙ node_there c.self.inside.nodes c.laws.ensures.both c.args.self.now c.self.view_is c.args.path.now

@@ -1,34 +1,22 @@
--- The entry keeps the place behind its path.
-use Rattle.std.proofs.Common.{◌≡◌, OnSome, Some, None, IfSome, is_some, sym, ap, subst, ◌∙◌, true≢false}
-use Rattle.cg_maps.specs.FiniteMap.{set_at}
-use Rattle.cg_tree.specs.declared.entry.Entry.{Entry}
-use Rattle.cg_tree.specs.Entries.{groups_in, settings_of, AreOwn}
-use Rattle.cg_tree.proofs.Seeing.{own_set, set_so, got}
+-- There is a node where there is an entry.
+use Rattle.std.proofs.Common.{◌≡◌, Some, None, is_some, ap, sym, ◌∙◌, true≢false}
+use Rattle.cg_maps.specs.FiniteMap.{get, set_at}
+use Rattle.cg_tree.proofs.Climbing.{at_path}
+use Rattle.cg_tree.proofs.Putting.{node_there}
 use Rattle.cg_tree.proofs.groups.Groups.replace.Goals as goal
-use Rattle.cg_tree.proofs.groups.Groups.replace.Goals.{in-Some, in_default}
 
-pub invariant_of-self : goal.invariant_of-self
-invariant_of-self c = elim c.match-get_mut.branch [
-  | in-Some w ↦
-      let e : Entry = record { settings = c.args.settings; behind = w.in-Some.entry.now.behind } in
-      let made = subst (λ r. OnSome r (c.get_mut.follows.lender e ≡ set_at c.self.inside.by_path c.args.path.now (Some e))) w.in-Some.is (c.get_mut.follows.holds e) in
-      subst AreOwn (sym (ap (λ t. t.by_path) w.self-inside-is ∙ made))
-      (own_set c.self.inside.by_path c.args.path.now (Some e) c.self.invariant
-      (subst (λ x. IfSome x (λ e. e.behind ≡ c.args.path.now)) (sym w.in-Some.ensures.value) (c.self.invariant c.args.path.now)))
-  | in_default w ↦ subst AreOwn (sym (ap (λ t. t.by_path) w.self-inside-is ∙ c.get_mut.follows.holds-at-none)) c.self.invariant
-]
+pub returns-in-Some-clause-there : goal.returns-in-Some-clause-there
+returns-in-Some-clause-there c some =
+    let own : Some c.in-Some.key ≡ get c.self.inside.nodes.keys c.args.path.now = c.in-Some.ensures in
+    let place = at_path c.self.inside.nodes c.in-Some.key c.args.path.now c.laws.ensures.one_path (sym own) in
+    c.put.ensures.groups ∙ (λ i. set_at (c.self.view_is i) (place i) (Some c.args.settings))
 
-pub returns-clause-there : goal.returns-clause-there
-returns-clause-there c = elim c.match-get_mut.branch [
-  | in-Some w ↦ λ some.
-      let e : Entry = record { settings = c.args.settings; behind = w.in-Some.entry.now.behind } in
-      let made = subst (λ r. OnSome r (c.get_mut.follows.lender e ≡ set_at c.self.inside.by_path c.args.path.now (Some e))) w.in-Some.is (c.get_mut.follows.holds e) in
-      set_so settings_of c.self.inside.by_path c.args.self.now c.self.view_is c.args.path.now (Some e) c.match-get_mut.self-inside.by_path (ap (λ t. t.by_path) w.self-inside-is ∙ made)
-  | in_default w ↦ λ some. absurd (true≢false (sym (ap is_some (got settings_of c.self.inside.by_path c.args.self.now c.self.view_is c.args.path.now None w.in_default.ensures.value) ∙ some)))
-]
+pub returns-in-Some-clause-absent : goal.returns-in-Some-clause-absent
+returns-in-Some-clause-absent c none =
+    let own : Some c.in-Some.key ≡ get c.self.inside.nodes.keys c.args.path.now = c.in-Some.ensures in
+    absurd (true≢false (ap is_some own ∙ node_there c.self.inside.nodes c.laws.ensures.both c.args.self.now c.self.view_is c.args.path.now ∙ ap is_some none))
 
-pub returns-clause-absent : goal.returns-clause-absent
-returns-clause-absent c = elim c.match-get_mut.branch [
-  | in-Some w ↦ λ none. absurd (true≢false (ap is_some (got settings_of c.self.inside.by_path c.args.self.now c.self.view_is c.args.path.now (Some w.in-Some.entry.now) w.in-Some.ensures.value ∙ none)))
-  | in_default w ↦ λ none. ap groups_in (ap (λ t. t.by_path) w.self-inside-is ∙ c.get_mut.follows.holds-at-none) ∙ c.self.view_is
-]
+pub returns-in_default-clause-there : goal.returns-in_default-clause-there
+returns-in_default-clause-there c some =
+    let own : None ≡ get c.self.inside.nodes.keys c.args.path.now = c.in_default.ensures in
+    absurd (true≢false (sym some ∙ sym (node_there c.self.inside.nodes c.laws.ensures.both c.args.self.now c.self.view_is c.args.path.now) ∙ ap is_some (sym own)))

@@ -1,8 +1,7 @@
 -- All keys, ascending.
 use Rattle.std.proofs.Common.{ap, ◌∙◌}
 use Rattle.std.specs.Map.{keys_of}
-use Rattle.cg_path_map.proofs.PathEntries.{all_kept}
-use Rattle.cg_tree.proofs.Places.{keys_of_map}
+use Rattle.cg_tree.proofs.Places.{all_kept, keys_of_map}
 use Rattle.cg_tree.proofs.pids.Pids.new.Goals as goal
 
 pub returns : goal.returns

@@ -5,7 +5,7 @@ use Rattle.cg_maps.specs.FiniteMap.{set_at, domain}
 use Rattle.cg_tree.specs.Inside.{room_of}
 use Rattle.cg_tree.specs.Room.{IsRooted, has_entry, may_have_entry, with_entry}
 use Rattle.cg_tree.proofs.Edits.{needed_room, none_needed, room_needed}
-use Rattle.cg_tree.proofs.Rooms.{entry_made, entry_there, entry_same, none_there, with_map}
+use Rattle.cg_tree.proofs.Rooms.{entry_made, entry_there, entry_same, none_there, parent_has_entry, with_map}
 use Rattle.cg_tree.proofs.Rooting.{with_entries, entry_put, added_here}
 use Rattle.cg_tree.proofs.tree.Tree.make_room.Goals as goal
 
@@ -14,6 +14,14 @@ returns-in_default-clause-room c = none_needed c.args.self.now c.args.edit.now c
 
 made : (c : goal.In_ok-insert) → room_of (with_map c.self.inside c.in-Some.path.now c.insert.new.self) ≡ with_entries (room_of c.self.inside) (set_at (domain c.self.inside.groups) c.in-Some.path.now (Some tt))
 made c = entry_made c.self.inside c.in-Some.path.now c.insert.new.self c.in_ok-insert.ensures.ok (none_there _ (sym c.contains.ensures ∙ c.if-not-contains.true))
+
+pub insert-requires-clause-absent : goal.insert-requires-clause-absent
+insert-requires-clause-absent c = none_there _ (sym c.contains.ensures ∙ c.if-not-contains.true)
+
+pub insert-requires-clause-parent : goal.insert-requires-clause-parent
+insert-requires-clause-parent c =
+    let may : may_have_entry c.args.self.now.tree c.in-Some.path.now ≡ true = subst (λ w. IfSome w (λ p. may_have_entry c.args.self.now.tree p ≡ true)) (sym c.in-Some.ensures) c.requires in
+    parent_has_entry c.self.inside c.args.self.now c.self.view_is c.in-Some.path.now may
 
 pub invariant_of-self : goal.invariant_of-self
 invariant_of-self c =

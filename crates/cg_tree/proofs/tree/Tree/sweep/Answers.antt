@@ -1,10 +1,10 @@
 -- What is taken away is dead, or wasn't there.
-use Rattle.std.proofs.Common.{◌≡◌, None, sym, ap, subst, ◌∙◌}
+use Rattle.std.proofs.Common.{◌≡◌, None, refl, sym, ap, subst, ◌∙◌}
 use Rattle.cg_maps.specs.FiniteMap.{set_at, domain}
 use Rattle.cg_model.specs.Tree.{group}
 use Rattle.cg_tree.specs.Inside.{room_of}
 use Rattle.cg_tree.specs.Room.{IsRooted, MaySweepIfDead}
-use Rattle.cg_tree.proofs.Rooms.{entry_removed, none_there, with_map, dead_swept}
+use Rattle.cg_tree.proofs.Rooms.{entry_removed, none_right_below, none_there, settings_there, with_map, dead_swept}
 use Rattle.cg_tree.proofs.Rooting.{with_entries, entry_swept_if_dead}
 use Rattle.cg_tree.proofs.tree.Tree.sweep.Goals as goal
 
@@ -13,6 +13,12 @@ no_group c = none_there _ (sym c.find.ensures.value ∙ c.if-not-find.true)
 
 removed : (c : goal.After-remove) → room_of (with_map c.self.inside c.args.path.now c.remove.new.self) ≡ with_entries (room_of c.self.inside) (set_at (domain c.self.inside.groups) c.args.path.now None)
 removed c = entry_removed c.self.inside c.args.path.now c.remove.new.self c.remove.ensures (ap (λ t. group t.tree c.args.path.now) c.self.view_is ∙ no_group c)
+
+pub remove-requires-clause-dead : goal.remove-requires-clause-dead
+remove-requires-clause-dead c = settings_there c.self.inside c.args.self.now c.self.view_is c.args.path.now _ refl ∙ none_there _ (sym c.find.ensures.value ∙ c.if-not-find.true)
+
+pub remove-requires-clause-leaf : goal.remove-requires-clause-leaf
+remove-requires-clause-leaf c = none_right_below c.self.inside c.args.self.now c.self.view_is c.args.path.now (none_there _ (sym c.find.ensures.value ∙ c.if-not-find.true)) c.requires
 
 pub invariant_of-self : goal.invariant_of-self
 invariant_of-self c =

@@ -1,0 +1,171 @@
+-- How many keys of a map pass a test, as one of them is written.
+use Rattle.std.proofs.Common.{◌≡◌, ℕ, suc, ◌+◌, ◌<◌, ◌≤◌, ◌^◌, ◌&&◌, Bool, true, false, not, cond, List, [], ◌∷◌, length, Option, Some, None, option_map, is_some, inl, inr, refl, sym, ap, subst, ◌∙◌, Ordering, arith, add-one, true≢false}
+use Rattle.std.specs.Option.{option_flatten}
+use Rattle.std.specs.Cmp.{IsTotalOrder}
+use Rattle.std.specs.FinMap.{IsAntisymmetric}
+use Rattle.std.specs.FinMap.Entries.{is_sorted-put, length-put, where_key}
+use Rattle.cg_maps.specs.FiniteMap.{FiniteMap, bare, domain, empty, get, insert, len, retain, set_at, list-checked}
+use Rattle.cg_maps.proofs.Maps.{same_map, get-domain, get-empty, get-retain, get_here, get_apart, cases, set_same, set_set}
+use Rattle.cg_name.specs.Order.{path_cmp_total, path_cmp_exact}
+use Rattle.cg_name.specs.Path.{Path, path_cmp}
+use Rattle.cg_tree.specs.Entries.{counted, CanCount}
+use Rattle.cg_tree.specs.Present.{present, held_entries, with_held}
+use Rattle.cg_tree.proofs.Presence.{get-present, present-set}
+
+-- one where something is
+abbrev pub one : {A : Type 0} → Option A → ℕ
+one w = cond (is_some w) 1 0
+
+len-empty : {K : Type 0} (R : K → K → Ordering) (X : Type 0) → len (empty {X = X} {R = R}) ≡ 0
+unfolding len empty
+len-empty R X = refl
+
+module _ {K X : Type 0} {R : K → K → Ordering} (o : IsTotalOrder R) (same : IsAntisymmetric R) where
+  -- ---- how many keys a map has
+
+  len-set_new : (m : FiniteMap R X) (k : K) (v : X) → get m k ≡ None → len (set_at m k (Some v)) ≡ suc (len m)
+  unfolding get set_at insert len
+  len-set_new m k v absent = ap length (list-checked _ _ refl m (is_sorted-put R o k v m.list m.sorted)) ∙ length-put R o k v m.list m.sorted ∙ ap (λ w. cond (is_some w) (length m.list) (length m.list + 1)) absent ∙ add-one (length m.list)
+
+  -- a map with a key is one longer than it is without it
+  len-without : (m : FiniteMap R X) (k : K) → len m ≡ len (set_at m k None) + one (get m k)
+  len-without m k = by (get m k) refl
+    where
+      by : (w : Option X) → get m k ≡ w → len m ≡ len (set_at m k None) + one w
+      by None e =
+          let same_len : len m ≡ len (set_at m k None) = sym (ap (λ w. len (set_at m k w)) (sym e) ∙ ap len (set_same o same m k)) in
+          omega arith
+      by (Some v) e =
+          let whole : set_at (set_at m k None) k (Some v) ≡ m = set_set o same m k None (Some v) ∙ ap (set_at m k) (sym e) ∙ set_same o same m k in
+          let longer : len m ≡ suc (len (set_at m k None)) = sym (ap len whole) ∙ len-set_new (set_at m k None) k v (get_here o same m k None) in
+          omega arith
+
+  len-set : (m : FiniteMap R X) (k : K) (v : Option X) → len (set_at m k v) + one (get m k) ≡ len m + one v
+  len-set m k v =
+      let before = len-without m k in
+      let behind : len (set_at m k v) ≡ len (set_at m k None) + one v =
+      len-without (set_at m k v) k ∙ (λ i. len (set_set o same m k v None i) + one (get_here o same m k v i)) in
+      omega arith
+
+  -- ---- how many keys pass a test
+
+  kept_apart : (m : FiniteMap R X) (k : K) (v : Option X) (t : K → Bool) → t k ≡ false → retain (set_at m k v) t ≡ retain m t
+  kept_apart m k v t h = same_map o same _ _ (λ q. get-retain o same (set_at m k v) t q ∙ at q ∙ sym (get-retain o same m t q))
+    where
+      at : (q : K) → cond (t q) (get (set_at m k v) q) None ≡ cond (t q) (get m q) None
+      at q = elim (cases o same q k) [
+        | inl e ↦ let fails : t q ≡ false = ap t e ∙ h in ap (λ b. cond b (get (set_at m k v) q) None) fails ∙ sym (ap (λ b. cond b (get m q) None) fails)
+        | inr ne ↦ ap (λ w. cond (t q) w None) (get_apart o same m k v q ne)
+      ]
+
+  kept_set : (m : FiniteMap R X) (k : K) (v : Option X) (t : K → Bool) → t k ≡ true → retain (set_at m k v) t ≡ set_at (retain m t) k v
+  kept_set m k v t h = same_map o same _ _ (λ q. elim (cases o same q k) [
+    | inl e ↦ subst (λ x. get (retain (set_at m k v) t) x ≡ get (set_at (retain m t) k v) x) (sym e)
+        (get-retain o same (set_at m k v) t k ∙ ap (λ b. cond b (get (set_at m k v) k) None) h ∙ get_here o same m k v ∙ sym (get_here o same (retain m t) k v))
+    | inr ne ↦
+        get-retain o same (set_at m k v) t q ∙ ap (λ w. cond (t q) w None) (get_apart o same m k v q ne)
+        ∙ sym (get_apart o same (retain m t) k v q ne ∙ get-retain o same m t q)
+  ])
+
+  -- a key is written: of what passes, it alone comes or goes
+  pub passing-set : (m : FiniteMap R X) (k : K) (v : Option X) (t : K → Bool) → len (retain (set_at m k v) t) + cond (t k && is_some (get m k)) 1 0 ≡ len (retain m t) + cond (t k && is_some v) 1 0
+  passing-set m k v t = by (t k) refl
+    where
+      by : (b : Bool) → t k ≡ b → len (retain (set_at m k v) t) + cond (b && is_some (get m k)) 1 0 ≡ len (retain m t) + cond (b && is_some v) 1 0
+      by true e =
+          let there : get (retain m t) k ≡ get m k = get-retain o same m t k ∙ ap (λ b. cond b (get m k) None) e in
+          ap (λ x. len x + one (get m k)) (kept_set m k v t e) ∙ ap (λ w. len (set_at (retain m t) k v) + one w) (sym there) ∙ len-set (retain m t) k v
+      by false e = ap (λ x. len x + 0) (kept_apart m k v t e)
+
+  -- none passes where none that passes is there
+  pub none_passing : (m : FiniteMap R X) (t : K → Bool) → ((q : K) → t q ≡ true → get m q ≡ None) → len (retain m t) ≡ 0
+  none_passing m t h = ap len (same_map o same (retain m t) empty (λ q. get-retain o same m t q ∙ at q (t q) refl ∙ sym (get-empty R q))) ∙ len-empty R X
+    where
+      at : (q : K) (b : Bool) → t q ≡ b → cond b (get m q) None ≡ None
+      at q true e = h q e
+      at q false e = refl
+
+length-bare : {K X : Type 0} (es : List (K × X)) → length (bare es) ≡ length es
+length-bare [] = refl
+length-bare (e ∷ es) = ap suc (length-bare es)
+
+pub len-domain : {K X : Type 0} {R : K → K → Ordering} (m : FiniteMap R X) → len (domain m) ≡ len m
+unfolding len domain
+len-domain m = length-bare m.list
+
+module _ {K X : Type 0} {R : K → K → Ordering} (o : IsTotalOrder R) (same : IsAntisymmetric R) where
+  domain-retain : (m : FiniteMap R X) (t : K → Bool) → domain (retain m t) ≡ retain (domain m) t
+  domain-retain m t = same_map o same _ _ (λ q.
+      get-domain (retain m t) q ∙ ap (option_map (λ _. tt)) (get-retain o same m t q) ∙ at (t q) (get m q) ∙ ap (λ w. cond (t q) w None) (sym (get-domain m q)) ∙ sym (get-retain o same (domain m) t q))
+    where
+      at : (b : Bool) (w : Option X) → option_map {U = Unit {0}} (λ _. tt) (cond b w None) ≡ cond b (option_map (λ _. tt) w) None
+      at true w = refl
+      at false w = refl
+
+  pub len-domain-retain : (m : FiniteMap R X) (t : K → Bool) → len (retain (domain m) t) ≡ len (retain m t)
+  len-domain-retain m t = ap len (sym (domain-retain m t)) ∙ len-domain (retain m t)
+
+-- ---- no more pass than there are keys
+
+length-where : {K X : Type 0} (R : K → K → Ordering) (t : K → Bool) (es : List (K × X)) → length (where_key R t es) ≤ length es
+length-where R t [] = omega arith
+length-where R t (e ∷ es) = at (t e.0) (where_key R t es) (length-where R t es)
+  where
+    at : (b : Bool) (made : List (_ × _)) → length made ≤ length es → length (cond b (e ∷ made) made) ≤ suc (length es)
+    at true made h = omega arith
+    at false made h = omega arith
+
+length-held : {K X : Type 0} (es : List (K × Option X)) → length (held_entries es) ≤ length es
+length-held [] = omega arith
+length-held {K} {X} (e ∷ es) = at e.1 (held_entries es) (length-held es)
+  where
+    at : (w : Option X) (made : List (K × X)) → length made ≤ length es → length (with_held e.0 w made) ≤ suc (length es)
+    at None made h = omega arith
+    at (Some x) made h = omega arith
+
+few_pass : {K X : Type 0} {R : K → K → Ordering} (m : FiniteMap R X) (t : K → Bool) → len (retain m t) ≤ len m
+unfolding len retain
+few_pass {R = R} m t = length-where R t m.list
+
+few_present : {K X : Type 0} {R : K → K → Ordering} (m : FiniteMap R (Option X)) → len (present m) ≤ len m
+unfolding len present
+few_present m = length-held m.list
+
+-- ---- groups
+
+module _ {X : Type 0} (m : FiniteMap path_cmp (Option X)) (t : Path → Bool) where
+  abbrev pub passing : ℕ
+  passing = len (retain (present m) t)
+
+  pub few_passing : passing ≤ len m
+  few_passing = omega (arith, few_pass (present m) t, few_present m)
+
+  -- where no key that passes is there, no group passes
+  pub none_held : ((q : Path) → t q ≡ true → get m q ≡ None) → passing ≡ 0
+  none_held h = none_passing path_cmp_total path_cmp_exact (present m) t (λ q e. get-present path_cmp_total path_cmp_exact m q ∙ ap option_flatten (h q e))
+
+  -- an entry is written
+  pub passing-written : (p : Path) (w : Option (Option X)) → len (retain (present (set_at m p w)) t) + cond (t p && is_some (option_flatten (get m p))) 1 0 ≡ passing + cond (t p && is_some (option_flatten w)) 1 0
+  passing-written p w =
+      ap (λ n. len (retain n t) + cond (t p && is_some (option_flatten (get m p))) 1 0) (present-set path_cmp_total path_cmp_exact m p w)
+      ∙ ap (λ x. len (retain (set_at (present m) p (option_flatten w)) t) + cond (t p && is_some x) 1 0) (sym (get-present path_cmp_total path_cmp_exact m p))
+      ∙ passing-set path_cmp_total path_cmp_exact (present m) p (option_flatten w) t
+
+-- ---- the count of an entry, as a group comes or goes
+
+pub recounts : (comes passes : Bool) (old new : Bool) (n k : ℕ) → new ≡ comes → old ≡ not comes → k + cond (passes && old) 1 0 ≡ n + cond (passes && new) 1 0 → k ≡ cond passes (counted comes n) n
+recounts true true true new n k e f h = absurd (true≢false f)
+recounts true true false true n k e f h = omega arith
+recounts true true false false n k e f h = absurd (true≢false (sym e))
+recounts false true true true n k e f h = absurd (true≢false e)
+recounts false true true false n k e f h = omega arith
+recounts false true false new n k e f h = absurd (true≢false (sym f))
+recounts comes false old new n k e f h = omega arith
+
+pub room_to_count : (comes : Bool) (old new : Bool) (n k most : ℕ) → new ≡ comes → old ≡ not comes → k + cond old 1 0 ≡ n + cond new 1 0 → k ≤ most → most < 2 ^ 64 → CanCount comes n
+room_to_count true true new n k most e f h low fits = absurd (true≢false f)
+room_to_count true false true n k most e f h low fits = omega arith
+room_to_count true false false n k most e f h low fits = absurd (true≢false (sym e))
+room_to_count false true true n k most e f h low fits = absurd (true≢false e)
+room_to_count false true false n k most e f h low fits = omega arith
+room_to_count false false new n k most e f h low fits = absurd (true≢false (sym f))

@@ -1,0 +1,115 @@
+// The nodes of a tree's groups, with the counts of groups below each kept as groups come and go.
+ghost use Rattle.std.specs.Prelude.{◌≡◌, true, option_map, List, ℕ, IfOk, OnErr, OnOk, None, Some};
+ghost use Rattle.cg_maps.specs.FiniteMap.{get, set_at};
+ghost use Rattle.cg_name.specs.Path.{is_above, is_parent};
+ghost use Rattle.cg_path_tree.specs.Nodes.{with_value, HasParent, IsKey};
+ghost use Rattle.cg_tree.specs.declared.entry.Entry.{Entry};
+ghost use Rattle.cg_tree.specs.Entries.{counted, entry_at, groups_in, path_at, with_below, with_right_below, AreCounted, CanCount};
+
+use crate::entry::{Entry, counted};
+use cg_name::Path;
+use cg_path_tree::{NodeKey, PathTree};
+use cg_text::Settings;
+use std::alloc::{AllocError, Global};
+
+// Writes the settings of a node.
+fn write_settings(nodes: &mut PathTree<Entry>, key: NodeKey, settings: Option<Settings>)
+    requires { IsKey nodes.old.keys key }
+    ensures { (e : Entry) → entry_at nodes.old key ≡ Some e → nodes.new ≡ with_value nodes.old (path_at nodes.old key) (record e { settings = settings }) }
+{
+    nodes.get_mut(key).settings = settings;
+}
+
+// One group more or less below a node.
+fn count_below(nodes: &mut PathTree<Entry>, key: NodeKey, comes: bool)
+    requires key { IsKey nodes.old.keys key }
+    requires room { (e : Entry) → entry_at nodes.old key ≡ Some e → CanCount comes e.below }
+    ensures { (e : Entry) → entry_at nodes.old key ≡ Some e → nodes.new ≡ with_value nodes.old (path_at nodes.old key) (record e { below = counted comes e.below }) }
+{
+    let entry = nodes.get_mut(key);
+    entry.below = counted(entry.below, comes);
+}
+
+// One group more or less right below a node.
+fn count_right_below(nodes: &mut PathTree<Entry>, key: NodeKey, comes: bool)
+    requires key { IsKey nodes.old.keys key }
+    requires room { (e : Entry) → entry_at nodes.old key ≡ Some e → CanCount comes e.right_below }
+    ensures { (e : Entry) → entry_at nodes.old key ≡ Some e → nodes.new ≡ with_value nodes.old (path_at nodes.old key) (record e { right_below = counted comes e.right_below }) }
+{
+    let entry = nodes.get_mut(key);
+    entry.right_below = counted(entry.right_below, comes);
+}
+
+// One group more or less at each node above that of the key.
+fn count_above(nodes: &mut PathTree<Entry>, key: NodeKey, comes: bool)
+    requires key { IsKey nodes.old.keys key }
+    requires room { (q : List (List ℕ)) (e : Entry) → is_above q (path_at nodes.old key) ≡ true → get nodes.old.values q ≡ Some e → CanCount comes e.below }
+    ensures keys { nodes.new.keys ≡ nodes.old.keys }
+    ensures values { (q : List (List ℕ)) → get nodes.new.values q ≡ option_map (with_below comes (path_at nodes.old key) q) (get nodes.old.values q) }
+{
+    nodes.laws();
+    let mut at = key;
+    while let Some(above) = nodes.parent(at) {
+        count_below(nodes, above, comes);
+        at = above;
+    }
+}
+
+// One group more or less right below the parent of the node.
+fn count_at_parent(nodes: &mut PathTree<Entry>, key: NodeKey, comes: bool)
+    requires key { IsKey nodes.old.keys key }
+    requires room { (q : List (List ℕ)) (e : Entry) → is_parent q (path_at nodes.old key) ≡ true → get nodes.old.values q ≡ Some e → CanCount comes e.right_below }
+    ensures keys { nodes.new.keys ≡ nodes.old.keys }
+    ensures values { (q : List (List ℕ)) → get nodes.new.values q ≡ option_map (with_right_below comes (path_at nodes.old key) q) (get nodes.old.values q) }
+{
+    nodes.laws();
+    if let Some(parent) = nodes.parent(key) {
+        count_right_below(nodes, parent, comes);
+    }
+}
+
+// Puts the settings at the node: where a group comes or goes, it is counted above.
+pub(crate) fn put(nodes: &mut PathTree<Entry>, key: NodeKey, settings: Option<Settings>)
+    requires key { IsKey nodes.old.keys key }
+    requires counted { AreCounted nodes.old.values }
+    ensures keys { nodes.new.keys ≡ nodes.old.keys }
+    ensures groups { groups_in nodes.new.values ≡ set_at (groups_in nodes.old.values) (path_at nodes.old key) (Some settings) }
+    ensures counted { AreCounted nodes.new.values }
+{
+    // A tree can tell how many nodes it has, so that each count has room.
+    let _ = nodes.len();
+    nodes.laws();
+    let comes = settings.is_some();
+    let was = nodes.get(key).settings.is_some();
+    write_settings(nodes, key, settings);
+    if comes != was {
+        count_at_parent(nodes, key, comes);
+        count_above(nodes, key, comes);
+    }
+}
+
+// Puts a dead entry at a path that has none. Where there is no memory for it, all is as it was.
+pub(crate) fn add_dead(
+    nodes: &mut PathTree<Entry>,
+    alloc: Global,
+    path: &Path,
+) -> Result<NodeKey, AllocError>
+    requires absent { get nodes.old.keys path.now ≡ None }
+    requires parent { HasParent nodes.old.keys path.now }
+    requires counted { AreCounted nodes.old.values }
+    ensures keys { IfOk result (λ key. nodes.new.keys ≡ set_at nodes.old.keys path.now (Some key)) }
+    ensures groups { OnOk result (groups_in nodes.new.values ≡ set_at (groups_in nodes.old.values) path.now (Some None)) }
+    ensures counted { AreCounted nodes.new.values }
+    ensures err { OnErr result (nodes.new ≡ nodes.old) }
+{
+    nodes.laws();
+    let entry = Entry {
+        settings: None,
+        below: 0,
+        right_below: 0,
+    };
+    let Ok(key) = nodes.add(alloc, path, entry) else {
+        return Err(AllocError);
+    };
+    Ok(key)
+}

@@ -1,0 +1,101 @@
+//! Groups of a tree, one by one.
+ghost use Rattle.std.specs.Prelude.{◌≡◌, ◌∷◌, [], MatchOption, drop, slice_get};
+ghost use Rattle.std.specs.Iterator.{item_count, YieldsFirstBy};
+ghost use Rattle.cg_model.specs.Control.{used_below};
+ghost use Rattle.cg_tree.specs.Listing.{listed, AreKeys};
+
+use crate::entry::Entry;
+use cg_name::PathRef;
+use cg_path_tree::{NodeKey, PathTree};
+use cg_text::{Controllers, Settings};
+use std::marker::Model;
+
+/// Groups that are still to come, with their settings. The list was made when the groups were asked for: to go on in it takes
+/// no memory.
+#[derive(Drop)]
+pub struct Listed<'a> {
+    nodes: &'a PathTree<Entry>,
+    // The nodes of the groups and of dead paths among them, in order.
+    keys: Vec<NodeKey>,
+    // How many of these have passed.
+    passed: usize,
+}
+
+impl<'a> Model for Listed<'a> {
+    ghost use Rattle.std.specs.Prelude.{List, ℕ, drop};
+    ghost use Rattle.cg_text.specs.declared.settings.Settings.{Settings};
+    ghost use Rattle.cg_tree.specs.Listing.{listed, AreKeys};
+
+    ghost Value = { List (List (List ℕ) × Settings) };
+
+    ghost view = { λ l. listed l.nodes.now (drop l.passed l.keys.items) };
+
+    ghost invariant = { λ l. AreKeys l.nodes.now l.keys.items };
+}
+
+impl<'a> Listed<'a> {
+    // Those of the nodes that are groups.
+    pub(crate) fn new(nodes: &'a PathTree<Entry>, keys: Vec<NodeKey>) -> Listed<'a>
+        requires { AreKeys nodes.now keys.items }
+        ensures { result ≡ listed nodes.now keys.items }
+    {
+        Listed {
+            nodes,
+            keys,
+            passed: 0,
+        }
+    }
+}
+
+impl<'a> Iterator for Listed<'a> {
+    type Item = (PathRef<'a>, Settings);
+
+    ghost next_gives = { YieldsFirstBy (λ g. g) (λ gs. gs) };
+
+    ghost remaining = { item_count (λ gs. gs) };
+
+    fn next(&mut self) -> Option<(PathRef<'a>, Settings)> {
+        next_group(self.nodes, &self.keys, &mut self.passed)
+    }
+}
+
+// The next of the nodes that is a group.
+fn next_group<'a>(
+    nodes: &'a PathTree<Entry>,
+    keys: &[NodeKey],
+    passed: &mut usize,
+) -> Option<(PathRef<'a>, Settings)>
+    requires { AreKeys nodes.now keys.now }
+    ensures { MatchOption result ((listed nodes.now (drop passed.old keys.now) ≡ []) × (listed nodes.now (drop passed.new keys.now) ≡ [])) (λ g. listed nodes.now (drop passed.old keys.now) ≡ g ∷ listed nodes.now (drop passed.new keys.now)) }
+{
+    nodes.laws();
+    while let Some(key) = key_at(keys, *passed) {
+        *passed += 1;
+        if let Some(settings) = nodes.get(key).settings {
+            return Some((nodes.path(key), settings));
+        }
+    }
+    None
+}
+
+// The key with that many before it, if there is one.
+fn key_at(keys: &[NodeKey], index: usize) -> Option<NodeKey>
+    ensures { result ≡ slice_get keys.now index }
+{
+    keys.get(index).copied()
+}
+
+// The controllers that a group among the nodes passes on.
+pub(crate) fn passed_on(nodes: &PathTree<Entry>, keys: &[NodeKey]) -> Controllers
+    requires { AreKeys nodes.now keys.now }
+    ensures { result ≡ used_below (listed nodes.now keys.now) }
+{
+    nodes.laws();
+    let mut used = Controllers::empty();
+    for key in keys {
+        if let Some(settings) = &nodes.get(*key).settings {
+            used = used.union(&settings.control);
+        }
+    }
+    used
+}
