@@ -1,5 +1,5 @@
 -- Lists that are written at one place.
-use Rattle.std.proofs.Common.{◌≡◌, ◌≢◌, ℕ, zero, suc, ◌<◌, List, [], ◌∷◌, length, set, Option, None, Some, unwrap_or, option_map, refl, sym, ap, ◌∙◌, arith}
+use Rattle.std.proofs.Common.{◌≡◌, ◌≢◌, ℕ, zero, suc, ◌<◌, List, [], ◌∷◌, length, map, set, Option, None, Some, unwrap_or, option_map, refl, sym, ap, ◌∙◌, arith}
 use Rattle.std.specs.List.{slice_get}
 use Rattle.std.proofs.lemmas.List.{length-set}
 use Rattle.cg_places.specs.Lists.{WritesAt}
@@ -35,3 +35,8 @@ set_elsewhere (y ∷ ys) (suc i) x (suc j) ne = set_elsewhere ys i x j (λ same.
 
 pub writes-set : {A : Type 0} (xs : List A) (i : ℕ) (x : A) → i < length xs → WritesAt xs (set xs i x) i x
 writes-set xs i x low = record { changed = set_here xs i x low; others = set_elsewhere xs i x; many = length-set xs i x }
+
+pub at_mapped : {A B : Type 0} (f : A → B) (xs : List A) (j : ℕ) → slice_get (map f xs) j ≡ option_map f (slice_get xs j)
+at_mapped f [] j = refl
+at_mapped f (y ∷ ys) zero = refl
+at_mapped f (y ∷ ys) (suc j) = at_mapped f ys j

@@ -17,13 +17,8 @@ use Rattle.cg_places.specs.declared.seats.Stack.{Stack}
 use Rattle.cg_places.specs.Seats.{who, AreSeated}
 use Rattle.cg_places.specs.Placed.{number_of, ArePlaced, located}
 use Rattle.cg_places.specs.Located.{Located}
-use Rattle.cg_places.proofs.Lists.{same_some, some_not_none, unmap}
+use Rattle.cg_places.proofs.Lists.{same_some, some_not_none, unmap, at_mapped}
 use Rattle.cg_places.proofs.Seating.{push_old, push_end, none_behind}
-
-at_mapped : {A B : Type 0} (f : A → B) (xs : List A) (j : ℕ) → slice_get (map f xs) j ≡ option_map f (slice_get xs j)
-at_mapped f [] j = refl
-at_mapped f (y ∷ ys) zero = refl
-at_mapped f (y ∷ ys) (suc j) = at_mapped f ys j
 
 -- what is written back into a list as long
 pub refilled : {A : Type 0} (n : ℕ) (new old : List A) → n ≡ length old → length new ≡ length old → take n (new ++ drop (length new) old) ≡ new
@@ -37,7 +32,7 @@ itself = here nat_cmp_total nat_cmp-IsAntisymmetric
 differs : (q p : ℕ) → q ≢ p → eq_by_cmp nat_cmp q p ≡ false
 differs = apart nat_cmp_total nat_cmp-IsAntisymmetric
 
-found_at : (es : List (ℕ × ℕ)) → ((i j : ℕ) (e f : ℕ × ℕ) → slice_get es i ≡ Some e → slice_get es j ≡ Some f → e.0 ≡ f.0 → i ≡ j) → (j : ℕ) (e : ℕ × ℕ) → slice_get es j ≡ Some e → find nat_cmp e.0 es ≡ Some e.1
+pub found_at : (es : List (ℕ × ℕ)) → ((i j : ℕ) (e f : ℕ × ℕ) → slice_get es i ≡ Some e → slice_get es j ≡ Some f → e.0 ≡ f.0 → i ≡ j) → (j : ℕ) (e : ℕ × ℕ) → slice_get es j ≡ Some e → find nat_cmp e.0 es ≡ Some e.1
 found_at [] once j e h = absurd (some_not_none e None h refl)
 found_at (f ∷ es) once zero e h =
     let same : f ≡ e = same_some f e h in
@@ -47,7 +42,7 @@ found_at (f ∷ es) once (suc j) e h =
     ap (λ b. cond b (Some f.1) (find nat_cmp e.0 es)) (differs e.0 f.0 ne)
     ∙ found_at es (λ i k a b x y z. let next : suc i ≡ suc k = once (suc i) (suc k) a b x y z in omega arith) j e h
 
-not_found : (es : List (ℕ × ℕ)) (q : ℕ) → ((j : ℕ) (e : ℕ × ℕ) → slice_get es j ≡ Some e → e.0 ≢ q) → find nat_cmp q es ≡ None
+pub not_found : (es : List (ℕ × ℕ)) (q : ℕ) → ((j : ℕ) (e : ℕ × ℕ) → slice_get es j ≡ Some e → e.0 ≢ q) → find nat_cmp q es ≡ None
 not_found [] q none = refl
 not_found (e ∷ es) q none = ap (λ b. cond b (Some e.1) (find nat_cmp q es)) (differs q e.0 (λ same. none 0 e refl (sym same))) ∙ not_found es q (λ j. none (suc j))
 
@@ -60,12 +55,16 @@ module _ (numbers : List (ℕ × ℕ)) (ps : List Process) (cells : List Cell) (
   process_at : (j : ℕ) (e : ℕ × ℕ) → slice_get (map who ps) j ≡ Some e → (p : Process) × (slice_get ps j ≡ Some p) × (who p ≡ e)
   process_at j e at = unmap who (slice_get ps j) e (sym (at_mapped who ps j) ∙ at)
 
-  once : (i j : ℕ) (e f : ℕ × ℕ) → slice_get (map who ps) i ≡ Some e → slice_get (map who ps) j ≡ Some f → e.0 ≡ f.0 → i ≡ j
+  pub once : (i j : ℕ) (e f : ℕ × ℕ) → slice_get (map who ps) i ≡ Some e → slice_get (map who ps) j ≡ Some f → e.0 ≡ f.0 → i ≡ j
   once i j e f a b same =
       let p = process_at i e a in
       let q = process_at j f b in
       let pids : p.0.pid ≡ q.0.pid = ap (λ (x : ℕ × ℕ). x.0) p.2 ∙ same ∙ sym (ap (λ (x : ℕ × ℕ). x.0) q.2) in
       same_some i j (sym (h.known i p.0 p.1) ∙ ap (number_of numbers) pids ∙ h.known j q.0 q.1)
+
+  -- no PID is that of two
+  pub own_pids : (i j : ℕ) (p q : Process) → slice_get ps i ≡ Some p → slice_get ps j ≡ Some q → p.pid ≡ q.pid → i ≡ j
+  own_pids i j p q a b same = same_some i j (sym (h.known i p a) ∙ ap (number_of numbers) same ∙ h.known j q b)
 
   found_by : (pid : ℕ) (o : Option ℕ) → number_of numbers pid ≡ o → find nat_cmp pid (map who ps) ≡ at_number ps o
   found_by pid None none = not_found (map who ps) pid (λ j e at same.

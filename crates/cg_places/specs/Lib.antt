@@ -3,3 +3,4 @@ pub mod Located
 pub mod Placed
 pub mod Seats
 pub mod Stacks
+pub mod Walks

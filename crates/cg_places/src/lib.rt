@@ -1,6 +1,7 @@
 //! Processes by the group that each is in.
 #![tactic(auto)]
 
+mod listing;
 mod places;
 mod seats;
 

@@ -1,7 +1,9 @@
 //! Processes by the group that each is in.
 ghost use Rattle.std.specs.Prelude.{◌≡◌, ◌≢◌, ◌↔◌, ◌<◌, is_some, None, Some, IsSome, IsTrue, IfOk, OnOk, OnErr, max, ℕ};
-ghost use Rattle.cg_maps.specs.FiniteMap.{empty, get, set_at};
+ghost use Rattle.cg_maps.specs.FiniteMap.{empty, entries, get, len, set_at};
+ghost use Rattle.cg_places.specs.Located.{pids_of};
 
+use crate::listing::gather;
 use crate::seats::{Cell, Process, Stack, carry, join, widen};
 use std::alloc::{AllocError, Global};
 use std::collections::HashMap;
@@ -129,6 +131,35 @@ impl Places {
         ensures { IsTrue result ↔ ((pid : ℕ) → get self.now.places pid ≢ Some group) }
     {
         self.stacks[group as usize].count == 0
+    }
+
+    /// The processes of the group, ascending.
+    pub fn pids_in(&self, alloc: Global, group: u32) -> Result<Vec<u32>, AllocError>
+        requires { group < self.now.groups }
+        ensures { IfOk result (λ pids. pids.items ≡ pids_of self.now.places group) }
+    {
+        let mut pids = gather(alloc, &self.processes, &self.cells, &self.stacks, group)?;
+        pids.sort_unstable();
+        Ok(pids)
+    }
+
+    /// All processes, ascending, each with its group.
+    pub fn places(&self, alloc: Global) -> Result<Vec<(u32, u32)>, AllocError>
+        ensures { IfOk result (λ all. all.items ≡ entries self.now.places) }
+    {
+        let mut all = Vec::with_capacity(alloc, self.processes.len())?;
+        for process in &self.processes {
+            all.push((process.pid, process.group))?;
+        }
+        all.sort_unstable_by_key(|place| place.0);
+        Ok(all)
+    }
+
+    /// How many processes there are.
+    pub fn len(&self) -> usize
+        ensures { result ≡ len self.now.places }
+    {
+        self.processes.len()
     }
 }
 
