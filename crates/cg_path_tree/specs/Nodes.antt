@@ -21,6 +21,10 @@ nodes_code {V} code =
     code_by (FiniteMap path_cmp V × FiniteMap path_cmp NodeKey) (coded× (map_code path_code code) (map_code path_code key_code))
     (λ n. (n.values, n.keys)) (λ p. record { values = p.0; keys = p.1 }) (λ _. refl)
 
+-- the number of a key, by which it is told from others
+abbrev pub number_of : NodeKey → ℕ
+number_of k = k.0
+
 -- the path one name shorter; the root's own
 abbrev pub parent_path : Path → Path
 parent_path p = take (length p - 1) p

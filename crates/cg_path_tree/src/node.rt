@@ -2,6 +2,7 @@
 ghost use Rattle.std.specs.Prelude.{◌≡◌, ◌≢◌, ◌<◌, ◌++◌, ◌∷◌, [], List, length, slice_get, swap_remove, None, Some, IsSome, IfOk, OnOk, vec_len, vec_capacity};
 ghost use Rattle.cg_path_tree.specs.declared.node.NodeKey.{NodeKey};
 ghost use Rattle.cg_path_tree.specs.Linked.{NodeView, node_in, HasRoom, Writes, TakesChild};
+ghost use Rattle.cg_path_tree.specs.Nodes.{number_of};
 
 use slab::Slab;
 use std::alloc::AllocError;
@@ -34,11 +35,11 @@ impl NodeKey {
         NodeKey(number)
     }
 
-    // Its number, by which the nodes are kept.
-    pub(crate) fn number(self) -> usize
-        ensures { result ≡ self.0 }
+    /// Its number: no other key of the tree has it.
+    pub fn number(self) -> u32
+        ensures { result ≡ number_of self }
     {
-        self.0 as usize
+        self.0
     }
 }
 
@@ -71,7 +72,7 @@ pub(crate) fn set_entry<V: Drop>(nodes: &mut Slab<Node<V>>, key: NodeKey, entry:
     requires { IsSome (node_in nodes.old key) }
     ensures { (n : NodeView V) → node_in nodes.old key ≡ Some n → Writes nodes.old nodes.new key (Some (record n { entry = entry })) }
 {
-    nodes[key.number()].entry = entry;
+    nodes[key.number() as usize].entry = entry;
 }
 
 // Notes the node's place among its parent's children.
@@ -79,7 +80,7 @@ fn set_place<V: Drop>(nodes: &mut Slab<Node<V>>, key: NodeKey, place: u32)
     requires { IsSome (node_in nodes.old key) }
     ensures { (n : NodeView V) → node_in nodes.old key ≡ Some n → Writes nodes.old nodes.new key (Some (record n { place = place })) }
 {
-    nodes[key.number()].place = place;
+    nodes[key.number() as usize].place = place;
 }
 
 // Makes room for one key more, and gives the place that it will have.
@@ -107,7 +108,7 @@ pub(crate) fn make_room<V: Drop>(
     let Some(key) = parent else {
         return Ok(0);
     };
-    reserve_one(&mut nodes[key.number()].children)
+    reserve_one(&mut nodes[key.number() as usize].children)
 }
 
 // Lists a node among the children of the one that it lies below, if there is one. There is room for it.
@@ -118,7 +119,7 @@ pub(crate) fn add_child<V: Drop>(nodes: &mut Slab<Node<V>>, parent: Option<NodeK
     ensures some { (k : NodeKey) (n : NodeView V) → parent ≡ Some k → node_in nodes.old k ≡ Some n → Writes nodes.old nodes.new k (Some (record n { children = n.children ++ child ∷ [] })) }
 {
     if let Some(key) = parent {
-        nodes[key.number()].children.push_reserved(child);
+        nodes[key.number() as usize].children.push_reserved(child);
     }
 }
 
@@ -139,7 +140,7 @@ fn take_child<V: Drop>(nodes: &mut Slab<Node<V>>, key: NodeKey, place: u32) -> O
     ensures taken { (n : NodeView V) (c : NodeKey) → node_in nodes.old key ≡ Some n → slice_get n.children place ≡ Some c → Writes nodes.old nodes.new key (Some (record n { children = swap_remove n.children place c })) }
     ensures moved { (n : NodeView V) (c : NodeKey) → node_in nodes.old key ≡ Some n → slice_get n.children place ≡ Some c → result ≡ slice_get (swap_remove n.children place c) place }
 {
-    take_out(&mut nodes[key.number()].children, place)
+    take_out(&mut nodes[key.number() as usize].children, place)
 }
 
 // Takes the child at the place out of the list of the node that it lay below, if there is one. The last child gets the

@@ -155,7 +155,7 @@ impl<V: Drop> PathTree<V> {
     pub fn is_live_key(&self, key: NodeKey) -> bool
         ensures { IsTrue result ↔ IsKey self.now.keys key }
     {
-        let Some(node) = self.nodes.get(key.number()) else {
+        let Some(node) = self.nodes.get(key.number() as usize) else {
             return false;
         };
         match self.index.get_index(node.entry as usize) {
@@ -169,7 +169,7 @@ impl<V: Drop> PathTree<V> {
         requires { IsKey self.now.keys key }
         ensures { (p : List (List ℕ)) → get self.now.keys p ≡ Some key → get self.now.values p ≡ Some result.now }
     {
-        &self.nodes[key.number()].value
+        &self.nodes[key.number() as usize].value
     }
 
     /// The value of the node with that key, to be written.
@@ -179,7 +179,7 @@ impl<V: Drop> PathTree<V> {
         ensures path { (p : List (List ℕ)) → get self.old.keys p ≡ Some key → path_of self.old.keys key ≡ p }
         ensures value { (p : List (List ℕ)) → get self.old.keys p ≡ Some key → get self.old.values p ≡ Some result.now }
     {
-        &mut self.nodes[key.number()].value
+        &mut self.nodes[key.number() as usize].value
     }
 
     /// The node one name shorter; `None` for the root's alone.
@@ -188,7 +188,7 @@ impl<V: Drop> PathTree<V> {
         ensures root { (p : List (List ℕ)) → get self.now.keys p ≡ Some key → is_some result ≡ not (is_root p) }
         ensures value { (p : List (List ℕ)) → get self.now.keys p ≡ Some key → is_root p ≡ false → result ≡ get self.now.keys (parent_path p) }
     {
-        let node = &self.nodes[key.number()];
+        let node = &self.nodes[key.number() as usize];
         node.parent()
     }
 
@@ -197,7 +197,7 @@ impl<V: Drop> PathTree<V> {
         requires { IsKey self.now.keys key }
         ensures { (p : List (List ℕ)) → get self.now.keys p ≡ Some key → result ≡ length p }
     {
-        self.nodes[key.number()].depth
+        self.nodes[key.number() as usize].depth
     }
 
     /// How many nodes lie right below the one with that key.
@@ -206,7 +206,7 @@ impl<V: Drop> PathTree<V> {
         ensures count { (p : List (List ℕ)) → get self.now.keys p ≡ Some key → result ≡ len (retain self.now.keys (is_parent p)) }
         ensures leaf { (p : List (List ℕ)) → get self.now.keys p ≡ Some key → result ≡ 0 → IsLeaf self.now.keys p }
     {
-        self.nodes[key.number()].children.len() as u32
+        self.nodes[key.number() as usize].children.len() as u32
     }
 
     /// The nodes right below the one with that key, in no order.
@@ -216,7 +216,7 @@ impl<V: Drop> PathTree<V> {
         ensures once { (i j : ℕ) (k : NodeKey) → slice_get result.now i ≡ Some k → slice_get result.now j ≡ Some k → i ≡ j }
         ensures count { (p : List (List ℕ)) → get self.now.keys p ≡ Some key → length result.now ≡ len (retain self.now.keys (is_parent p)) }
     {
-        &self.nodes[key.number()].children
+        &self.nodes[key.number() as usize].children
     }
 
     /// The nodes right below the one with that key, in the order of their paths.
@@ -252,7 +252,7 @@ impl<V: Drop> PathTree<V> {
         ensures packed { IsPacked result.now }
         ensures found { get self.now.keys (names_in result.now) ≡ Some key }
     {
-        let node = &self.nodes[key.number()];
+        let node = &self.nodes[key.number() as usize];
         match self.index.get_index(node.entry as usize) {
             Some((text, _)) => text.as_str(),
             None => unreachable!(),
@@ -305,7 +305,7 @@ impl<V: Drop> PathTree<V> {
         ensures values { (p : List (List ℕ)) → get self.old.keys p ≡ Some key → self.new.values ≡ set_at self.old.values p None }
         ensures value { (p : List (List ℕ)) → get self.old.keys p ≡ Some key → get self.old.values p ≡ Some result }
     {
-        let node = self.nodes.remove(key.number());
+        let node = self.nodes.remove(key.number() as usize);
         leave(&mut self.index, &mut self.nodes, node.entry);
         remove_child(&mut self.nodes, node.parent(), node.place);
         node.value
