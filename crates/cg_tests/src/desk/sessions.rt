@@ -122,5 +122,5 @@ fn a_desk_keeps_its_history_within_the_limit(rt: HostRuntime) {
     let mut out = Vec::new(rt.alloc());
     let refused = write_all_within_four_slots(&rt, rt.alloc(), &mut out);
     assert!(rt; refused == Ok(Some(Refusal::Full)));
-    assert!(rt; out.as_slice() == b"done\nrefused 4 full\ncommitted 1\n");
+    assert!(rt; out.as_slice() == "done\nrefused 4 full\ncommitted 1\n".as_bytes());
 }
