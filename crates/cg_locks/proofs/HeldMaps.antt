@@ -9,8 +9,8 @@ use Rattle.cg_name.specs.Path.{Path, path_cmp, is_prefix, same_path}
 use Rattle.cg_locks.specs.declared.held.Held.{Held}
 use Rattle.cg_locks.specs.declared.held.Part.{Part}
 use Rattle.cg_locks.specs.Held.{part_of, same_part, IsHeldMore}
-use Rattle.cg_locks.specs.HeldByPath.{in_part, AreSummedUp, HeldByPath, IsOneMoreIn, IsSameHeld}
-use Rattle.cg_locks.specs.Holders.{Counts, held_at, held_below, held_by, held_if, one, IsSummedUp}
+use Rattle.cg_locks.specs.HeldByPath.{in_part, HeldByPath, IsOneMoreIn, IsSameHeld}
+use Rattle.cg_locks.specs.Holders.{Counts, held_at, held_by, held_if, one}
 use Rattle.cg_locks.proofs.Summed.{as_before, changed_at, changed_below, neither}
 
 -- ---- one part, by paths
@@ -98,12 +98,6 @@ made_alike T T' p h absent set free = set_alike T T' p (Some h) set (λ r u. fre
 pub dropped_alike : (T T' : HeldByPath) (p : Path) (h : Held) → get T p ≡ Some h → T' ≡ set_at T p None → IsFree h → IsSameHeld T T'
 dropped_alike T T' p h there set free = set_alike T T' p None set (λ r u. sym (held_there r T p h u there ∙ free r u))
 
-pub unchanged : (T T' : HeldByPath) → T' ≡ T → IsSameHeld T T'
-unchanged T T' e = record {
-  at = λ r q u. ap (λ M. held_at (in_part r M) q u) e;
-  below = λ r q u. ap (λ M. held_below (in_part r M) q u) e;
-}
-
 pub alike_then : (T M T' : HeldByPath) → IsSameHeld T M → IsSameHeld M T' → IsSameHeld T T'
 alike_then T M T' a b = record {
   at = λ r q u. b.at r q u ∙ a.at r q u;
@@ -115,22 +109,6 @@ pub undone : (T M M' T' : HeldByPath) (s : Part) (p : Path) (t : ℕ) → IsOneM
 undone T M M' T' s p t more same less = record {
   at = λ r q u. let a = more.at r q u in let b = same.at r q u in let c = less.at r q u in omega (arith, a, b, c);
   below = λ r q u. let a = more.below r q u in let b = same.below r q u in let c = less.below r q u in omega (arith, a, b, c);
-}
-
-pub alike_more : (T M T' : HeldByPath) (s : Part) (p : Path) (t : ℕ) → IsSameHeld T M → IsOneMoreIn M s p t T' → IsOneMoreIn T s p t T'
-alike_more T M T' s p t same more = record {
-  at = λ r q u. let a = more.at r q u in let b = same.at r q u in omega (arith, a, b);
-  below = λ r q u. let a = more.below r q u in let b = same.below r q u in omega (arith, a, b);
-}
-
-sum_alike : (T T' : HeldByPath) (a b : Part) → IsSameHeld T T' → IsSummedUp (in_part a T) (in_part b T) → IsSummedUp (in_part a T') (in_part b T')
-sum_alike T T' a b same h q u = same.at b q u ∙ h q u ∙ sym (same.below a q u)
-
-pub summed_alike : (T T' : HeldByPath) → IsSameHeld T T' → AreSummedUp T → AreSummedUp T'
-summed_alike T T' same h = record {
-  changed = sum_alike T T' _ _ same h.changed;
-  read = sum_alike T T' _ _ same h.read;
-  stays = sum_alike T T' _ _ same h.stays;
 }
 
 -- what is at a path written again

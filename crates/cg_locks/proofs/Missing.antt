@@ -1,12 +1,11 @@
 -- The nodes above a path, made one after another.
-use Rattle.std.proofs.Common.{◌≡◌, ◌≢◌, ℕ, zero, suc, ◌-◌, ◌<◌, ◌≤◌, length, take, Some, None, IsSome, is_some, refl, sym, ap, subst, ◌∙◌, arith, true≢false}
-use Rattle.std.proofs.lemmas.List.{length-take-le, take-take, take_all}
+use Rattle.std.proofs.Common.{◌≡◌, ◌≢◌, ℕ, suc, ◌<◌, ◌≤◌, length, take, Some, None, IsSome, is_some, ap, ◌∙◌, arith}
+use Rattle.std.proofs.lemmas.List.{length-take-le}
 use Rattle.cg_maps.specs.FiniteMap.{FiniteMap, get, set_at}
 use Rattle.cg_maps.proofs.Maps as maps
 use Rattle.cg_name.specs.Order.{path_cmp_total, path_cmp_exact}
 use Rattle.cg_name.specs.Path.{Path, path_cmp}
 use Rattle.cg_path_tree.specs.declared.node.NodeKey.{NodeKey}
-use Rattle.cg_path_tree.specs.Nodes.{parent_path, HasParent}
 use Rattle.cg_locks.specs.HeldByPath.{HeldByPath, IsSameHeld}
 
 abbrev Keys : Type 0
@@ -19,22 +18,6 @@ AreMissing keys p d = (m : ℕ) → d ≤ m → m ≤ length p → get keys (tak
 -- and the one before has one, if there is one
 abbrev pub IsReached : Keys → Path → ℕ → Type 0
 IsReached keys p d = (m : ℕ) → suc m ≡ d → IsSome (get keys (take m p))
-
-parent_of : (p : Path) (m : ℕ) → suc m ≤ length p → parent_path (take (suc m) p) ≡ take m p
-parent_of p m short =
-    let long = length-take-le (suc m) p short in
-    let one_less : length (take (suc m) p) - 1 ≡ m = omega (arith, long) in
-    ap (λ k. take k (take (suc m) p)) one_less ∙ take-take m (suc m) p (omega arith)
-
-pub reached_parent : (keys : Keys) (p : Path) (d : ℕ) → d ≤ length p → IsReached keys p d → HasParent keys (take d p)
-reached_parent keys p zero short before root = absurd (true≢false root)
-reached_parent keys p (suc m) short before root = subst (λ q. IsSome (get keys q)) (sym (parent_of p m short)) (before m refl)
-
-pub whole_reached : (keys : Keys) (p : Path) (d : ℕ) → d ≡ length p → IsReached keys p d → HasParent keys p
-whole_reached keys p d e before = subst (HasParent keys) (take_all d p (omega (arith, e))) (reached_parent keys p d (omega (arith, e)) before)
-
-pub whole_missing : (keys : Keys) (p : Path) (d : ℕ) → d ≤ length p → AreMissing keys p d → get keys p ≡ None
-whole_missing keys p d short none = subst (λ q. get keys q ≡ None) (take_all (length p) p (omega arith)) (none (length p) short (omega arith))
 
 module _ (keys keys' : Keys) (p : Path) (d : ℕ) (k : NodeKey) (short : d < length p) (put : keys' ≡ set_at keys (take d p) (Some k)) where
   longer : (m : ℕ) → d < m → m ≤ length p → take m p ≢ take d p

@@ -1,5 +1,5 @@
 -- What is held at or below each path, as the holders of one path change.
-use Rattle.std.proofs.Common.{◌≡◌, ℕ, zero, suc, ◌+◌, ◌<◌, ◌≤◌, ◌==◌, ◌&&◌, Bool, true, false, cond, not, T, List, [], ◌∷◌, Option, Some, None, Ordering, Less, Equal, Greater, refl, sym, ap, subst, ◌∙◌, arith}
+use Rattle.std.proofs.Common.{◌≡◌, ℕ, zero, suc, ◌+◌, ◌<◌, ◌≤◌, ◌&&◌, Bool, true, false, cond, not, T, List, [], ◌∷◌, Option, Some, None, Ordering, Less, Equal, Greater, refl, sym, ap, subst, ◌∙◌, arith}
 use Rattle.std.proofs.lemmas.List.Sums.{sum_by-cons}
 use Rattle.std.specs.Cmp.{IsTotalOrder}
 use Rattle.std.specs.FinMap.{IsAntisymmetric}
@@ -12,7 +12,7 @@ use Rattle.cg_maps.proofs.Tests.{and_both, and_first, and_second, less}
 use Rattle.cg_name.specs.Order.{path_cmp_total, path_cmp_exact}
 use Rattle.cg_name.specs.Path.{Path, path_cmp, is_prefix, same_path}
 use Rattle.cg_model_laws.proofs.Paths.{same_path-is}
-use Rattle.cg_locks.specs.Holders.{Counts, PathCounts, held_at, held_below, held_by, held_if, one, IsOneMore, IsSame}
+use Rattle.cg_locks.specs.Holders.{Counts, PathCounts, held_at, held_below, held_by, held_if, one, IsSame}
 
 -- ---- a sum over the entries of a map
 
@@ -151,30 +151,6 @@ module _ (T T' : PathCounts) (p : Path) (o : Option Counts) (set : T' ≡ set_at
       ] all
 
 module _ (T T' : PathCounts) (p : Path) (t : ℕ) (o : Option Counts) (set : T' ≡ set_at T p o) where
-  pub one_more : ((u : ℕ) → held_if o u ≡ held_at T p u + one (u == t)) → IsOneMore T p t T'
-  one_more more =
-      let change : (u : ℕ) → held_if o u + 0 ≡ held_at T p u + one (u == t) = λ u. (let m = more u in omega (arith, m)) in
-      record {
-        at = λ q u.
-            let z = changed_at T T' p o set 0 (one (u == t)) u (change u) q in
-            let a = neither (same_path q p) in let w = within (same_path q p) (u == t) in omega (arith, z, a, w);
-        below = λ q u.
-            let z = changed_below T T' p o set 0 (one (u == t)) u (change u) q in
-            let a = neither (is_prefix q p) in let w = within (is_prefix q p) (u == t) in omega (arith, z, a, w);
-      }
-
-  pub one_less : ((u : ℕ) → held_at T p u ≡ held_if o u + one (u == t)) → IsOneMore T' p t T
-  one_less less =
-      let change : (u : ℕ) → held_if o u + one (u == t) ≡ held_at T p u + 0 = λ u. (let m = less u in omega (arith, m)) in
-      record {
-        at = λ q u.
-            let z = changed_at T T' p o set (one (u == t)) 0 u (change u) q in
-            let a = neither (same_path q p) in let w = within (same_path q p) (u == t) in omega (arith, z, a, w);
-        below = λ q u.
-            let z = changed_below T T' p o set (one (u == t)) 0 u (change u) q in
-            let a = neither (is_prefix q p) in let w = within (is_prefix q p) (u == t) in omega (arith, z, a, w);
-      }
-
   pub as_before : ((u : ℕ) → held_if o u ≡ held_at T p u) → IsSame T T'
   as_before same =
       let change : (u : ℕ) → held_if o u + 0 ≡ held_at T p u + 0 = λ u. ap (λ n. n + 0) (same u) in
@@ -182,12 +158,6 @@ module _ (T T' : PathCounts) (p : Path) (t : ℕ) (o : Option Counts) (set : T' 
         at = λ q u. let z = changed_at T T' p o set 0 0 u (change u) q in let a = neither (same_path q p) in omega (arith, z, a);
         below = λ q u. let z = changed_below T T' p o set 0 0 u (change u) q in let a = neither (is_prefix q p) in omega (arith, z, a);
       }
-
-pub same_after : (T M M' : PathCounts) (p : Path) (t : ℕ) → IsOneMore M p t T → IsSame M M' → IsOneMore M' p t T
-same_after T M M' p t more same = record {
-  at = λ q u. more.at q u ∙ ap (λ n. n + one (same_path q p && (u == t))) (sym (same.at q u));
-  below = λ q u. more.below q u ∙ ap (λ n. n + one (is_prefix q p && (u == t))) (sym (same.below q u));
-}
 
 -- what is at a path is among what is at or below each path with which it begins
 pub at_counts : (T : PathCounts) (q p : Path) (u : ℕ) → is_prefix q p ≡ true → held_at T p u ≤ held_below T q u

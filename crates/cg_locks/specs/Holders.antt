@@ -1,12 +1,12 @@
 -- Which transactions hold one thing, and how often; and the same of things by paths.
-use Rattle.std.specs.Prelude.{◌≡◌, ◌≢◌, ℕ, zero, suc, ◌+◌, ◌<◌, ◌≤◌, ◌==◌, ◌&&◌, nat_lt, Bool, cond, T, List, [], ◌∷◌, length, take, Option, Some, None}
+use Rattle.std.specs.Prelude.{◌≡◌, ◌≢◌, ℕ, zero, suc, ◌+◌, ◌<◌, ◌≤◌, nat_lt, Bool, cond, T, List, [], ◌∷◌, length, take, Option, Some, None}
 use Rattle.std.specs.FinMap.Entries.{is_sorted}
 use Rattle.std.specs.List.{sum_by}
 use Rattle.std.specs.Option.{unwrap_or}
 use Rattle.std.specs.Ordering.{nat_cmp}
 use Rattle.cg_maps.specs.FiniteMap.{FiniteMap, entries, from_entries, get}
 use Rattle.cg_name.specs.declared.refusal.TxnNumber.{TxnNumber}
-use Rattle.cg_name.specs.Path.{Path, path_cmp, same_path, is_prefix}
+use Rattle.cg_name.specs.Path.{Path, path_cmp, is_prefix}
 
 -- transactions, each with how often it holds the thing
 abbrev pub Counts : Type 0
@@ -63,26 +63,9 @@ held_above T p u = held_until T p (suc (length p)) u
 abbrev pub one : Bool → ℕ
 one b = cond b 1 0
 
--- T' has one holding by t at p more
-pub record IsOneMore (T : PathCounts) (p : Path) (t : ℕ) (T' : PathCounts) : Type 0 where
-  pub at : (q : Path) (u : ℕ) → held_at T' q u ≡ held_at T q u + one (same_path q p && (u == t))
-  pub below : (q : Path) (u : ℕ) → held_below T' q u ≡ held_below T q u + one (is_prefix q p && (u == t))
-
--- q has fewer than n names, and p begins with them
-abbrev pub is_among : ℕ → Path → Path → Bool
-is_among n p q = is_prefix q p && nat_lt (length q) n
-
--- T' has one holding by t more at each of the first n paths with which p begins
-abbrev pub IsOneMoreAbove : PathCounts → Path → ℕ → ℕ → PathCounts → Type 0
-IsOneMoreAbove T p n t T' = (q : Path) (u : ℕ) → held_at T' q u ≡ held_at T q u + one (is_among n p q && (u == t))
-
--- in T' the same is held
-abbrev pub IsAlike : PathCounts → PathCounts → Type 0
-IsAlike T T' = (q : Path) (u : ℕ) → held_at T' q u ≡ held_at T q u
-
--- so it is, and as often at or below each path
+-- in T' the same is held, at each path and at or below it
 pub record IsSame (T T' : PathCounts) : Type 0 where
-  pub at : IsAlike T T'
+  pub at : (q : Path) (u : ℕ) → held_at T' q u ≡ held_at T q u
   pub below : (q : Path) (u : ℕ) → held_below T' q u ≡ held_below T q u
 
 -- each path has, how often what is at it or below it is held
