@@ -10,6 +10,7 @@ mod locks;
 mod path_maps;
 mod path_trees;
 mod paths;
+mod places;
 mod plain_locks;
 mod transactions;
 mod trees;

@@ -12,13 +12,13 @@ use std::alloc::{AllocError, Global};
 
 /// Numbers that look like chance, and are the same for the same seed.
 #[derive(Clone, Copy)]
-struct Generator {
+pub(crate) struct Generator {
     state: u64,
 }
 
 impl Generator {
     // The numbers of a seed.
-    fn new(seed: u64) -> Generator {
+    pub(crate) fn new(seed: u64) -> Generator {
         Generator {
             state: seed.wrapping_mul(0x9E37_79B9_7F4A_7C15) | 1,
         }
@@ -35,7 +35,7 @@ impl Generator {
     }
 
     // A number below a count.
-    fn below(&mut self, count: usize) -> usize {
+    pub(crate) fn below(&mut self, count: usize) -> usize {
         self.next() as usize % count.max(1)
     }
 

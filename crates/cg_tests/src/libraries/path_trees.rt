@@ -69,6 +69,42 @@ fn write_upward(
     Ok(())
 }
 
+// Appends the paths of these nodes.
+fn write_paths(tree: &PathTree<u32>, keys: &[NodeKey], out: &mut Vec<u8>) -> Result<(), Refusal> {
+    for key in keys {
+        if !tree.is_live_key(*key) {
+            return Err(Refusal::NoGroup);
+        }
+        tree.path(*key).write(out)?;
+        out.push(b' ')?;
+    }
+    Ok(())
+}
+
+// Appends the paths of all nodes, in order.
+fn write_all(alloc: Global, tree: &PathTree<u32>, out: &mut Vec<u8>) -> Result<(), Refusal> {
+    let keys = tree.sorted(alloc)?;
+    write_paths(tree, &keys, out)
+}
+
+// Appends the paths of the nodes right below that path, in order.
+fn write_children(
+    alloc: Global,
+    tree: &PathTree<u32>,
+    word: &str,
+    out: &mut Vec<u8>,
+) -> Result<(), Refusal> {
+    let path = Path::read(alloc, word)?;
+    let Some(key) = tree.find(&path) else {
+        return Err(Refusal::NoGroup);
+    };
+    if tree.children(key).len() != tree.child_count(key) as usize {
+        return Err(Refusal::Lost);
+    }
+    let keys = tree.sorted_children(alloc, key)?;
+    write_paths(tree, &keys, out)
+}
+
 // How deep the deepest node on the path is.
 fn deepest(alloc: Global, tree: &PathTree<u32>, word: &str) -> Result<Option<u32>, Refusal> {
     let path = Path::read(alloc, word)?;
@@ -115,4 +151,22 @@ fn a_removal_leaves_the_others(rt: HostRuntime) {
     assert!(rt; write_upward(rt.alloc(), &tree, "/é/b", &mut out) == Ok(()));
     assert!(rt; write_upward(rt.alloc(), &tree, "/a", &mut out) == Ok(()));
     assert!(rt; out.as_slice() == "\"/é/b\" \"/é\" / /a / ".as_bytes());
+}
+
+#[test]
+fn nodes_are_listed_in_order(rt: HostRuntime) {
+    let mut tree = PathTree::new(rt.alloc());
+    let mut out = Vec::new(rt.alloc());
+    assert!(rt; fill(rt.alloc(), &mut tree) == Ok(()));
+    assert!(rt; put(rt.alloc(), &mut tree, "/a/é", 5).is_ok());
+    assert!(rt; put(rt.alloc(), &mut tree, "/a/a-", 6).is_ok());
+    assert!(rt; put(rt.alloc(), &mut tree, "/a/a", 7).is_ok());
+    assert!(rt; write_all(rt.alloc(), &tree, &mut out) == Ok(()));
+    assert!(rt; write_children(rt.alloc(), &tree, "/a", &mut out) == Ok(()));
+    assert!(rt; take(rt.alloc(), &mut tree, "/a/é") == Ok(5));
+    assert!(rt; write_children(rt.alloc(), &tree, "/a", &mut out) == Ok(()));
+    let all = "/ /a /a/a /a/a- /a/b /a/b/c \"/a/é\" \"/é\" ";
+    let below = "/a/a /a/a- /a/b \"/a/é\" /a/a /a/a- /a/b ";
+    assert!(rt; out.starts_with(all.as_bytes()));
+    assert!(rt; out.ends_with(below.as_bytes()) && out.len() == all.len() + below.len());
 }
