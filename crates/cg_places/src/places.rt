@@ -59,6 +59,13 @@ impl Places {
         }
     }
 
+    /// How many numbers groups may have: those below it may be used.
+    pub fn groups(&self) -> usize
+        ensures { result ≡ self.now.groups }
+    {
+        self.stacks.len()
+    }
+
     /// The group of the process, if it is there. Takes no memory.
     pub fn group_of(&self, pid: u32) -> Option<u32>
         ensures { result ≡ get self.now.places pid }
