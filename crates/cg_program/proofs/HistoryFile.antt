@@ -1,12 +1,14 @@
 -- The file that a history is kept in.
-use Rattle.std.proofs.Common.{◌≡◌, ◌≢◌, ◌||◌, ℕ, zero, suc, arith, ◌+◌, ◌<◌, Bool, true, false, List, [], ◌∷◌, length, map, take, get_or, refl, ap, ◌∙◌, subst, sym}
+use Rattle.std.proofs.Common.{◌≡◌, ◌≢◌, ◌||◌, ℕ, zero, suc, arith, ◌+◌, ◌<◌, Bool, true, false, List, [], ◌∷◌, length, map, take, get_or, refl, ap, ◌∙◌, subst, sym, inl, inr}
 use Rattle.std.proofs.lemmas.List.Folds.{list_any_more}
 use Rattle.std.specs.List.{list_any}
 use Rattle.std.proofs.lemmas.Option.{none-some}
 use Rattle.std.specs.Prelude.{◌⊎◌, Option, Some, None, IfSome, IsSome, MatchOption}
 use Rattle.std.specs.Option.{option_map}
 use Rattle.cg_name.specs.declared.refusal.Refusal.{Refusal}
-use Rattle.cg_program.specs.Batch.{AppendsGiven}
+use Rattle.cg_lines.specs.Device.{AppendsFront}
+use Rattle.cg_lines.proofs.DeviceLemmas.{AppendsFront-whole}
+use Rattle.cg_program.specs.Batch.{AppendsGiven, FailedGiven, StopsIn}
 use Rattle.cg_program.specs.Named.{IsFileNamed}
 use Rattle.cg_program.specs.Program.{WritesUnlessFailed}
 use Rattle.cg_program.specs.Status.{refusal_line, status_where}
@@ -35,15 +37,26 @@ none_more test xs i d inside before here holds = neither (list_any test (take i 
     neither true b not_a not_b either = not_a refl
     neither false b not_a not_b either = not_b either
 
--- a run's refusal is told, whether the run gives it or the end behind it
-abbrev pub IsTold : {K : Type 0} → (K → Option (List ℕ)) → (K → ℕ) → K → K → ℕ → Type 0
-IsTold taken failed old new status =
-    (status ≡ 0) ⊎ ((refusal : Refusal) × (status ≡ status_where refusal) × WritesUnlessFailed (taken old) (taken new) (failed old) (failed new) (refusal_line refusal))
+-- a run's refusal is told and has its cause, whether the run gives it or the end behind it
+abbrev pub IsTold : {K : Type 0} → (Refusal → Type 0) → (K → Option (List ℕ)) → (K → ℕ) → K → K → ℕ → Type 0
+IsTold Cause taken failed old new status =
+    (status ≡ 0) ⊎ ((refusal : Refusal) × (status ≡ status_where refusal) × WritesUnlessFailed (taken old) (taken new) (failed old) (failed new) (refusal_line refusal) × Cause refusal)
 
-pub told_through : {K : Type 0} (taken : K → Option (List ℕ)) (failed : K → ℕ) (old mid new : K) (status result : ℕ)
-    → IsTold taken failed old mid status → (status ≡ 0 → mid ≡ old) → (status ≡ 0 → IsTold taken failed mid new result) → (status ≢ 0 → (result ≡ status) × (new ≡ mid))
-    → IsTold taken failed old new result
-told_through taken failed old mid new zero result told quiet ended stays = subst (λ from. IsTold taken failed from new result) (quiet refl) (ended refl)
-told_through taken failed old mid new (suc n) result told quiet ended stays =
+pub told_through : {K : Type 0} (Cause : Refusal → Type 0) (taken : K → Option (List ℕ)) (failed : K → ℕ) (old mid new : K) (status result : ℕ)
+    → IsTold Cause taken failed old mid status → (status ≡ 0 → mid ≡ old) → (status ≡ 0 → IsTold Cause taken failed mid new result) → (status ≢ 0 → (result ≡ status) × (new ≡ mid))
+    → IsTold Cause taken failed old new result
+told_through Cause taken failed old mid new zero result told quiet ended stays = subst (λ from. IsTold Cause taken failed from new result) (quiet refl) (ended refl)
+told_through Cause taken failed old mid new (suc n) result told quiet ended stays =
     let same = stays (λ e. absurd (omega arith)) in
-    subst (λ r. IsTold taken failed old new r) (sym same.0) (subst (λ to. IsTold taken failed old to (suc n)) (sym same.1) told)
+    subst (λ r. IsTold Cause taken failed old new r) (sym same.0) (subst (λ to. IsTold Cause taken failed old to (suc n)) (sym same.1) told)
+
+-- a sink of the history that failed is one that was asked for
+pub given_some : {K W : Type 0} (P : K → Type 0) (failed : K → ℕ) (opened new : Option K) (name : Option W) → MatchOption opened (name ≡ None) (λ output. IsSome name × P output) → FailedGiven failed opened new → IsSome name
+given_some P failed None new name opened_so fails = absurd fails
+given_some P failed (Some old) None name opened_so fails = absurd fails
+given_some P failed (Some old) (Some new) name opened_so fails = opened_so.0
+
+-- where the telling stopped, some of the front was told
+pub front_told : {K : Type 0} (old new : Option (List ℕ)) (taken : K → Option (List ℕ)) (history history' : Option K) (told past : List ℕ) → StopsIn old new taken history history' told past → AppendsFront old new told
+front_told old new taken history history' told past (inl stops) = stops.0
+front_told old new taken history history' told past (inr stops) = AppendsFront-whole old new told stops.0

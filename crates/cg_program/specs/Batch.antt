@@ -1,7 +1,9 @@
 -- A batch: scripts run over a world, and what is told of them.
-use Rattle.std.specs.Prelude.{◌≡◌, ◌≤◌, ◌⊎◌, ℕ, List, ◌++◌, Option, Some, None, IfSome, ⊤}
+use Rattle.std.specs.Prelude.{◌≡◌, ◌<◌, ◌≤◌, ◌⊎◌, ℕ, Bool, true, false, List, ◌++◌, length, Option, Some, None, IfSome, ⊤}
 use Rattle.std.specs.List.{AllZip, Any}
 use Rattle.std.specs.Io.KnownBytes.{Appends}
+use Rattle.cg_name.specs.declared.refusal.Refusal.{Refusal}
+use Rattle.cg_name.specs.declared.refusal.Refusal.TheVariants.{Syntax, Memory, Disagree, ReadFault, WriteFault}
 use Rattle.cg_model.specs.Cgroups.{cgroups}
 use Rattle.cg_model.specs.History.{History}
 use Rattle.cg_model.specs.Sound.{Sound}
@@ -10,11 +12,25 @@ use Rattle.cg_core_laws.specs.MachineOf.{Reached}
 use Rattle.cg_lines.specs.Device.{AppendsFront, Failed}
 use Rattle.cg_script.specs.HistoryText.{history_text}
 use Rattle.cg_script.specs.ScriptOf.{SpellsAs, SpellsNoScript, text_left}
+use Rattle.cg_script.specs.WorldPart.{HasNoWorld, ReadsWorld}
 use Rattle.cg_script.specs.declared.script.Script.{Script}
 use Rattle.cg_runner.specs.Closed.{HaveHappened, IsClosed}
 use Rattle.cg_runner.specs.End.{CanEnd}
 use Rattle.cg_runner.specs.declared.end.ScriptEnd.{ScriptEnd}
 use Rattle.cg_program.specs.Ends.{end_lines}
+
+-- a refusal at which a run of scripts as a whole may stop
+abbrev pub stops_run : Refusal → Bool
+stops_run Syntax = true
+stops_run Memory = true
+stops_run Disagree = true
+stops_run ReadFault = true
+stops_run WriteFault = true
+stops_run _ = false
+
+-- a world stands at the head of the text, where that is known
+abbrev pub BeginsWithWorld : Option (List ℕ) → Type 0
+BeginsWithWorld known = IfSome known (λ text. (T : Tree) × (rest : Option (List ℕ)) × ReadsWorld text T rest)
 
 -- one of the texts spells no script
 abbrev pub SomeSpellsNone : List (List ℕ) → Type 0
@@ -69,6 +85,14 @@ abbrev pub StopsIn : {K : Type 0} → Option (List ℕ) → Option (List ℕ) �
 StopsIn old new taken history history' told past =
     (AppendsFront old new told × (history' ≡ history)) ⊎ (Appends old new told × AppendsFrontGiven taken history history' past)
 
+-- one of the files with these names, as far as they are known, is longer than the text of a script may be
+abbrev pub SomeTooLong : (List ℕ → Option (List ℕ)) → List (List ℕ) → Type 0
+SomeTooLong file names = Any (λ name. IfSome (file name) (λ known. 16777216 < length known)) names
+
 -- these are the texts of the files with these names, as far as those are known
 abbrev pub AreTexts : (List ℕ → Option (List ℕ)) → List (List ℕ) → List (List ℕ) → Type 0
 AreTexts file names texts = AllZip (λ name text. IfSome (file name) (λ known. text ≡ known)) names texts
+
+-- the world, where its text is known, or one of the scripts, as far as their files are, spells nothing
+abbrev pub SpellNothing : Option (List ℕ) → (List ℕ → Option (List ℕ)) → List (List ℕ) → Type 0
+SpellNothing world file names = IfSome world HasNoWorld ⊎ ((texts : List (List ℕ)) × AreTexts file names texts × SomeSpellsNone texts)

@@ -3,9 +3,14 @@ ghost use Rattle.std.specs.Prelude.{◌≡◌, ◌≢◌, ◌≤◌, ◌⊎◌, 
 ghost use Rattle.std.specs.List.{list_any};
 ghost use Rattle.std.specs.Option.{option_map};
 ghost use Rattle.std.specs.Io.KnownBytes.{Appends};
+ghost use Rattle.std.specs.Result.{IsErrOf};
 ghost use Rattle.cg_name.specs.declared.refusal.Refusal.{Refusal};
-ghost use Rattle.cg_program.specs.Batch.{AreTexts, Tells};
-ghost use Rattle.cg_program.specs.Named.{IsFileNamed, IsInput, IsNotNamed, IsWorld};
+ghost use Rattle.cg_name.specs.declared.refusal.Refusal.TheVariants as refusals;
+ghost use Rattle.cg_lines.specs.Device.{AppendsFront, Failed};
+ghost use Rattle.cg_lines.specs.Lines.{pending};
+ghost use Rattle.cg_script.specs.declared.fault.ScriptFault.TheVariants as faults;
+ghost use Rattle.cg_program.specs.Batch.{stops_run, AreTexts, BeginsWithWorld, SomeTooLong, SpellNothing, Tells};
+ghost use Rattle.cg_program.specs.Named.{named, IsFileNamed, IsInput, IsNotNamed, IsWorld};
 ghost use Rattle.cg_program.specs.Program.{WritesUnlessFailed};
 ghost use Rattle.cg_program.specs.Status.{refusal_line, status_where};
 
@@ -58,12 +63,18 @@ pub fn run_named<P: Outputs, G: Gate + Sync, R: Threads + Wait + Sync, O: Sink, 
     // All scripts ended, all is told, and the history is the file of its name;
     ensures done { result ≡ 0 → (texts : List (List ℕ)) × AreTexts (P.file files.old) (map (λ w. w.now) words.entry.scripts.now) texts
         × Tells workers tries texts (λ told past. Appends (O.taken out.old) (O.taken out.new) told × IsFileNamed P.nothing (P.file files.new) (option_map (λ w. w.now) words.entry.history) past) }
+    ensures read { result ≡ 0 → BeginsWithWorld (named (P.standard files.old) (P.file files.old) words.entry.world.now) }
     ensures quiet { result ≡ 0 → err.new ≡ err.old }
 
-    // or there is a refusal, which is told, and no file has changed.
+    // or there is a refusal, which is told and has its cause, and no file has changed.
     ensures told { (result ≡ 0) ⊎ ((refusal : Refusal) × (result ≡ status_where refusal)
-        × WritesUnlessFailed (E.taken err.old) (E.taken err.new) (E.failed err.old) (E.failed err.new) (refusal_line refusal)) }
-    ensures refused { result ≡ 2 → out.new ≡ out.old }
+        × WritesUnlessFailed (E.taken err.old) (E.taken err.new) (E.failed err.old) (E.failed err.new) (refusal_line refusal)
+        × (stops_run refusal ≡ true)
+        × (refusal ≡ refusals.WriteFault → Failed (O.failed out.old) (O.failed out.new) ⊎ IsSome words.entry.history)) }
+    ensures refused { result ≡ 2 → (out.new ≡ out.old) × (SomeTooLong (P.file files.old) (map (λ w. w.now) words.entry.scripts.now)
+        ⊎ SpellNothing (named (P.standard files.old) (P.file files.old) words.entry.world.now) (P.file files.old) (map (λ w. w.now) words.entry.scripts.now)) }
+    ensures front { result ≡ 3 → (out.new ≡ out.old) ⊎ ((texts : List (List ℕ)) × AreTexts (P.file files.old) (map (λ w. w.now) words.entry.scripts.now) texts
+        × Tells workers tries texts (λ told past. AppendsFront (O.taken out.old) (O.taken out.new) told)) }
     ensures unchanged { result ≢ 0 → P.file files.new ≡ P.file files.old }
 
     // No file has changed but the history, which is none of the inputs.
@@ -97,6 +108,9 @@ fn open_all<P: Outputs>(
     words: Words,
 ) -> Result<(Vec<Vec<u8>>, LineReader<P::Input>, Option<P::Output>), ScriptFault>
     ensures texts { IfOk result (λ opened. AreTexts (P.file files.now) (map (λ w. w.now) words.entry.scripts.now) (map (λ t. t.items) opened.0.items)) }
+    ensures world { IfOk result (λ opened. pending opened.1 ≡ named (P.standard files.now) (P.file files.now) words.entry.world.now) }
+    ensures syntax { IsErrOf result faults.Syntax → SomeTooLong (P.file files.now) (map (λ w. w.now) words.entry.scripts.now) }
+    ensures writes { IsErrOf result faults.WriteFault → IsSome words.entry.history }
     ensures history { IfOk result (λ opened. MatchOption opened.2 (words.entry.history ≡ None) (λ output. IsSome words.entry.history × (P.Output.taken output ≡ P.nothing))) }
     ensures inputs { IfSome words.entry.history (λ name. IsInput (P.is_read files.now name.now) (P.is_same files.now name.now) words.entry.world.now (map (λ w. w.now) words.entry.scripts.now) → IsErr result) }
 {
@@ -153,7 +167,8 @@ fn end_history<P: Outputs, E: Sink>(
     ensures done { result ≡ 0 → (status ≡ 0) × (err.new ≡ err.old) }
     ensures failed { status ≢ 0 → (result ≡ status) × (err.new ≡ err.old) }
     ensures told { status ≡ 0 → (result ≡ 0) ⊎ ((refusal : Refusal) × (result ≡ status_where refusal)
-        × WritesUnlessFailed (E.taken err.old) (E.taken err.new) (E.failed err.old) (E.failed err.new) (refusal_line refusal)) }
+        × WritesUnlessFailed (E.taken err.old) (E.taken err.new) (E.failed err.old) (E.failed err.new) (refusal_line refusal)
+        × (stops_run refusal ≡ true) × IsSome name.entry) }
     ensures status { result ≡ 2 → status ≡ 2 }
     ensures unchanged { result ≢ 0 → P.file files.new ≡ P.file files.old }
     ensures others { (other : List ℕ) → IsNotNamed (option_map (λ w. w.now) name.entry) other → P.file files.new other ≡ P.file files.old other }
@@ -179,7 +194,9 @@ fn read_named<P: Inputs>(
     files: &P,
     names: &[&str],
 ) -> Result<Vec<Vec<u8>>, ScriptFault>
-    ensures { IfOk result (λ texts. AreTexts (P.file files.now) (map (λ w. w.now) names.now) (map (λ t. t.items) texts.items)) }
+    ensures syntax { IsErrOf result faults.Syntax → SomeTooLong (P.file files.now) (map (λ w. w.now) names.now) }
+    ensures writes { ¬ (IsErrOf result faults.WriteFault) }
+    ensures texts { IfOk result (λ texts. AreTexts (P.file files.now) (map (λ w. w.now) names.now) (map (λ t. t.items) texts.items)) }
 {
     let mut texts = Vec::with_capacity(alloc, names.len())?;
     for name in names {

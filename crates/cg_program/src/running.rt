@@ -1,5 +1,5 @@
 //! Scripts run over a world, from their texts to what is told of them.
-ghost use Rattle.std.specs.Prelude.{◌≡◌, ◌≢◌, ◌≤◌, ◌⊎◌, IfErr, IfOk, IfSome, OnErr, OnOk, length, map, vec_len};
+ghost use Rattle.std.specs.Prelude.{◌≡◌, ◌≢◌, ◌≤◌, ◌⊎◌, IfErr, IfOk, IfSome, OnErr, OnOk, length, map, true, vec_len};
 ghost use Rattle.std.specs.Io.KnownBytes.{Appends};
 ghost use Rattle.std.specs.Result.{IsErrOf};
 ghost use Rattle.cg_name.specs.declared.refusal.Refusal.{Refusal};
@@ -12,10 +12,11 @@ ghost use Rattle.cg_script.specs.HistoryText.{history_text};
 ghost use Rattle.cg_script.specs.WorldPart.{HasNoWorld};
 ghost use Rattle.cg_script.specs.declared.fault.ScriptFault.TheVariants as faults;
 ghost use Rattle.cg_runner.specs.Closed.{IsClosed};
-ghost use Rattle.cg_program.specs.Batch.{AppendsGiven, EndSo, FailedGiven, SomeSpellsNone, StopsIn, Tells, batch_text};
+ghost use Rattle.cg_program.specs.Batch.{stops_run, AppendsGiven, BeginsWithWorld, EndSo, FailedGiven, SomeSpellsNone, StopsIn, Tells, batch_text};
+ghost use Rattle.cg_program.specs.Fault.{refusal_of_fault};
 ghost use Rattle.cg_program.specs.Program.{IsBroken, WritesUnlessFailed};
 ghost use Rattle.cg_program.specs.Status.{refusal_line, status_where};
-ghost use Rattle.cg_program.specs.declared.fault.ProgramFault.TheVariants.{NoFile, NoGroup, Stopped};
+ghost use Rattle.cg_program.specs.declared.fault.ProgramFault.TheVariants.{Stopped};
 
 use crate::ends::lines_of;
 use crate::fault::ProgramFault;
@@ -56,9 +57,12 @@ pub fn run_to<G: Gate + Sync, R: Threads + Wait + Sync, W: Source, O: Sink, H: S
     ensures done { result ≡ 0 → Tells workers tries (map (λ t. t.items) scripts.items) (λ told past. Appends (O.taken out.old) (O.taken out.new) told × AppendsGiven H.taken history.old history.new past) }
     ensures quiet { result ≡ 0 → err.new ≡ err.old }
 
+    ensures read { result ≡ 0 → BeginsWithWorld (pending world.old) }
+
     // or there is a refusal, which is told and has its cause.
     ensures told { (result ≡ 0) ⊎ ((refusal : Refusal) × (result ≡ status_where refusal)
         × WritesUnlessFailed (E.taken err.old) (E.taken err.new) (E.failed err.old) (E.failed err.new) (refusal_line refusal)
+        × (stops_run refusal ≡ true)
         × (refusal ≡ refusals.ReadFault → IsBroken world.new)
         × (refusal ≡ refusals.WriteFault → Failed (O.failed out.old) (O.failed out.new) ⊎ FailedGiven H.failed history.old history.new)) }
     ensures front { result ≡ 3 → ((out.new ≡ out.old) × (history.new ≡ history.old))
@@ -92,7 +96,8 @@ fn run<G: Gate + Sync, R: Threads + Wait + Sync, W: Source>(
     ensures within { IfOk result (λ r. r.core.bound ≤ 1048576) }
     ensures reached { IfOk result (λ r. Reached r.core.opening r.core.bound r.core.history) }
     ensures syntax { IsErrOf result (Stopped faults.Syntax) → IfSome (pending world.old) HasNoWorld ⊎ SomeSpellsNone (map (λ t. t.items) texts.now) }
-    ensures refusals { ¬ (IsErrOf result NoGroup) × ¬ (IsErrOf result NoFile) }
+    ensures world { OnOk result (BeginsWithWorld (pending world.old)) }
+    ensures refusals { IfErr result (λ f. stops_run (refusal_of_fault f) ≡ true) }
     ensures reads { IsErrOf result (Stopped faults.ReadFault) → IsBroken world.new }
     ensures writes { ¬ (IsErrOf result (Stopped faults.WriteFault)) }
 {
@@ -116,6 +121,7 @@ fn finish<O: Sink, H: Sink, E: Sink>(
     ensures quiet { result ≡ 0 → err.new ≡ err.old }
     ensures failed { (result ≡ 0) ⊎ ((refusal : Refusal) × (result ≡ status_where refusal)
         × WritesUnlessFailed (E.taken err.old) (E.taken err.new) (E.failed err.old) (E.failed err.new) (refusal_line refusal)
+        × (stops_run refusal ≡ true)
         × ¬ (refusal ≡ refusals.ReadFault)
         × (refusal ≡ refusals.WriteFault → Failed (O.failed out.old) (O.failed out.new) ⊎ FailedGiven H.failed history.old history.new)) }
     ensures front { result ≢ 0 → StopsIn (O.taken out.old) (O.taken out.new) H.taken history.old history.new (batch_text report.now.ends.items report.now.core.opening report.now.core.history) (history_text report.now.core.history) }

@@ -15,8 +15,8 @@ loop-name-preserved g c =
     c.in_ok-text.text (omega arith) c.loop-name.invariant
     (subst (λ left. IfSome left (λ known. c.in_ok-text.text.items ≡ known)) c.in_ok-source.ensures.bytes c.in_ok-text.ensures.value))
 
-pub returns : goal.returns
-returns g c =
+pub returns-clause-texts : goal.returns-clause-texts
+returns-clause-texts g c =
     let file = g.P.Inputs.file c.args.files.now in
     zip_maps (λ name text. IfSome (file name) (λ known. text ≡ known)) (λ w. w.now) (λ t. t.items) c.args.names.now c.loop-name.texts.items
     (subst
