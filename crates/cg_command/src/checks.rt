@@ -56,7 +56,7 @@ pub(crate) fn check_remove(path: &Path, tree: &Tree) -> Result<(), Refusal>
     if tree.has_children(path) {
         return Err(Refusal::HasChildren);
     }
-    if has_processes(path, tree) {
+    if tree.has_processes(path) {
         return Err(Refusal::HasProcesses);
     }
     Ok(())
@@ -97,7 +97,7 @@ pub(crate) fn check_subtree(path: &Path, ops: ControlOps, tree: &Tree) -> Result
         settings.control,
         ops,
         tree.control_below(path),
-        has_processes(path, tree),
+        tree.has_processes(path),
         path.is_root(),
     )?;
     Ok(())
@@ -162,11 +162,4 @@ fn admits(path: &Path, settings: &Settings) -> bool
     ensures { result ≡ admits path.now settings.now }
 {
     path.is_root() || settings.control.is_empty()
-}
-
-// Whether the group has a process of its own.
-fn has_processes(path: &Path, tree: &Tree) -> bool
-    ensures { result ≡ is_nonempty (processes tree.now.tree path.now) }
-{
-    tree.pids().any(|pid| tree.is_at(pid, path))
 }

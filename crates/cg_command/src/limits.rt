@@ -1,50 +1,49 @@
 //! The limits of the groups above a new one (the kernel's cgroup-v2 page, "Core Interface Files":
 //! `cgroup.max.descendants`, `cgroup.max.depth`).
-ghost use Rattle.std.specs.Prelude.{◌≡◌, ◌-◌, length, take};
-ghost use Rattle.cg_model.specs.Derived.{descendants};
+ghost use Rattle.std.specs.Prelude.{◌≡◌, ◌-◌};
 ghost use Rattle.cg_model.specs.Groups.{exceeds_depth, reaches_descendants, too_deep, too_many};
-ghost use Rattle.cg_tree.specs.Prefix.{prefix_group};
 
 use cg_name::Path;
 use cg_text::Limit;
-use cg_tree::Tree;
+use cg_tree::{Ancestor, Tree};
 
 /// Whether some group above the path has as many descendants as it may have.
 pub(crate) fn too_many(path: &Path, tree: &Tree) -> bool
     ensures { result ≡ too_many tree.now.tree path.now }
 {
-    (0..path.depth()).any(|above| reaches_descendants(path, above, tree))
+    tree.above(path).any(|above| reaches_descendants(&above))
 }
 
 /// Whether the path is deeper below some group than that group allows.
 pub(crate) fn too_deep(path: &Path, tree: &Tree) -> bool
     ensures { result ≡ too_deep tree.now.tree path.now }
 {
-    (0..path.depth()).any(|above| exceeds_depth(path, above, tree))
+    let depth = path.depth();
+    tree.above(path).any(|above| exceeds_depth(&above, depth))
 }
 
-// Whether the group at the first names has as many descendants as it may have.
-fn reaches_descendants(path: &Path, depth: u32, tree: &Tree) -> bool
-    ensures { result ≡ reaches_descendants (prefix_group tree.now.tree path.now depth) (descendants tree.now.tree (take depth path.now)) }
+// Whether the group has as many descendants as it may have.
+fn reaches_descendants(above: &Ancestor) -> bool
+    ensures { result ≡ reaches_descendants above.now.settings above.now.descendants }
 {
-    let Some(settings) = tree.prefix_settings(path, depth) else {
+    let Some(settings) = &above.settings else {
         return false;
     };
     match settings.max_descendants {
         Limit::Max => false,
-        Limit::UpTo(most) => tree.descendants(path, depth) >= u64::from(most.number),
+        Limit::UpTo(most) => above.descendants >= u64::from(most.number),
     }
 }
 
-// Whether the path has more names behind the first ones than the group there allows.
-fn exceeds_depth(path: &Path, depth: u32, tree: &Tree) -> bool
-    ensures { result ≡ exceeds_depth (prefix_group tree.now.tree path.now depth) (length path.now - depth) }
+// Whether so many names are deeper below the group than it allows.
+fn exceeds_depth(above: &Ancestor, depth: u32) -> bool
+    ensures { result ≡ exceeds_depth above.now.settings (depth - above.now.depth) }
 {
-    let Some(settings) = tree.prefix_settings(path, depth) else {
+    let Some(settings) = &above.settings else {
         return false;
     };
     match settings.max_depth {
         Limit::Max => false,
-        Limit::UpTo(most) => path.depth().saturating_sub(depth) > most.number,
+        Limit::UpTo(most) => depth.saturating_sub(above.depth) > most.number,
     }
 }

@@ -1,2 +1,1 @@
-pub mod Processes
 mod Way

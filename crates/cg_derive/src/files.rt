@@ -5,13 +5,13 @@ ghost use Rattle.cg_model.specs.File.{file};
 ghost use Rattle.cg_model.specs.Tree.{group};
 ghost use Rattle.cg_name.specs.declared.refusal.Refusal.TheVariants.{Memory, NoGroup};
 
-use crate::values::{available, effective_cpus, is_frozen, is_populated};
+use crate::values::{available, effective_cpus, is_frozen};
 use cg_name::{Path, Refusal};
 use cg_text::{
     FileName, write_controllers, write_cpus, write_events, write_flag, write_limit, write_procs,
 };
 use cg_tree::Tree;
-use std::alloc::{AllocError, Global};
+use std::alloc::Global;
 
 /// The PIDs of the own processes of the group at the path, ascending. `NoGroup` where there is no group, `Memory` where there
 /// is none for the list.
@@ -23,7 +23,7 @@ pub fn procs(alloc: Global, tree: &Tree, path: &Path) -> Result<Vec<u32>, Refusa
     if !tree.find(path) {
         return Err(Refusal::NoGroup);
     }
-    Ok(own_pids(alloc, tree, path)?)
+    Ok(tree.processes(alloc, path)?)
 }
 
 /// Whether the group at the path has the file: `NoGroup` where there is no group, `NoFile` where the group has no such file.
@@ -64,7 +64,7 @@ pub fn file(alloc: Global, tree: &Tree, path: &Path, name: FileName) -> Result<V
     check_file(tree, path, name)?;
     let mut text = Vec::new(alloc);
     match name {
-        FileName::Procs => write_procs(own_pids(alloc, tree, path)?.as_slice(), &mut text)?,
+        FileName::Procs => write_procs(tree.processes(alloc, path)?.as_slice(), &mut text)?,
         FileName::Controllers => {
             if let Some(controllers) = available(tree, path) {
                 write_controllers(controllers, &mut text)?;
@@ -72,7 +72,7 @@ pub fn file(alloc: Global, tree: &Tree, path: &Path, name: FileName) -> Result<V
         }
         FileName::SubtreeControl => write_controllers(settings.control, &mut text)?,
         FileName::Events => {
-            write_events(is_populated(tree, path), is_frozen(tree, path), &mut text)?
+            write_events(tree.is_populated(path), is_frozen(tree, path), &mut text)?
         }
         FileName::Freeze => write_flag(settings.freeze, &mut text)?,
         FileName::Cpus => write_cpus(settings.cpus, &mut text)?,
@@ -91,17 +91,4 @@ fn has_cpuset(tree: &Tree, path: &Path) -> bool
         Some(controllers) => controllers.cpuset,
         None => false,
     }
-}
-
-// The PIDs of the group's own processes, ascending.
-fn own_pids(alloc: Global, tree: &Tree, path: &Path) -> Result<Vec<u32>, AllocError>
-    ensures { IfOk result (λ pids. pids.items ≡ processes tree.now.tree path.now) }
-{
-    let mut pids = Vec::new(alloc);
-    for pid in tree.pids() {
-        if tree.is_at(pid, path) {
-            pids.push(pid)?;
-        }
-    }
-    Ok(pids)
 }

@@ -1,13 +1,14 @@
 //! The values of a group: what is available to it, whether it is populated and frozen, and its effective CPUs (the kernel's
 //! cgroup-v2 page, "Controlling Controllers", "Core Interface Files" and "Cpuset Interface Files").
-ghost use Rattle.std.specs.Prelude.{◌≡◌};
-ghost use Rattle.cg_model.specs.Derived.{available, effective, effective_cpus, frozen, has_freeze, is_frozen, is_populated, narrowed, populated};
+ghost use Rattle.std.specs.Prelude.{◌≡◌, ◌&&◌, nat_lt};
+ghost use Rattle.cg_derive.specs.Upward.{narrowed_upward};
+ghost use Rattle.cg_model.specs.Derived.{available, effective, effective_cpus, frozen, has_freeze, is_frozen, narrowed, populated};
 ghost use Rattle.cg_model.specs.Tree.{parent_group};
 
 use cg_cpus::CpuSet;
 use cg_name::Path;
 use cg_text::{Controllers, Settings};
-use cg_tree::Tree;
+use cg_tree::{Ancestor, Ancestors, Tree};
 
 /// The controllers that the group at the path has: the root those of the computer, another group those that its parent
 /// passes on. None where there is no group.
@@ -31,7 +32,7 @@ pub fn populated(tree: &Tree, path: &Path) -> Option<bool>
     if path.is_root() || !tree.find(path) {
         return None;
     }
-    Some(is_populated(tree, path))
+    Some(tree.is_populated(path))
 }
 
 /// Whether the group at the path is frozen: its own freeze value, or that of a group above it, is 1. None for the root, and
@@ -66,31 +67,19 @@ pub fn parent_settings(tree: &Tree, path: &Path) -> Option<Settings>
     tree.prefix_settings(path, above)
 }
 
-// Whether a process is in the group or in one below it.
-pub(crate) fn is_populated(tree: &Tree, path: &Path) -> bool
-    ensures { result ≡ is_populated tree.now.tree path.now }
-{
-    tree.pids().any(|pid| tree.is_below(pid, path))
-}
-
 // Whether a group from below the root down to the path has a freeze value of 1.
 pub(crate) fn is_frozen(tree: &Tree, path: &Path) -> bool
     ensures { result ≡ is_frozen tree.now.tree path.now }
 {
-    for above in 0..path.depth() {
-        if has_freeze(tree.prefix_settings(path, above + 1)) {
-            return true;
-        }
-    }
-    false
+    tree.ancestors(path).any(|at| freezes(&at))
 }
 
-// Whether there is a group whose own freeze value is 1.
-fn has_freeze(group: Option<Settings>) -> bool
-    ensures { result ≡ has_freeze group }
+// Whether there is a group below the root whose own freeze value is 1.
+fn freezes(at: &Ancestor) -> bool
+    ensures { result ≡ (nat_lt 0 at.now.depth && has_freeze at.now.settings) }
 {
-    match group {
-        Some(settings) => settings.freeze,
+    match &at.settings {
+        Some(settings) => at.depth > 0 && settings.freeze,
         None => false,
     }
 }
@@ -99,12 +88,21 @@ fn has_freeze(group: Option<Settings>) -> bool
 pub(crate) fn effective_cpus(tree: &Tree, path: &Path) -> CpuSet
     ensures { result ≡ effective_cpus tree.now.tree path.now }
 {
-    let mut cpus = tree.online();
-    for above in 0..path.depth() {
-        let group = tree.prefix_settings(path, above + 1);
-        cpus = narrowed(cpus, group);
+    narrowed_upward(tree.ancestors(path), tree.online())
+}
+
+// The CPUs, narrowed by each of these groups below the root. The last one is the first to narrow them, so that the way back
+// from the root is that of the calls.
+fn narrowed_upward(mut groups: Ancestors<'_>, online: CpuSet) -> CpuSet
+    ensures { result ≡ narrowed_upward online groups.entry }
+{
+    let Some(at) = groups.next() else {
+        return online;
+    };
+    if at.depth == 0 {
+        return online;
     }
-    cpus
+    narrowed(narrowed_upward(groups, online), at.settings)
 }
 
 // Those of the parent's CPUs that the group asks for, or all of these where there are none.

@@ -1,3 +1,4 @@
+pub mod Counts
 pub mod Held
 pub mod HeldByPath
 pub mod Holders

@@ -1,18 +1,18 @@
 //! Footprints: the marks under which one command runs.
-ghost use Rattle.std.specs.Prelude.{◌≡◌, ◌∷◌, ◌++◌, [], IfOk, OnOk, map, option_copied, take};
+ghost use Rattle.std.specs.Prelude.{◌≡◌, ◌∷◌, ◌++◌, [], IfOk, OnOk, map, option_copied};
 ghost use Rattle.cg_command.specs.Meaning.{command_of};
+ghost use Rattle.cg_locks.specs.Counts.{counts_upward};
 ghost use Rattle.cg_locks.specs.Marks.{times};
 ghost use Rattle.cg_locks.specs.Meaning.{mark_of};
 ghost use Rattle.cg_model.specs.Footprint as model;
-ghost use Rattle.cg_model.specs.Footprint.{changed, count_of, counts, footprint, is_limited, old_place};
+ghost use Rattle.cg_model.specs.Footprint.{changed, counts, footprint, is_limited, old_place};
 ghost use Rattle.cg_model.specs.Tree.{place_of};
-ghost use Rattle.cg_tree.specs.Prefix.{prefix_group};
 
 use crate::mark::Mark;
 use cg_command::Command;
 use cg_name::Path;
 use cg_text::{Limit, Settings};
-use cg_tree::Tree;
+use cg_tree::{Ancestors, Tree};
 use smallvec::SmallVec;
 use std::alloc::{AllocError, Global};
 use std::marker::Model;
@@ -102,18 +102,22 @@ impl Footprint {
         Ok(())
     }
 
-    // Adds the mark on the number of descendants of the group at the first names, where that is limited.
-    fn push_count(
+    // Adds the marks on the numbers of descendants of those of these groups above the path where that is limited. The last
+    // group comes first, so that they stand from the root down.
+    fn push_counts(
         &mut self,
         alloc: Global,
         path: &Path,
-        depth: u32,
-        tree: &Tree,
+        mut above: Ancestors<'_>,
     ) -> Result<(), AllocError>
-        ensures { OnOk result (self.new ≡ self.old ++ count_of (take depth path.now) (prefix_group tree.now.tree path.now depth)) }
+        ensures { OnOk result (self.new ≡ self.old ++ counts_upward path.now above.entry) }
     {
-        if is_limited(tree.prefix_settings(path, depth)) {
-            self.push(Mark::Descendants(path.prefix(alloc, depth)?))?;
+        let Some(group) = above.next() else {
+            return Ok(());
+        };
+        self.push_counts(alloc, path, above)?;
+        if is_limited(group.settings) {
+            self.push(Mark::Descendants(path.prefix(alloc, group.depth)?))?;
         }
         Ok(())
     }
@@ -131,9 +135,7 @@ fn with_counts(alloc: Global, path: &Path, tree: &Tree) -> Result<Footprint, All
     ensures { IfOk result (λ f. f ≡ model.X path.now ∷ counts tree.now.tree path.now) }
 {
     let mut footprint = of_change(alloc, path)?;
-    for above in 0..path.depth() {
-        footprint.push_count(alloc, path, above, tree)?;
-    }
+    footprint.push_counts(alloc, path, tree.above(path))?;
     Ok(footprint)
 }
 

@@ -15,7 +15,7 @@ use Rattle.cg_name.specs.Order.{path_cmp_total, path_cmp_exact}
 use Rattle.cg_name.specs.Path.{Path, path_cmp}
 use Rattle.cg_name.specs.Packed.{names_in, BeginsName, IsPacked}
 use Rattle.cg_name.proofs.PackedOrder.{packed_order}
-use Rattle.cg_path_map.specs.PathEntries.{by_paths, map_by_paths, ArePacked}
+use Rattle.cg_path_tree.specs.PathEntries.{by_paths, map_by_paths, ArePacked}
 use Rattle.cg_path_tree.proofs.Parents.{count-cons}
 use Rattle.cg_path_tree.proofs.ListChanges.{same_some, some_not_none, LosesAt}
 

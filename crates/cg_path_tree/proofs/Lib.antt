@@ -9,6 +9,7 @@ pub mod Linking
 pub mod ListChanges
 pub mod Listing
 pub mod Parents
+pub mod PathEntries
 pub mod Prefixes
 pub mod Removing
 pub mod Seen

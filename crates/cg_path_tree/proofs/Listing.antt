@@ -22,8 +22,8 @@ use Rattle.cg_maps.proofs.Maps.{same_map, get-retain}
 use Rattle.cg_name.specs.Order.{path_cmp_total, path_cmp_exact}
 use Rattle.cg_name.specs.Path.{Path, path_cmp, is_parent}
 use Rattle.cg_name.specs.Packed.{names_in, IsPacked}
-use Rattle.cg_path_map.specs.PathEntries.{by_paths, ArePacked}
-use Rattle.cg_path_map.proofs.PathEntries.{path_entries, entries-by_paths}
+use Rattle.cg_path_tree.specs.PathEntries.{by_paths, ArePacked}
+use Rattle.cg_path_tree.proofs.PathEntries.{path_entries, entries-by_paths}
 use Rattle.slab.specs.Slab as slab
 use Rattle.cg_path_tree.specs.declared.node.Node.{Node}
 use Rattle.cg_path_tree.specs.declared.node.NodeKey.{NodeKey}

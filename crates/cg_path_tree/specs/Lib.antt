@@ -2,3 +2,4 @@ pub mod Nodes
 pub mod Linked
 pub mod Lends
 pub mod Listing
+pub mod PathEntries

@@ -4,7 +4,7 @@ use Rattle.std.specs.FinMap.Entries.{find}
 use Rattle.slab.specs.Slab as slab
 use Rattle.cg_maps.specs.FiniteMap.{from_entries}
 use Rattle.cg_name.specs.Path.{Path, path_cmp, is_root, is_parent}
-use Rattle.cg_path_map.specs.PathEntries.{by_paths, ArePacked}
+use Rattle.cg_path_tree.specs.PathEntries.{by_paths, ArePacked}
 use Rattle.cg_path_tree.specs.declared.node.Node.{Node}
 use Rattle.cg_path_tree.specs.declared.node.NodeKey.{NodeKey}
 use Rattle.cg_path_tree.specs.Nodes.{Nodes, parent_path}

@@ -28,9 +28,9 @@ pub(crate) struct Node<V> {
 }
 
 impl NodeKey {
-    // The key with that number.
-    pub(crate) fn new(number: u32) -> NodeKey
-        ensures { result.0 ≡ number }
+    /// The key with that number; a node's, where that is the number of a node's key.
+    pub fn new(number: u32) -> NodeKey
+        ensures { number_of result ≡ number }
     {
         NodeKey(number)
     }

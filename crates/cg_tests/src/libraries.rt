@@ -7,7 +7,6 @@ mod files;
 mod lists;
 mod lock_lists;
 mod locks;
-mod path_maps;
 mod path_trees;
 mod paths;
 mod places;

@@ -12,8 +12,10 @@ use Rattle.cg_path_tree.specs.declared.node.NodeKey.{NodeKey}
 use Rattle.cg_path_tree.specs.Nodes.{Nodes, parent_path, path_of, with_value, HaveOnePath, IsKey}
 use Rattle.cg_path_tree.proofs.Changing.{path_of-is}
 use Rattle.cg_path_tree.proofs.Parents.{below_parent, length-parent, no_child, root_no_child}
+use Rattle.cg_tree.specs.declared.entry.Count.{Count}
+use Rattle.cg_tree.specs.declared.entry.Count.TheVariants.{Groups, Processes}
 use Rattle.cg_tree.specs.declared.entry.Entry.{Entry}
-use Rattle.cg_tree.specs.Entries.{counted, entry_at, path_at, with_below, with_right_below, CanCount}
+use Rattle.cg_tree.specs.Entries.{counted, entry_at, path_at, recounted, with_right_below, CanCount}
 
 -- ---- above a path are its parent and what is above that
 
@@ -53,18 +55,19 @@ above_by_parent (k ∷ q) (n ∷ p) (m ∷ r) h ne =
 
 -- ---- a walk upward from a path
 
--- the entry of q, once the walk from p has come to r: counted where q is above p and not above r
-abbrev pub passed : Bool → Path → Path → Path → Entry → Entry
-passed comes p r q e = record e { below = cond (is_above q p && not (is_above q r)) (counted comes e.below) e.below }
+-- the entry of q, once the walk from p has come to r: changed where q is above p and not above r
+abbrev pub passed : (Bool → Entry → Entry) → Path → Path → Path → Entry → Entry
+passed change p r q e = change (is_above q p && not (is_above q r)) e
 
-pub record HasClimbed (comes : Bool) (first now : Nodes Entry) (p : Path) (at : NodeKey) : Type 0 where
+pub record HasClimbed (change : Bool → Entry → Entry) (first now : Nodes Entry) (p : Path) (at : NodeKey) : Type 0 where
+  pub stays : (e : Entry) → change false e ≡ e
   pub keys : now.keys ≡ first.keys
   pub one_path : HaveOnePath first.keys
   pub key : IsKey first.keys at
   pub above : (q : Path) → is_above q (path_at first at) ≡ true → is_above q p ≡ true
-  pub values : (q : Path) → get now.values q ≡ option_map (passed comes p (path_at first at) q) (get first.values q)
+  pub values : (q : Path) → get now.values q ≡ option_map (passed change p (path_at first at) q) (get first.values q)
 
--- nothing is counted yet
+-- nothing is changed yet
 not_yet : (b : Bool) → b && not b ≡ false
 not_yet true = refl
 not_yet false = refl
@@ -73,14 +76,19 @@ same_entry : (w : Option Entry) (f : Entry → Entry) → ((e : Entry) → f e �
 same_entry None f h = refl
 same_entry (Some e) f h = ap Some (sym (h e))
 
-pub not_climbed : (comes : Bool) (first : Nodes Entry) (at : NodeKey) → HaveOnePath first.keys → IsKey first.keys at → HasClimbed comes first first (path_at first at) at
-not_climbed comes first at one key = record {
+pub not_climbed : (change : Bool → Entry → Entry) (first : Nodes Entry) (at : NodeKey) → ((e : Entry) → change false e ≡ e) → HaveOnePath first.keys → IsKey first.keys at → HasClimbed change first first (path_at first at) at
+not_climbed change first at stays one key = record {
+  stays = stays;
   keys = refl;
   one_path = one;
   key = key;
   above = λ q h. h;
-  values = λ q. same_entry (get first.values q) (passed comes (path_at first at) (path_at first at) q) (λ e i. record e { below = cond (not_yet (is_above q (path_at first at)) i) (counted comes e.below) e.below });
+  values = λ q. same_entry (get first.values q) (passed change (path_at first at) (path_at first at) q) (λ e. ap (λ b. change b e) (not_yet (is_above q (path_at first at))) ∙ stays e);
 }
+
+pub not_recounted : (which : Count) (comes : Bool) (e : Entry) → recounted which comes false e ≡ e
+not_recounted Groups comes e = refl
+not_recounted Processes comes e = refl
 
 some_of : {A : Type 0} (w : Option A) → is_some w ≡ true → (x : A) × (w ≡ Some x)
 some_of None e = absurd (false≢true e)
@@ -97,7 +105,7 @@ at_path nodes k p one h = path_of-is nodes.keys k p one h
 pub at_own_path : (nodes : Nodes Entry) (k : NodeKey) → HaveOnePath nodes.keys → IsKey nodes.keys k → get nodes.keys (path_at nodes k) ≡ Some k
 at_own_path nodes k one key = ap (get nodes.keys) (at_path nodes k key.0 one key.1) ∙ key.1
 
-module _ {comes : Bool} {first now : Nodes Entry} {p : Path} {at : NodeKey} (c : HasClimbed comes first now p at) (deep : is_root (path_at first at) ≡ false) (up : NodeKey) (is : Some up ≡ get first.keys (parent_path (path_at first at))) where
+module _ {change : Bool → Entry → Entry} {first now : Nodes Entry} {p : Path} {at : NodeKey} (c : HasClimbed change first now p at) (deep : is_root (path_at first at) ≡ false) (up : NodeKey) (is : Some up ≡ get first.keys (parent_path (path_at first at))) where
   abbrev pub r : Path
   r = path_at first at
 
@@ -117,7 +125,7 @@ module _ {comes : Bool} {first now : Nodes Entry} {p : Path} {at : NodeKey} (c :
   pub entry_up : ((q : Path) → is_some (get first.values q) ≡ is_some (get first.keys q)) → (e : Entry) × (get now.values (path_at first up) ≡ Some e)
   entry_up both =
       let key : is_some (get first.keys (path_at first up)) ≡ true = ap is_some (at_own_path first up c.one_path (parent_path r, sym is)) in
-      some_of (get now.values (path_at first up)) (ap is_some (c.values (path_at first up)) ∙ is_some_mapped (passed comes p r (path_at first up)) (get first.values (path_at first up)) ∙ both (path_at first up) ∙ key)
+      some_of (get now.values (path_at first up)) (ap is_some (c.values (path_at first up)) ∙ is_some_mapped (passed change p r (path_at first up)) (get first.values (path_at first up)) ∙ both (path_at first up) ∙ key)
 
   pub up_key : IsKey first.keys up
   up_key = (parent_path r, sym is)
@@ -125,41 +133,42 @@ module _ {comes : Bool} {first now : Nodes Entry} {p : Path} {at : NodeKey} (c :
   pub shorter : length (path_at first up) < length r
   shorter = let longer : suc (length (parent_path r)) ≡ length r = length-parent r deep in omega (arith, ap length above_is)
 
-  -- it has not been counted so far
-  uncounted : (e : Entry) → get now.values (path_at first up) ≡ Some e → get first.values (path_at first up) ≡ Some e
-  uncounted e h = by (get first.values (path_at first up)) refl
+  -- it has not been changed so far
+  unchanged : (e : Entry) → get now.values (path_at first up) ≡ Some e → get first.values (path_at first up) ≡ Some e
+  unchanged e h = by (get first.values (path_at first up)) refl
     where
       test : is_above (path_at first up) p && not (is_above (path_at first up) r) ≡ false
       test = (λ i. is_above (path_at first up) p && not (is_above_it i)) ∙ and_fails (is_above (path_at first up) p)
 
       by : (w : Option Entry) → get first.values (path_at first up) ≡ w → w ≡ Some e
-      by None w = absurd (none-some e (sym (c.values (path_at first up) ∙ ap (option_map (passed comes p r (path_at first up))) w) ∙ h))
+      by None w = absurd (none-some e (sym (c.values (path_at first up) ∙ ap (option_map (passed change p r (path_at first up))) w) ∙ h))
       by (Some x) w =
-          (λ i. Some (record x { below = cond (sym test i) (counted comes x.below) x.below }))
-          ∙ sym (c.values (path_at first up) ∙ ap (option_map (passed comes p r (path_at first up))) w) ∙ h
+          ap Some (sym (ap (λ b. change b x) test ∙ c.stays x))
+          ∙ sym (c.values (path_at first up) ∙ ap (option_map (passed change p r (path_at first up))) w) ∙ h
 
-  pub has_room : (e : Entry) → get now.values (path_at first up) ≡ Some e → ((q : Path) (x : Entry) → is_above q p ≡ true → get first.values q ≡ Some x → CanCount comes x.below) → CanCount comes e.below
-  has_room e h room = room (path_at first up) e (c.above (path_at first up) is_above_it) (uncounted e h)
+  -- what holds of all entries above holds of it
+  pub has_room : {Room : Entry → Type 0} → (e : Entry) → get now.values (path_at first up) ≡ Some e → ((q : Path) (x : Entry) → is_above q p ≡ true → get first.values q ≡ Some x → Room x) → Room e
+  has_room e h room = room (path_at first up) e (c.above (path_at first up) is_above_it) (unchanged e h)
 
-  module _ (e : Entry) (there : get now.values (path_at first up) ≡ Some e) (next : Nodes Entry) (made : next ≡ with_value now (path_at now up) (record e { below = counted comes e.below })) where
-    written : (q : Path) → get next.values q ≡ get (set_at now.values (path_at first up) (Some (record e { below = counted comes e.below }))) q
-    written q = ap (λ n. get n.values q) made ∙ ap (λ x. get (set_at now.values x (Some (record e { below = counted comes e.below }))) q) same_place
+  module _ (e : Entry) (there : get now.values (path_at first up) ≡ Some e) (next : Nodes Entry) (made : next ≡ with_value now (path_at now up) (change true e)) where
+    written : (q : Path) → get next.values q ≡ get (set_at now.values (path_at first up) (Some (change true e))) q
+    written q = ap (λ n. get n.values q) made ∙ ap (λ x. get (set_at now.values x (Some (change true e))) q) same_place
 
     own_test : is_above (path_at first up) p && not (is_above (path_at first up) (path_at first up)) ≡ true
     own_test = λ i. c.above (path_at first up) is_above_it i && not (not_above_itself (path_at first up) i)
 
-    values_there : (q : Path) → get next.values q ≡ option_map (passed comes p (path_at first up) q) (get first.values q)
+    values_there : (q : Path) → get next.values q ≡ option_map (passed change p (path_at first up) q) (get first.values q)
     values_there q = elim (cases path_cmp_total path_cmp_exact q (path_at first up)) [
-      | inl same ↦ subst (λ x. get next.values x ≡ option_map (passed comes p (path_at first up) x) (get first.values x)) (sym same)
+      | inl same ↦ subst (λ x. get next.values x ≡ option_map (passed change p (path_at first up) x) (get first.values x)) (sym same)
           (written (path_at first up)
-          ∙ get_here path_cmp_total path_cmp_exact now.values (path_at first up) (Some (record e { below = counted comes e.below }))
-          ∙ (λ i. Some (record e { below = cond (sym own_test i) (counted comes e.below) e.below }))
-          ∙ ap (option_map (passed comes p (path_at first up) (path_at first up))) (sym (uncounted e there)))
+          ∙ get_here path_cmp_total path_cmp_exact now.values (path_at first up) (Some (change true e))
+          ∙ ap (λ b. Some (change b e)) (sym own_test)
+          ∙ ap (option_map (passed change p (path_at first up) (path_at first up))) (sym (unchanged e there)))
       | inr ne ↦
           written q
-          ∙ get_apart path_cmp_total path_cmp_exact now.values (path_at first up) (Some (record e { below = counted comes e.below })) q ne
+          ∙ get_apart path_cmp_total path_cmp_exact now.values (path_at first up) (Some (change true e)) q ne
           ∙ c.values q
-          ∙ (λ i. option_map (λ (x : Entry). record x { below = cond (is_above q p && not (above_by_parent q (path_at first up) r is_its_parent ne i)) (counted comes x.below) x.below }) (get first.values q))
+          ∙ (λ i. option_map (change (is_above q p && not (above_by_parent q (path_at first up) r is_its_parent ne i))) (get first.values q))
     ]
 
     above_there : (q : Path) → is_above q (path_at first up) ≡ true → is_above q p ≡ true
@@ -167,8 +176,9 @@ module _ {comes : Bool} {first now : Nodes Entry} {p : Path} {at : NodeKey} (c :
         let apart : q ≢ path_at first up = λ same. true≢false (sym h ∙ ap (λ x. is_above x (path_at first up)) same ∙ not_above_itself (path_at first up)) in
         c.above q (above_by_parent q (path_at first up) r is_its_parent apart ∙ h)
 
-    pub climbed : HasClimbed comes first next p up
+    pub climbed : HasClimbed change first next p up
     climbed = record {
+      stays = c.stays;
       keys = ap (λ n. n.keys) made ∙ c.keys;
       one_path = c.one_path;
       key = up_key;
@@ -177,7 +187,7 @@ module _ {comes : Bool} {first now : Nodes Entry} {p : Path} {at : NodeKey} (c :
     }
 
 -- what is said of the key's parent
-module _ {comes : Bool} {first now : Nodes Entry} {p : Path} {at : NodeKey} (c : HasClimbed comes first now p at) (w : Option NodeKey)
+module _ {change : Bool → Entry → Entry} {first now : Nodes Entry} {p : Path} {at : NodeKey} (c : HasClimbed change first now p at) (w : Option NodeKey)
     (root : (q : Path) → get now.keys q ≡ Some at → is_some w ≡ not (is_root q)) (value : (q : Path) → get now.keys q ≡ Some at → is_root q ≡ false → w ≡ get now.keys (parent_path q)) where
   own_now : get now.keys (path_at first at) ≡ Some at
   own_now = ap (λ k. get k (path_at first at)) c.keys ∙ at_own_path first at c.one_path c.key
@@ -199,11 +209,11 @@ module _ {comes : Bool} {first now : Nodes Entry} {p : Path} {at : NodeKey} (c :
   pub ends : w ≡ None → is_root (path_at first at) ≡ true
   ends e = ended (is_root (path_at first at)) (sym (ap is_some e) ∙ root (path_at first at) own_now)
 
--- the walk has come to the root: all that is above is counted
-pub climbed_all : (comes : Bool) (first now : Nodes Entry) (p : Path) (at : NodeKey) → HasClimbed comes first now p at → is_root (path_at first at) ≡ true → (q : Path) → get now.values q ≡ option_map (with_below comes p q) (get first.values q)
-climbed_all comes first now p at c top q =
+-- the walk has come to the root: all that is above is changed
+pub climbed_all : (change : Bool → Entry → Entry) (first now : Nodes Entry) (p : Path) (at : NodeKey) → HasClimbed change first now p at → is_root (path_at first at) ≡ true → (q : Path) → get now.values q ≡ option_map (change (is_above q p)) (get first.values q)
+climbed_all change first now p at c top q =
     let none : is_above q (path_at first at) ≡ false = ap (is_above q) (root_only (path_at first at) top) in
-    c.values q ∙ (λ i. option_map (λ (x : Entry). record x { below = cond (both (is_above q p) (is_above q (path_at first at)) none i) (counted comes x.below) x.below }) (get first.values q))
+    c.values q ∙ (λ i. option_map (change (both (is_above q p) (is_above q (path_at first at)) none i)) (get first.values q))
   where
     both : (a b : Bool) → b ≡ false → a && not b ≡ a
     both true b h = ap not h
@@ -213,8 +223,8 @@ climbed_all comes first now p at c top q =
 
 module _ (comes : Bool) (a : Nodes Entry) (key : NodeKey) (one : HaveOnePath a.keys) (own : IsKey a.keys key) (w : Option NodeKey)
     (root : (q : Path) → get a.keys q ≡ Some key → is_some w ≡ not (is_root q)) (value : (q : Path) → get a.keys q ≡ Some key → is_root q ≡ false → w ≡ get a.keys (parent_path q)) where
-  start : HasClimbed comes a a (path_at a key) key
-  start = not_climbed comes a key one own
+  start : HasClimbed (recounted Groups comes) a a (path_at a key) key
+  start = not_climbed (recounted Groups comes) a key (not_recounted Groups comes) one own
 
   pub no_parent : w ≡ None → (q : Path) → get a.values q ≡ option_map (with_right_below comes (path_at a key) q) (get a.values q)
   no_parent e q =

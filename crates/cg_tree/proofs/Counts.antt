@@ -47,35 +47,28 @@ module _ {K X : Type 0} {R : K → K → Ordering} (o : IsTotalOrder R) (same : 
       len-without (set_at m k v) k ∙ (λ i. len (set_set o same m k v None i) + one (get_here o same m k v i)) in
       omega arith
 
-  -- ---- how many keys pass a test
+  -- ---- how many keys pass a test, with what they hold
 
-  kept_apart : (m : FiniteMap R X) (k : K) (v : Option X) (t : K → Bool) → t k ≡ false → retain (set_at m k v) t ≡ retain m t
-  kept_apart m k v t h = same_map o same _ _ (λ q. get-retain o same (set_at m k v) t q ∙ at q ∙ sym (get-retain o same m t q))
-    where
-      at : (q : K) → cond (t q) (get (set_at m k v) q) None ≡ cond (t q) (get m q) None
-      at q = elim (cases o same q k) [
-        | inl e ↦ let fails : t q ≡ false = ap t e ∙ h in ap (λ b. cond b (get (set_at m k v) q) None) fails ∙ sym (ap (λ b. cond b (get m q) None) fails)
-        | inr ne ↦ ap (λ w. cond (t q) w None) (get_apart o same m k v q ne)
-      ]
-
-  kept_set : (m : FiniteMap R X) (k : K) (v : Option X) (t : K → Bool) → t k ≡ true → retain (set_at m k v) t ≡ set_at (retain m t) k v
-  kept_set m k v t h = same_map o same _ _ (λ q. elim (cases o same q k) [
-    | inl e ↦ subst (λ x. get (retain (set_at m k v) t) x ≡ get (set_at (retain m t) k v) x) (sym e)
-        (get-retain o same (set_at m k v) t k ∙ ap (λ b. cond b (get (set_at m k v) k) None) h ∙ get_here o same m k v ∙ sym (get_here o same (retain m t) k v))
+  kept_set : (m : FiniteMap R X) (k : K) (v : Option X) (t : K → Option X → Bool) → retain (set_at m k v) (λ q. t q (get (set_at m k v) q)) ≡ set_at (retain m (λ q. t q (get m q))) k (cond (t k v) v None)
+  kept_set m k v t = same_map o same _ _ (λ q. get-retain o same (set_at m k v) (λ x. t x (get (set_at m k v) x)) q ∙ elim (cases o same q k) [
+    | inl e ↦ subst (λ x. cond (t x (get (set_at m k v) x)) (get (set_at m k v) x) None ≡ get (set_at (retain m (λ y. t y (get m y))) k (cond (t k v) v None)) x) (sym e)
+        (ap (λ w. cond (t k w) w None) (get_here o same m k v) ∙ sym (get_here o same (retain m (λ y. t y (get m y))) k (cond (t k v) v None)))
     | inr ne ↦
-        get-retain o same (set_at m k v) t q ∙ ap (λ w. cond (t q) w None) (get_apart o same m k v q ne)
-        ∙ sym (get_apart o same (retain m t) k v q ne ∙ get-retain o same m t q)
+        ap (λ w. cond (t q w) w None) (get_apart o same m k v q ne)
+        ∙ sym (get_apart o same (retain m (λ y. t y (get m y))) k (cond (t k v) v None) q ne ∙ get-retain o same m (λ y. t y (get m y)) q)
   ])
 
+  one_kept : (b : Bool) (w : Option X) → one (cond b w None) ≡ cond (b && is_some w) 1 0
+  one_kept true w = refl
+  one_kept false w = refl
+
   -- a key is written: of what passes, it alone comes or goes
-  pub passing-set : (m : FiniteMap R X) (k : K) (v : Option X) (t : K → Bool) → len (retain (set_at m k v) t) + cond (t k && is_some (get m k)) 1 0 ≡ len (retain m t) + cond (t k && is_some v) 1 0
-  passing-set m k v t = by (t k) refl
-    where
-      by : (b : Bool) → t k ≡ b → len (retain (set_at m k v) t) + cond (b && is_some (get m k)) 1 0 ≡ len (retain m t) + cond (b && is_some v) 1 0
-      by true e =
-          let there : get (retain m t) k ≡ get m k = get-retain o same m t k ∙ ap (λ b. cond b (get m k) None) e in
-          ap (λ x. len x + one (get m k)) (kept_set m k v t e) ∙ ap (λ w. len (set_at (retain m t) k v) + one w) (sym there) ∙ len-set (retain m t) k v
-      by false e = ap (λ x. len x + 0) (kept_apart m k v t e)
+  pub passing-set : (m : FiniteMap R X) (k : K) (v : Option X) (t : K → Option X → Bool) → len (retain (set_at m k v) (λ q. t q (get (set_at m k v) q))) + cond (t k (get m k) && is_some (get m k)) 1 0 ≡ len (retain m (λ q. t q (get m q))) + cond (t k v && is_some v) 1 0
+  passing-set m k v t =
+      ap (λ x. len x + cond (t k (get m k) && is_some (get m k)) 1 0) (kept_set m k v t)
+      ∙ ap (λ n. len (set_at (retain m (λ q. t q (get m q))) k (cond (t k v) v None)) + n) (sym (one_kept (t k (get m k)) (get m k)) ∙ ap one (sym (get-retain o same m (λ q. t q (get m q)) k)))
+      ∙ len-set (retain m (λ q. t q (get m q))) k (cond (t k v) v None)
+      ∙ ap (λ n. len (retain m (λ q. t q (get m q))) + n) (one_kept (t k v) v)
 
   -- none passes where none that passes is there
   pub none_passing : (m : FiniteMap R X) (t : K → Bool) → ((q : K) → t q ≡ true → get m q ≡ None) → len (retain m t) ≡ 0
@@ -123,7 +116,7 @@ length-held {K} {X} (e ∷ es) = at e.1 (held_entries es) (length-held es)
     at None made h = omega arith
     at (Some x) made h = omega arith
 
-few_pass : {K X : Type 0} {R : K → K → Ordering} (m : FiniteMap R X) (t : K → Bool) → len (retain m t) ≤ len m
+pub few_pass : {K X : Type 0} {R : K → K → Ordering} (m : FiniteMap R X) (t : K → Bool) → len (retain m t) ≤ len m
 unfolding len retain
 few_pass {R = R} m t = length-where R t m.list
 
@@ -149,7 +142,7 @@ module _ {X : Type 0} (m : FiniteMap path_cmp (Option X)) (t : Path → Bool) wh
   passing-written p w =
       ap (λ n. len (retain n t) + cond (t p && is_some (option_flatten (get m p))) 1 0) (present-set path_cmp_total path_cmp_exact m p w)
       ∙ ap (λ x. len (retain (set_at (present m) p (option_flatten w)) t) + cond (t p && is_some x) 1 0) (sym (get-present path_cmp_total path_cmp_exact m p))
-      ∙ passing-set path_cmp_total path_cmp_exact (present m) p (option_flatten w) t
+      ∙ passing-set path_cmp_total path_cmp_exact (present m) p (option_flatten w) (λ q _. t q)
 
 -- ---- the count of an entry, as a group comes or goes
 

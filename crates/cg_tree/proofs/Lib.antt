@@ -1,14 +1,19 @@
+mod Carrying
 mod Climbing
 mod Counts
 mod Edits
+mod Holding
 mod Listing
 mod NodeLists
+mod Numbering
 mod Places
 mod Prefixes
 mod Presence
 mod Putting
+mod Rising
 mod Rooms
 mod Rooting
 mod Seeing
 mod Unordered
 mod WorldGroups
+pub mod Downward

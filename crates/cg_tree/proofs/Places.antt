@@ -1,65 +1,78 @@
--- The places as they are kept, read and written.
-use Rattle.std.proofs.Common.{◌≡◌, ℕ, zero, suc, true, List, [], ◌∷◌, map, filter, slice_get, Option, Some, None, option_map, IsSome, is_some, refl, sym, ap, ◌∙◌}
-use Rattle.std.specs.Ordering.{eq_by_cmp, nat_cmp}
-use Rattle.std.specs.BTreeMap as tree
-use Rattle.std.specs.BTreeMap.{BTreeMap, IsOrdered, is_at}
-use Rattle.std.specs.Cmp.{nat_cmp_total, eq_by_cmp_equiv}
+-- The processes as they are kept, read and written.
+use Rattle.std.proofs.Common.{◌≡◌, ℕ, List, [], ◌∷◌, map, Option, Some, None, is_some, refl, sym, ap, ◌∙◌, Ordering}
+use Rattle.std.specs.BTreeMap.{BTreeMap, IsOrdered}
+use Rattle.std.specs.List.{AllByRecursion}
+use Rattle.std.specs.Map.{keys_of}
+use Rattle.std.specs.Ordering.{nat_cmp}
+use Rattle.std.specs.Cmp.{nat_cmp_total}
 use Rattle.std.specs.FinMap.{nat_cmp-IsAntisymmetric}
-use Rattle.std.specs.Map.{set_value, keys_of}
-use Rattle.std.proofs.lemmas.Map.{lookup-set_value}
-use Rattle.cg_maps.specs.FiniteMap.{from_entries, set_at, entries, keys}
-use Rattle.cg_maps.proofs.Maps.{is_same, set_same}
-use Rattle.cg_maps.proofs.TreeMaps.{from-updates, get-view, entries-view}
+use Rattle.cg_maps.specs.FiniteMap.{FiniteMap, bare, domain, entries, from_entries, get, keys, set_at}
+use Rattle.cg_maps.proofs.Maps.{each_entry, set_same}
+use Rattle.cg_maps.proofs.TreeMaps.{entries-view}
 use Rattle.cg_name.specs.Path.{Path}
 use Rattle.cg_model.specs.Key.{replaced}
-use Rattle.cg_model.specs.Tree.{place_of}
 use Rattle.cg_tree.specs.declared.tree.Tree.TheInside.{Inside}
+use Rattle.cg_tree.specs.Contents.{Contents}
 use Rattle.cg_tree.specs.Inside.{room_of}
-use Rattle.cg_tree.specs.Room.{TreeWithRoom}
+use Rattle.cg_tree.specs.Placed.{placed, AreThere}
+use Rattle.cg_tree.specs.Present.{with_held, present}
+use Rattle.cg_tree.proofs.Presence.{domain-replaced}
 use Rattle.cg_tree.proofs.Rooting.{with_place}
 
-pub place_there : (t : Inside) (u : TreeWithRoom) → room_of t ≡ u → (k : ℕ) (w : Option Path) → w ≡ tree.get nat_cmp t.places k → w ≡ place_of u.tree k
-place_there t u is k w e = e ∙ sym (get-view nat_cmp_total nat_cmp-IsAntisymmetric t.places k) ∙ ap (λ v. place_of v.tree k) is
+-- ---- a process that is put into another group
 
-one_key : (k x y : ℕ) → eq_by_cmp nat_cmp k x ≡ true → eq_by_cmp nat_cmp k y ≡ eq_by_cmp nat_cmp x y
-one_key k x y e = ap (λ z. eq_by_cmp nat_cmp z y) (is_same nat_cmp_total nat_cmp-IsAntisymmetric k x e)
+pub place_written : (t : Inside) (g : Contents) (k : ℕ) (p : Path) → g.groups ≡ t.groups.groups → g.places ≡ set_at t.groups.places k (replaced (get t.groups.places k) (Some p)) → room_of (record t { groups = g }) ≡ with_place (room_of t) k p
+place_written t g k p groups places = λ i. record { tree = record (room_of t).tree { groups = present (groups i); places = places i }; entries = domain (groups i) }
 
--- a path in the place of another
-pub place_written : (t : Inside) (m : BTreeMap ℕ Path) (k : ℕ) (p q : Path) → m.entries ≡ set_value (is_at (nat_cmp k)) t.places.entries p → Some q ≡ tree.get nat_cmp t.places k → room_of (record t { places = m }) ≡ with_place (room_of t) k p
-place_written t m k p q e h =
-    let some : IsSome (tree.get nat_cmp t.places k) = ap is_some (sym h) in
-    let written : from_entries nat_cmp m.entries ≡ set_at (from_entries nat_cmp t.places.entries) k (Some p) =
-    ap (from_entries nat_cmp) e
-    ∙ from-updates nat_cmp_total nat_cmp-IsAntisymmetric t.places.entries (set_value (is_at (nat_cmp k)) t.places.entries p) k (Some p) (λ x.
-    lookup-set_value (eq_by_cmp_equiv nat_cmp_total) (is_at (nat_cmp k)) (one_key k) x p t.places.entries some) in
-    let there : Some p ≡ replaced (place_of (room_of t).tree k) (Some p) = ap (λ w. replaced w (Some p)) (place_there t (room_of t) (λ i. room_of t) k (Some q) h) in
-    ap (λ n. record { tree = record (room_of t).tree { places = n }; entries = (room_of t).entries }) (written ∙ ap (set_at (from_entries nat_cmp t.places.entries) k) there)
+bare_keys : {K X : Type 0} (es : List (K × X)) → map (λ e. e.0) (bare es) ≡ map (λ e. e.0) es
+bare_keys [] = refl
+bare_keys (e ∷ es) = ap (λ ks. e.0 ∷ ks) (bare_keys es)
 
--- a process that isn't there stays away
-pub no_place_written : (t : Inside) (k : ℕ) (p : Path) → None ≡ tree.get nat_cmp t.places k → room_of t ≡ with_place (room_of t) k p
-no_place_written t k p h =
-    let none : None ≡ place_of (room_of t).tree k = place_there t (room_of t) (λ i. room_of t) k None h in
-    let same : replaced (place_of (room_of t).tree k) (Some p) ≡ place_of (room_of t).tree k = ap (λ w. replaced w (Some p)) (sym none) ∙ none in
-    ap (λ n. record { tree = record (room_of t).tree { places = n }; entries = (room_of t).entries })
-    (sym (ap (set_at (room_of t).tree.places k) same ∙ set_same nat_cmp_total nat_cmp-IsAntisymmetric (room_of t).tree.places k))
+keys-domain : {K X : Type 0} {R : K → K → Ordering} (m : FiniteMap R X) → keys (domain m) ≡ keys m
+unfolding keys domain
+keys-domain m = bare_keys m.list
 
-pub all_kept : {A : Type 0} (xs : List A) → filter (λ x. true) xs ≡ xs
-all_kept [] = refl
-all_kept (x ∷ xs) = ap (λ z. x ∷ z) (all_kept xs)
+-- no PID comes or goes
+pub same_pids : (m : FiniteMap nat_cmp Path) (k : ℕ) (p : Path) → keys (set_at m k (replaced (get m k) (Some p))) ≡ keys m
+same_pids m k p = by (get m k) refl
+  where
+    by : (w : Option Path) → get m k ≡ w → keys (set_at m k (replaced (get m k) (Some p))) ≡ keys m
+    by None e = ap (λ w. keys (set_at m k (replaced w (Some p)))) e ∙ ap (λ w. keys (set_at m k w)) (sym e) ∙ ap keys (set_same nat_cmp_total nat_cmp-IsAntisymmetric m k)
+    by (Some q) e =
+        ap (λ w. keys (set_at m k (replaced w (Some p)))) e
+        ∙ sym (keys-domain (set_at m k (Some p)))
+        ∙ ap keys (domain-replaced nat_cmp_total nat_cmp-IsAntisymmetric m k p (ap is_some e))
+        ∙ keys-domain m
+
+-- ---- processes as they are listed
+
+module _ (m : FiniteMap nat_cmp Path) where
+  placed_keys : (es : List (ℕ × Path)) → AllByRecursion (λ e. get m e.0 ≡ Some e.1) es → placed m (map (λ e. e.0) es) ≡ es
+  placed_keys [] h = refl
+  placed_keys (e ∷ es) h = (λ i. with_held e.0 (h.0 i) (placed_keys es h.1 i))
+
+  there_keys : (es : List (ℕ × Path)) → AllByRecursion (λ e. get m e.0 ≡ Some e.1) es → AreThere m (map (λ e. e.0) es)
+  there_keys [] h = tt
+  there_keys (e ∷ es) h = (ap is_some h.0, there_keys es h.1)
+
+  pub all_placed : placed m (keys m) ≡ entries m
+  unfolding keys entries
+  all_placed = placed_keys m.list (each_entry nat_cmp_total m)
+
+  pub all_there : AreThere m (keys m)
+  unfolding keys entries
+  all_there = there_keys m.list (each_entry nat_cmp_total m)
+
+-- the next one
+pub next_placed : (m : FiniteMap nat_cmp Path) (k : ℕ) (p : Path) (ks : List ℕ) → Some p ≡ get m k → placed m (k ∷ ks) ≡ (k, p) ∷ placed m ks
+next_placed m k p ks h = ap (λ w. with_held k w (placed m ks)) (sym h)
+
+-- ---- the keys of a map of the code, ascending
 
 keys_mapped : (es : List (ℕ × Path)) → keys_of es ≡ map (λ e. e.0) es
 keys_mapped [] = refl
 keys_mapped (e ∷ es) = ap (λ ks. e.0 ∷ ks) (keys_mapped es)
 
--- the keys, ascending
 pub keys_of_map : (m : BTreeMap ℕ Path) → IsOrdered nat_cmp m → keys_of m.entries ≡ keys (from_entries nat_cmp m.entries)
 unfolding keys entries
 keys_of_map m ordered = ap keys_of (sym (entries-view nat_cmp_total nat_cmp-IsAntisymmetric m ordered)) ∙ keys_mapped (entries (from_entries nat_cmp m.entries))
-
-get-keys_of : (es : List (ℕ × Path)) (i : ℕ) → option_map (λ e. e.0) (slice_get es i) ≡ slice_get (keys_of es) i
-get-keys_of [] i = refl
-get-keys_of (e ∷ es) zero = refl
-get-keys_of (e ∷ es) (suc i) = get-keys_of es i
-
-pub key_there : (t : Inside) (u : TreeWithRoom) → room_of t ≡ u → IsOrdered nat_cmp t.places → (i : ℕ) (w : Option (ℕ × Path)) → w ≡ slice_get t.places.entries i → option_map (λ e. e.0) w ≡ slice_get (keys u.tree.places) i
-key_there t u is ordered i w e = ap (option_map (λ e. e.0)) e ∙ get-keys_of t.places.entries i ∙ ap (λ ks. slice_get ks i) (keys_of_map t.places ordered ∙ ap (λ v. keys v.tree.places) is)

@@ -12,10 +12,11 @@ use Rattle.cg_name.specs.Path.{Path, path_cmp, is_above, is_parent, is_prefix}
 use Rattle.cg_path_tree.specs.declared.node.NodeKey.{NodeKey}
 use Rattle.cg_path_tree.specs.Nodes.{Nodes, with_value, AreClosed}
 use Rattle.cg_text.specs.declared.settings.Settings.{Settings}
+use Rattle.cg_tree.specs.declared.entry.Count.TheVariants.{Groups}
 use Rattle.cg_tree.specs.declared.entry.Entry.{Entry}
-use Rattle.cg_tree.specs.Entries.{counted, entry_at, group_count, groups_in, path_at, settings_of, with_below, with_right_below, AreCounted, CanCount, IsCounted}
+use Rattle.cg_tree.specs.Entries.{counted, entry_at, group_count, groups_in, path_at, recounted, settings_of, with_right_below, AreCounted, CanCount, IsCounted}
 use Rattle.cg_tree.specs.Present.{present}
-use Rattle.cg_tree.proofs.Climbing.{parent_is_above}
+use Rattle.cg_tree.proofs.Climbing.{not_above_itself, parent_is_above}
 use Rattle.cg_tree.proofs.Counts.{few_passing, len-domain, none_held, passing-written, recounts, room_to_count}
 use Rattle.cg_tree.proofs.Presence.{domain-replaced, present_kept, is_some-domain}
 use Rattle.cg_tree.proofs.Seeing.{get-seen, len-seen, seen-set, there}
@@ -69,7 +70,7 @@ some_of : {A : Type 0} (w : Option A) → is_some w ≡ true → (x : A) × (w �
 some_of None e = absurd (false≢true e)
 some_of (Some x) e = (x, refl)
 
-from_mapped : {A B : Type 0} (f : A → B) (w : Option A) (y : B) → option_map f w ≡ Some y → (x : A) × (w ≡ Some x) × (f x ≡ y)
+pub from_mapped : {A B : Type 0} (f : A → B) (w : Option A) (y : B) → option_map f w ≡ Some y → (x : A) × (w ≡ Some x) × (f x ≡ y)
 from_mapped f None y e = absurd (none-some y e)
 from_mapped f (Some x) y e = (x, refl, same_Some _ _ e)
 
@@ -151,7 +152,7 @@ module _ (a : Nodes Entry) (key : NodeKey) (e : Entry) (there : entry_at a key �
           let before = from_mapped (with_right_below comes p q) (get written.values q) x (sym (right q) ∙ h) in
           room most length fits (is_above q) passes x.below (ap (λ (y : Entry). y.below) (sym before.2) ∙ (counts_before q before.0 before.1).below)
 
-      module _ (c : Nodes Entry) (above : (q : Path) → get c.values q ≡ option_map (with_below comes p q) (get b.values q)) where
+      module _ (c : Nodes Entry) (above : (q : Path) → get c.values q ≡ option_map (recounted Groups comes (is_above q p)) (get b.values q)) where
         settings_kept : (f : Entry → Entry) → ((x : Entry) → (f x).settings ≡ x.settings) → (w : Option Entry) → option_map settings_of (option_map f w) ≡ option_map settings_of w
         settings_kept f h None = refl
         settings_kept f h (Some x) = ap Some (h x)
@@ -161,7 +162,7 @@ module _ (a : Nodes Entry) (key : NodeKey) (e : Entry) (there : entry_at a key �
             same_map path_cmp_total path_cmp_exact (groups_in c.values) (groups_in written.values) (λ q.
             get-seen settings_of c.values q
             ∙ ap (option_map settings_of) (above q)
-            ∙ settings_kept (with_below comes p q) (λ x. refl) (get b.values q)
+            ∙ settings_kept (recounted Groups comes (is_above q p)) (λ x. refl) (get b.values q)
             ∙ ap (option_map settings_of) (right q)
             ∙ settings_kept (with_right_below comes p q) (λ x. refl) (get written.values q)
             ∙ sym (get-seen settings_of written.values q))
@@ -174,10 +175,10 @@ module _ (a : Nodes Entry) (key : NodeKey) (e : Entry) (there : entry_at a key �
 
         pub counted_anew : AreCounted c.values
         counted_anew q x h =
-            let last = from_mapped (with_below comes p q) (get b.values q) x (sym (above q) ∙ h) in
+            let last = from_mapped (recounted Groups comes (is_above q p)) (get b.values q) x (sym (above q) ∙ h) in
             let first = from_mapped (with_right_below comes p q) (get written.values q) last.0 (sym (right q) ∙ last.1) in
             let old = counts_before q first.0 first.1 in
-            subst (λ (y : Entry). IsCounted (groups_in c.values) q y) (ap (with_below comes p q) first.2 ∙ last.2)
+            subst (λ (y : Entry). IsCounted (groups_in c.values) q y) (ap (recounted Groups comes (is_above q p)) first.2 ∙ last.2)
             (record { below = recount (is_above q) first.0.below old.below; right_below = recount (is_parent q) first.0.right_below old.right_below })
 
 -- ---- an entry of no group comes or goes
@@ -202,7 +203,7 @@ module _ (m : FiniteMap path_cmp Entry) (p : Path) (w : Option Entry) (counts : 
 
 -- ---- nothing is counted below a path with no node
 
-above_begins : (p q : Path) → is_above p q ≡ true → is_prefix p q ≡ true
+pub above_begins : (p q : Path) → is_above p q ≡ true → is_prefix p q ≡ true
 above_begins p [] h = absurd (false≢true h)
 above_begins [] (m ∷ q) h = refl
 above_begins (n ∷ p) (m ∷ q) h = let both = and_parts (same_name n m) (is_above p q) h in λ i. both.0 i && above_begins p q both.1 i
@@ -214,6 +215,17 @@ none_above a closed both p none q above = by (get a.values q) refl
     by None e = get-seen settings_of a.values q ∙ ap (option_map settings_of) e
     by (Some x) e = absurd (true≢false (sym (closed p q (above_begins p q above) (sym (both q) ∙ ap is_some e)) ∙ none))
 
+-- and no node is right below one that was made there
+pub leaf_made : (old new : FiniteMap path_cmp NodeKey) → AreClosed old → (p : Path) (key : NodeKey) → get old p ≡ None → new ≡ set_at old p (Some key) → (q : Path) → is_parent p q ≡ true → get new q ≡ None
+leaf_made old new closed p key absent is q h = elim (cases path_cmp_total path_cmp_exact q p) [
+  | inl e ↦ absurd (true≢false (sym (parent_is_above p q h) ∙ ap (is_above p) e ∙ not_above_itself p))
+  | inr ne ↦ ap (λ m. get m q) is ∙ get_apart path_cmp_total path_cmp_exact old p (Some key) q ne ∙ by (get old q) refl
+]
+  where
+    by : (w : Option NodeKey) → get old q ≡ w → w ≡ None
+    by None e = refl
+    by (Some k) e = absurd (true≢false (sym (closed p q (above_begins p q (parent_is_above p q h)) (ap is_some e)) ∙ ap is_some absent))
+
 pub none_counted_below : (a : Nodes Entry) → AreClosed a.keys → ((p : Path) → is_some (get a.values p) ≡ is_some (get a.keys p)) → (p : Path) → is_some (get a.keys p) ≡ false → group_count (groups_in a.values) (is_above p) ≡ 0
 none_counted_below a closed both p none = none_held (groups_in a.values) (is_above p) (none_above a closed both p none)
 
@@ -224,7 +236,7 @@ none_counted_right_below a closed both p none = none_held (groups_in a.values) (
 
 module _ (a : Nodes Entry) (closed : AreClosed a.keys) (both : (p : Path) → is_some (get a.values p) ≡ is_some (get a.keys p)) (p : Path) (absent : get a.keys p ≡ None) where
   abbrev dead : Entry
-  dead = record { settings = None; below = 0; right_below = 0 }
+  dead = record { settings = None; below = 0; right_below = 0; processes = 0 }
 
   none_held_there : option_flatten (get (groups_in a.values) p) ≡ None
   none_held_there = by (get a.values p) refl

@@ -1,14 +1,15 @@
 -- What the fields mean, as the map of the groups is read and written.
 use Rattle.std.proofs.lemmas.Bool.{false≢true, le-leb}
-use Rattle.std.proofs.Common.{◌≡◌, ℕ, ◌≤◌, length, take, IsSome, true, false, Option, Some, None, is_some, not, ◌&&◌, ◌||◌, refl, sym, ap, ◌∙◌, cond}
+use Rattle.std.proofs.Common.{◌≡◌, ◌≢◌, ℕ, ◌≤◌, length, take, IsSome, true, false, Option, Some, None, is_some, not, ◌&&◌, ◌||◌, refl, sym, ap, ◌∙◌, cond}
 use Rattle.std.specs.Option.{option_flatten}
-use Rattle.cg_maps.specs.FiniteMap.{FiniteMap, get, set_at, domain}
+use Rattle.cg_maps.specs.FiniteMap.{get, set_at, domain}
 use Rattle.cg_maps.proofs.Maps.{set_same}
-use Rattle.cg_name.specs.Path.{Path, path_cmp, is_parent, is_root}
+use Rattle.cg_name.specs.Path.{Path, is_parent, is_root}
 use Rattle.cg_name.specs.Order.{path_cmp_total, path_cmp_exact}
 use Rattle.cg_text.specs.declared.settings.Settings.{Settings}
-use Rattle.cg_model.specs.Tree.{Tree, group, parent_group}
+use Rattle.cg_model.specs.Tree.{Tree, group, place_of, parent_group}
 use Rattle.cg_tree.specs.declared.tree.Tree.TheInside.{Inside}
+use Rattle.cg_tree.specs.Contents.{Contents}
 use Rattle.cg_tree.specs.Inside.{room_of}
 use Rattle.cg_tree.specs.Prefix.{prefix_group}
 use Rattle.cg_tree.specs.Present.{present}
@@ -24,34 +25,34 @@ none_there None e = refl
 none_there (Some x) e = cc
 
 -- the settings at a path, and whether there is an entry
-pub settings_there : (t : Inside) (u : TreeWithRoom) → room_of t ≡ u → (p : Path) (w : Option (Option Settings)) → w ≡ get t.groups p → option_flatten w ≡ group u.tree p
-settings_there t u is p w e = ap option_flatten e ∙ sym (get-present path_cmp_total path_cmp_exact t.groups p) ∙ ap (λ v. group v.tree p) is
+pub settings_there : (t : Inside) (u : TreeWithRoom) → room_of t ≡ u → (p : Path) (w : Option (Option Settings)) → w ≡ get t.groups.groups p → option_flatten w ≡ group u.tree p
+settings_there t u is p w e = ap option_flatten e ∙ sym (get-present path_cmp_total path_cmp_exact t.groups.groups p) ∙ ap (λ v. group v.tree p) is
 
-pub entry_there : (t : Inside) (u : TreeWithRoom) → room_of t ≡ u → (p : Path) → is_some (get t.groups p) ≡ has_entry u p
-entry_there t u is p = sym (is_some-domain path_cmp_total path_cmp_exact t.groups p) ∙ ap (λ v. has_entry v p) is
+pub entry_there : (t : Inside) (u : TreeWithRoom) → room_of t ≡ u → (p : Path) → is_some (get t.groups.groups p) ≡ has_entry u p
+entry_there t u is p = sym (is_some-domain path_cmp_total path_cmp_exact t.groups.groups p) ∙ ap (λ v. has_entry v p) is
 
-module _ (t : Inside) (p : Path) (g : FiniteMap path_cmp (Option Settings)) where
+module _ (t : Inside) (p : Path) (g : Contents) (same : g.places ≡ t.groups.places) where
   abbrev pub with_map : Inside
   with_map = record t { groups = g }
 
   -- settings in the place of an entry
-  pub group_written : (s : Option Settings) → g ≡ set_at t.groups p (Some s) → is_some (get t.groups p) ≡ true → room_of with_map ≡ with_group (room_of t) p s
+  pub group_written : (s : Option Settings) → g.groups ≡ set_at t.groups.groups p (Some s) → is_some (get t.groups.groups p) ≡ true → room_of with_map ≡ with_group (room_of t) p s
   group_written s e h =
-      let groups : present g ≡ set_at (present t.groups) p s = ap present e ∙ present-set path_cmp_total path_cmp_exact t.groups p (Some s) in
-      let entries : domain g ≡ domain t.groups = ap domain e ∙ domain-replaced path_cmp_total path_cmp_exact t.groups p s h in
-      λ i. record { tree = record (room_of t).tree { groups = groups i }; entries = entries i }
+      let groups : present g.groups ≡ set_at (present t.groups.groups) p s = ap present e ∙ present-set path_cmp_total path_cmp_exact t.groups.groups p (Some s) in
+      let entries : domain g.groups ≡ domain t.groups.groups = ap domain e ∙ domain-replaced path_cmp_total path_cmp_exact t.groups.groups p s h in
+      λ i. record { tree = record (room_of t).tree { groups = groups i; places = same i }; entries = entries i }
 
-  pub entry_made : g ≡ set_at t.groups p (Some None) → get t.groups p ≡ None → room_of with_map ≡ with_entries (room_of t) (set_at (domain t.groups) p (Some tt))
+  pub entry_made : g.groups ≡ set_at t.groups.groups p (Some None) → get t.groups.groups p ≡ None → room_of with_map ≡ with_entries (room_of t) (set_at (domain t.groups.groups) p (Some tt))
   entry_made e h =
-      let groups : present g ≡ present t.groups = ap present e ∙ present_kept path_cmp_total path_cmp_exact t.groups p (Some None) (ap option_flatten h) refl in
-      let entries : domain g ≡ set_at (domain t.groups) p (Some tt) = ap domain e ∙ domain-set path_cmp_total path_cmp_exact t.groups p (Some None) in
-      λ i. record { tree = record (room_of t).tree { groups = groups i }; entries = entries i }
+      let groups : present g.groups ≡ present t.groups.groups = ap present e ∙ present_kept path_cmp_total path_cmp_exact t.groups.groups p (Some None) (ap option_flatten h) refl in
+      let entries : domain g.groups ≡ set_at (domain t.groups.groups) p (Some tt) = ap domain e ∙ domain-set path_cmp_total path_cmp_exact t.groups.groups p (Some None) in
+      λ i. record { tree = record (room_of t).tree { groups = groups i; places = same i }; entries = entries i }
 
-  pub entry_removed : g ≡ set_at t.groups p None → group (room_of t).tree p ≡ None → room_of with_map ≡ with_entries (room_of t) (set_at (domain t.groups) p None)
+  pub entry_removed : g.groups ≡ set_at t.groups.groups p None → group (room_of t).tree p ≡ None → room_of with_map ≡ with_entries (room_of t) (set_at (domain t.groups.groups) p None)
   entry_removed e h =
-      let groups : present g ≡ present t.groups = ap present e ∙ present_kept path_cmp_total path_cmp_exact t.groups p None (settings_there t (room_of t) refl p _ refl ∙ h) refl in
-      let entries : domain g ≡ set_at (domain t.groups) p None = ap domain e ∙ domain-set path_cmp_total path_cmp_exact t.groups p None in
-      λ i. record { tree = record (room_of t).tree { groups = groups i }; entries = entries i }
+      let groups : present g.groups ≡ present t.groups.groups = ap present e ∙ present_kept path_cmp_total path_cmp_exact t.groups.groups p None (settings_there t (room_of t) refl p _ refl ∙ h) refl in
+      let entries : domain g.groups ≡ set_at (domain t.groups.groups) p None = ap domain e ∙ domain-set path_cmp_total path_cmp_exact t.groups.groups p None in
+      λ i. record { tree = record (room_of t).tree { groups = groups i; places = same i }; entries = entries i }
 
 -- an entry that is there is made to no effect
 pub entry_same : (u : TreeWithRoom) (p : Path) → has_entry u p ≡ true → with_entry (Some p) u.entries ≡ u.entries
@@ -66,27 +67,33 @@ pub dead_swept : (u : TreeWithRoom) (p : Path) → group u.tree p ≡ None → w
 dead_swept u p e = ap (λ s. cond (is_some s) u.entries (set_at u.entries p None)) e
 
 -- no settings where there is no entry are none
-pub nothing_written : (t : Inside) (p : Path) (s : Option Settings) → None ≡ get t.groups p → (IsSome s → has_entry (room_of t) p ≡ true) → room_of t ≡ with_group (room_of t) p s
+pub nothing_written : (t : Inside) (p : Path) (s : Option Settings) → None ≡ get t.groups.groups p → (IsSome s → has_entry (room_of t) p ≡ true) → room_of t ≡ with_group (room_of t) p s
 nothing_written t p (Some s) e room = absurd (false≢true (ap is_some e ∙ entry_there t (room_of t) refl p ∙ room refl))
 nothing_written t p None e room =
     let none : None ≡ group (room_of t).tree p = settings_there t (room_of t) refl p None e in
-    λ i. record { tree = record (room_of t).tree { groups = sym (ap (set_at (present t.groups) p) none ∙ set_same path_cmp_total path_cmp_exact (present t.groups) p) i }; entries = domain t.groups }
+    λ i. record { tree = record (room_of t).tree { groups = sym (ap (set_at (present t.groups.groups) p) none ∙ set_same path_cmp_total path_cmp_exact (present t.groups.groups) p) i }; entries = domain t.groups.groups }
 
 pub prefix_found : (T : Tree) (p : Path) (n : ℕ) → n ≤ length p → group T (take n p) ≡ prefix_group T p n
 prefix_found T p n h = ap (λ b. cond b (group T (take n p)) None) (sym (le-leb n (length p) h))
 
 -- where an entry may be made, the parent has one
-pub parent_has_entry : (t : Inside) (u : TreeWithRoom) → room_of t ≡ u → (p : Path) → may_have_entry u.tree p ≡ true → is_root p ≡ false → IsSome (get t.groups (parent_path p))
+pub parent_has_entry : (t : Inside) (u : TreeWithRoom) → room_of t ≡ u → (p : Path) → may_have_entry u.tree p ≡ true → is_root p ≡ false → IsSome (get t.groups.groups (parent_path p))
 parent_has_entry t u is p may deep =
     let group_there : is_some (parent_group u.tree p) ≡ true = sym (ap (λ b. b || is_some (parent_group u.tree p)) deep) ∙ may in
-    flattened (get t.groups (parent_path p)) (ap is_some (settings_there t u is (parent_path p) _ refl ∙ sym (parent_along (group u.tree) p deep)) ∙ group_there)
+    flattened (get t.groups.groups (parent_path p)) (ap is_some (settings_there t u is (parent_path p) _ refl ∙ sym (parent_along (group u.tree) p deep)) ∙ group_there)
   where
     flattened : (w : Option (Option Settings)) → is_some (option_flatten w) ≡ true → is_some w ≡ true
     flattened None h = h
     flattened (Some x) h = refl
 
 -- no entry is right below one that may be swept
-pub none_right_below : (t : Inside) (u : TreeWithRoom) → room_of t ≡ u → (p : Path) → group u.tree p ≡ None → MaySweepIfDead u p → IsSome (get t.groups p) → (q : Path) → is_parent p q ≡ true → get t.groups q ≡ None
+pub none_right_below : (t : Inside) (u : TreeWithRoom) → room_of t ≡ u → (p : Path) → group u.tree p ≡ None → MaySweepIfDead u p → IsSome (get t.groups.groups p) → (q : Path) → is_parent p q ≡ true → get t.groups.groups q ≡ None
 none_right_below t u is p none may some q h =
     let dead : has_entry u p && not (is_some (group u.tree p)) ≡ true = λ i. (sym (entry_there t u is p) ∙ some) i && not (is_some (none i)) in
     none_there _ (entry_there t u is q ∙ (may dead).below q (parent_is_above p q h))
+
+-- and no process is in it
+pub none_in_it : (t : Inside) (u : TreeWithRoom) → room_of t ≡ u → (p : Path) → group u.tree p ≡ None → MaySweepIfDead u p → IsSome (get t.groups.groups p) → (k : ℕ) → get t.groups.places k ≢ Some p
+none_in_it t u is p none may some k at =
+    let dead : has_entry u p && not (is_some (group u.tree p)) ≡ true = λ i. (sym (entry_there t u is p) ∙ some) i && not (is_some (none i)) in
+    (may dead).unused k (sym (ap (λ v. place_of v.tree k) is) ∙ at)

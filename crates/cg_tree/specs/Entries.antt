@@ -1,10 +1,12 @@
--- What the nodes of the tree of groups hold: the settings of each group, and how many groups are below each path.
+-- What the nodes of the tree of groups hold: the settings of each group, and how many groups and processes are below each path.
 use Rattle.std.specs.Prelude.{◌≡◌, ◌<◌, ◌+◌, ◌-◌, ◌^◌, ℕ, Bool, true, false, cond, Option, Some}
 use Rattle.cg_maps.specs.FiniteMap.{FiniteMap, get, len, retain}
 use Rattle.cg_name.specs.Path.{Path, path_cmp, is_above, is_parent}
 use Rattle.cg_path_tree.specs.declared.node.NodeKey.{NodeKey}
 use Rattle.cg_path_tree.specs.Nodes.{Nodes, path_of}
 use Rattle.cg_text.specs.declared.settings.Settings.{Settings}
+use Rattle.cg_tree.specs.declared.entry.Count.{Count}
+use Rattle.cg_tree.specs.declared.entry.Count.TheVariants.{Groups, Processes}
 use Rattle.cg_tree.specs.declared.entry.Entry.{Entry}
 use Rattle.cg_tree.specs.Present.{present}
 use Rattle.cg_tree.specs.Seen.{seen_map}
@@ -15,6 +17,13 @@ settings_of e = e.settings
 -- the map of the settings
 abbrev pub groups_in : FiniteMap path_cmp Entry → FiniteMap path_cmp (Option Settings)
 groups_in m = seen_map settings_of m
+
+abbrev pub processes_of : Entry → ℕ
+processes_of e = e.processes
+
+-- the map of the counts of processes
+abbrev pub held_in : FiniteMap path_cmp Entry → FiniteMap path_cmp ℕ
+held_in m = seen_map processes_of m
 
 -- the number of groups at paths that pass a test
 abbrev pub group_count : FiniteMap path_cmp (Option Settings) → (Path → Bool) → ℕ
@@ -29,23 +38,34 @@ pub record IsCounted (m : FiniteMap path_cmp (Option Settings)) (p : Path) (e : 
 abbrev pub AreCounted : FiniteMap path_cmp Entry → Type 0
 AreCounted m = (p : Path) (e : Entry) → get m p ≡ Some e → IsCounted (groups_in m) p e
 
--- ---- a group that comes or goes
+-- ---- a group or a process that comes or goes
 
 -- the count with one more or one less
 abbrev pub counted : Bool → ℕ → ℕ
 counted comes n = cond comes (n + 1) (n - 1)
+
+-- where it is counted
+abbrev pub counted_if : Bool → Bool → ℕ → ℕ
+counted_if comes here n = cond here (counted comes n) n
 
 -- the count can be so changed
 abbrev pub CanCount : Bool → ℕ → Type 0
 CanCount true n = n + 1 < 2 ^ 64
 CanCount false n = 0 < n
 
--- the entry of q, as the group at p comes or goes: counted among those below, and among those right below
-abbrev pub with_below : Bool → Path → Path → Entry → Entry
-with_below comes p q e = record e { below = cond (is_above q p) (counted comes e.below) e.below }
+-- the count of an entry that changes at each path above
+abbrev pub count_of : Count → Entry → ℕ
+count_of Groups e = e.below
+count_of Processes e = e.processes
 
+-- the entry with that count changed, where it is counted
+abbrev pub recounted : Count → Bool → Bool → Entry → Entry
+recounted Groups comes here e = record e { below = counted_if comes here e.below }
+recounted Processes comes here e = record e { processes = counted_if comes here e.processes }
+
+-- the entry of q, as the group at p comes or goes: counted among those right below
 abbrev pub with_right_below : Bool → Path → Path → Entry → Entry
-with_right_below comes p q e = record e { right_below = cond (is_parent q p) (counted comes e.right_below) e.right_below }
+with_right_below comes p q e = record e { right_below = counted_if comes (is_parent q p) e.right_below }
 
 -- ---- nodes
 

@@ -1,9 +1,13 @@
-pub mod Entries
-pub mod Listing
-pub mod Seen
+pub mod Ancestors
 pub mod Code
+pub mod Contents
 pub mod Edit
+pub mod Entries
 pub mod Inside
+pub mod Listing
+pub mod Placed
 pub mod Prefix
 pub mod Present
 pub mod Room
+pub mod Seen
+pub mod Upward

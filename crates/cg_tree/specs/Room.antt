@@ -1,13 +1,12 @@
 -- A tree with room: the tree of the definitions, and which paths have an entry (this project's own choice).
 use Rattle.std.specs.Prelude.{◌≡◌, ℕ, Bool, false, true, not, ◌&&◌, ◌||◌, cond, Option, Some, None, IsSome, is_some}
-use Rattle.std.specs.Ordering.{nat_cmp}
 use Rattle.cg_maps.specs.FiniteMap.{FiniteMap, get, set_at}
 use Rattle.cg_name.specs.Path.{Path, path_cmp, is_root, is_above}
 use Rattle.cg_model.specs.Room.{MaySweep}
 use Rattle.cg_model.specs.Tree.{Tree, group, place_of, parent_group}
 use Rattle.cg_path_tree.specs.Nodes.{parent_path}
 use Rattle.cg_text.specs.declared.settings.Settings.{Settings}
-use Rattle.cg_world.specs.Representable.{IsPid, IsRepresentable}
+use Rattle.cg_world.specs.Representable.{IsRepresentable}
 
 pub record TreeWithRoom : Type 0 where
   pub tree : Tree
@@ -46,10 +45,6 @@ with_entry (Some p) E = set_at E p (Some tt)
 -- the entries without that of p, where it is dead
 abbrev pub without_dead : TreeWithRoom → Path → FiniteMap path_cmp (Unit {0})
 without_dead t p = cond (is_some (group t.tree p)) t.entries (set_at t.entries p None)
-
--- the keys are PIDs
-abbrev pub ArePids : FiniteMap nat_cmp Path → Type 0
-ArePids m = (k : ℕ) (p : Path) → get m k ≡ Some p → IsPid k
 
 -- each group but the root has its parent
 abbrev pub HaveParents : FiniteMap path_cmp Settings → Type 0

@@ -1,12 +1,12 @@
-// The nodes of a tree's groups, with the counts of groups below each kept as groups come and go.
+// The nodes of a tree's groups, with the counts of groups and processes below each kept as these come and go.
 ghost use Rattle.std.specs.Prelude.{◌≡◌, true, option_map, List, ℕ, IfOk, OnErr, OnOk, None, Some};
 ghost use Rattle.cg_maps.specs.FiniteMap.{get, set_at};
-ghost use Rattle.cg_name.specs.Path.{is_above, is_parent};
+ghost use Rattle.cg_name.specs.Path.{is_above, is_parent, is_prefix};
 ghost use Rattle.cg_path_tree.specs.Nodes.{with_value, HasParent, IsKey};
 ghost use Rattle.cg_tree.specs.declared.entry.Entry.{Entry};
-ghost use Rattle.cg_tree.specs.Entries.{counted, entry_at, groups_in, path_at, with_below, with_right_below, AreCounted, CanCount};
+ghost use Rattle.cg_tree.specs.Entries.{count_of, counted, counted_if, entry_at, groups_in, held_in, path_at, recounted, with_right_below, AreCounted, CanCount};
 
-use crate::entry::{Entry, counted};
+use crate::entry::{Count, Entry, counted};
 use cg_name::Path;
 use cg_path_tree::{NodeKey, PathTree};
 use cg_text::Settings;
@@ -20,14 +20,17 @@ fn write_settings(nodes: &mut PathTree<Entry>, key: NodeKey, settings: Option<Se
     nodes.get_mut(key).settings = settings;
 }
 
-// One group more or less below a node.
-fn count_below(nodes: &mut PathTree<Entry>, key: NodeKey, comes: bool)
+// One more or less in a count of a node.
+fn count(nodes: &mut PathTree<Entry>, key: NodeKey, which: Count, comes: bool)
     requires key { IsKey nodes.old.keys key }
-    requires room { (e : Entry) → entry_at nodes.old key ≡ Some e → CanCount comes e.below }
-    ensures { (e : Entry) → entry_at nodes.old key ≡ Some e → nodes.new ≡ with_value nodes.old (path_at nodes.old key) (record e { below = counted comes e.below }) }
+    requires room { (e : Entry) → entry_at nodes.old key ≡ Some e → CanCount comes (count_of which e) }
+    ensures { (e : Entry) → entry_at nodes.old key ≡ Some e → nodes.new ≡ with_value nodes.old (path_at nodes.old key) (recounted which comes true e) }
 {
     let entry = nodes.get_mut(key);
-    entry.below = counted(entry.below, comes);
+    match which {
+        Count::Groups => entry.below = counted(entry.below, comes),
+        Count::Processes => entry.processes = counted(entry.processes, comes),
+    }
 }
 
 // One group more or less right below a node.
@@ -40,17 +43,17 @@ fn count_right_below(nodes: &mut PathTree<Entry>, key: NodeKey, comes: bool)
     entry.right_below = counted(entry.right_below, comes);
 }
 
-// One group more or less at each node above that of the key.
-fn count_above(nodes: &mut PathTree<Entry>, key: NodeKey, comes: bool)
+// One more or less in that count of each node above that of the key.
+fn count_above(nodes: &mut PathTree<Entry>, key: NodeKey, which: Count, comes: bool)
     requires key { IsKey nodes.old.keys key }
-    requires room { (q : List (List ℕ)) (e : Entry) → is_above q (path_at nodes.old key) ≡ true → get nodes.old.values q ≡ Some e → CanCount comes e.below }
+    requires room { (q : List (List ℕ)) (e : Entry) → is_above q (path_at nodes.old key) ≡ true → get nodes.old.values q ≡ Some e → CanCount comes (count_of which e) }
     ensures keys { nodes.new.keys ≡ nodes.old.keys }
-    ensures values { (q : List (List ℕ)) → get nodes.new.values q ≡ option_map (with_below comes (path_at nodes.old key) q) (get nodes.old.values q) }
+    ensures values { (q : List (List ℕ)) → get nodes.new.values q ≡ option_map (recounted which comes (is_above q (path_at nodes.old key))) (get nodes.old.values q) }
 {
     nodes.laws();
     let mut at = key;
     while let Some(above) = nodes.parent(at) {
-        count_below(nodes, above, comes);
+        count(nodes, above, which, comes);
         at = above;
     }
 }
@@ -75,6 +78,7 @@ pub(crate) fn put(nodes: &mut PathTree<Entry>, key: NodeKey, settings: Option<Se
     ensures keys { nodes.new.keys ≡ nodes.old.keys }
     ensures groups { groups_in nodes.new.values ≡ set_at (groups_in nodes.old.values) (path_at nodes.old key) (Some settings) }
     ensures counted { AreCounted nodes.new.values }
+    ensures held { held_in nodes.new.values ≡ held_in nodes.old.values }
 {
     // A tree can tell how many nodes it has, so that each count has room.
     let _ = nodes.len();
@@ -84,8 +88,23 @@ pub(crate) fn put(nodes: &mut PathTree<Entry>, key: NodeKey, settings: Option<Se
     write_settings(nodes, key, settings);
     if comes != was {
         count_at_parent(nodes, key, comes);
-        count_above(nodes, key, comes);
+        count_above(nodes, key, Count::Groups, comes);
     }
+}
+
+// One process more or less in the group of a node: counted there and at each node above.
+pub(crate) fn count_process(nodes: &mut PathTree<Entry>, key: NodeKey, comes: bool)
+    requires key { IsKey nodes.old.keys key }
+    requires counted { AreCounted nodes.old.values }
+    requires room { (q : List (List ℕ)) (n : ℕ) → is_prefix q (path_at nodes.old key) ≡ true → get (held_in nodes.old.values) q ≡ Some n → CanCount comes n }
+    ensures keys { nodes.new.keys ≡ nodes.old.keys }
+    ensures groups { groups_in nodes.new.values ≡ groups_in nodes.old.values }
+    ensures counted { AreCounted nodes.new.values }
+    ensures held { (q : List (List ℕ)) → get (held_in nodes.new.values) q ≡ option_map (counted_if comes (is_prefix q (path_at nodes.old key))) (get (held_in nodes.old.values) q) }
+{
+    nodes.laws();
+    count(nodes, key, Count::Processes, comes);
+    count_above(nodes, key, Count::Processes, comes);
 }
 
 // Puts a dead entry at a path that has none. Where there is no memory for it, all is as it was.
@@ -100,6 +119,7 @@ pub(crate) fn add_dead(
     ensures keys { IfOk result (λ key. nodes.new.keys ≡ set_at nodes.old.keys path.now (Some key)) }
     ensures groups { OnOk result (groups_in nodes.new.values ≡ set_at (groups_in nodes.old.values) path.now (Some None)) }
     ensures counted { AreCounted nodes.new.values }
+    ensures held { OnOk result (held_in nodes.new.values ≡ set_at (held_in nodes.old.values) path.now (Some 0)) }
     ensures err { OnErr result (nodes.new ≡ nodes.old) }
 {
     nodes.laws();
@@ -107,6 +127,7 @@ pub(crate) fn add_dead(
         settings: None,
         below: 0,
         right_below: 0,
+        processes: 0,
     };
     let Ok(key) = nodes.add(alloc, path, entry) else {
         return Err(AllocError);

@@ -4,7 +4,7 @@ ghost use Rattle.cg_tree.specs.Entries.{counted, CanCount};
 
 use cg_text::Settings;
 
-// The settings of a group, and how many groups are below.
+// The settings of a group, how many groups are below, and how many processes are in it and below.
 pub(crate) struct Entry {
     // The settings of the group, and `None` where the path is dead.
     pub(crate) settings: Option<Settings>,
@@ -12,6 +12,17 @@ pub(crate) struct Entry {
     pub(crate) below: usize,
     // How many of them are right below it.
     pub(crate) right_below: usize,
+    // How many processes are in the groups at the path and below it.
+    pub(crate) processes: usize,
+}
+
+// Which count of an entry changes at each path above.
+#[derive(Clone, Copy)]
+pub(crate) enum Count {
+    // Of the groups below.
+    Groups,
+    // Of the processes.
+    Processes,
 }
 
 // By hand, so that whoever drops one calls this, and doesn't drop each thing in it: that makes proofs shorter.
@@ -21,11 +32,12 @@ impl Drop for Entry {
             settings: _,
             below: _,
             right_below: _,
+            processes: _,
         } = self;
     }
 }
 
-// The count with one group more, where it comes, and else with one less.
+// The count with one more, where it comes, and else with one less.
 pub(crate) fn counted(count: usize, comes: bool) -> usize
     requires { CanCount comes count }
     ensures { result ≡ counted comes count }

@@ -1,110 +1,122 @@
-// The groups of a tree and its dead paths, each found by one look-up, with how many groups are below.
-ghost use Rattle.std.specs.Prelude.{◌≡◌, false, is_some, true, take, IsSome, IfOk, OnErr, OnOk, Some, None};
+// The groups of a tree and its dead paths, each found by one look-up, with how many groups and processes are below, and the
+// processes in them.
+ghost use Rattle.std.specs.Prelude.{◌≡◌, ◌≢◌, ◌≤◌, ◌<◌, ℕ, false, is_some, length, suc, true, take, IsSome, IfOk, OnErr, OnOk, Some, None};
 ghost use Rattle.std.specs.Option.{option_flatten};
-ghost use Rattle.cg_maps.specs.FiniteMap.{empty, entries, get, is_nonempty, retain, set_at};
+ghost use Rattle.cg_maps.specs.FiniteMap.{empty, entries, get, is_nonempty, keys, retain, set_at};
 ghost use Rattle.cg_model.specs.Control.{used_below};
+ghost use Rattle.cg_model.specs.Derived.{is_in, is_in_subtree};
+ghost use Rattle.cg_model.specs.Key.{replaced};
 ghost use Rattle.cg_name.specs.Path.{is_above, is_parent, is_root};
-ghost use Rattle.cg_path_tree.specs.Nodes.{parent_path};
+ghost use Rattle.cg_path_tree.specs.Nodes.{number_of, parent_path};
+ghost use Rattle.cg_tree.specs.Ancestors.{ancestor_in, downward};
 ghost use Rattle.cg_tree.specs.Entries.{group_count};
 ghost use Rattle.cg_tree.specs.Present.{present};
 
-use crate::counting::{add_dead, put};
+use crate::ancestors::{Ancestors, deepest, deepest_above};
+use crate::counting::{add_dead, count_process, put};
 use crate::entry::Entry;
 use crate::listed::{Listed, passed_on};
 use crate::looking::{entry, prefix_entry};
-use cg_name::Path;
-use cg_path_tree::PathTree;
+use cg_name::{Path, PathRef};
+use cg_path_tree::{NodeKey, PathTree};
+use cg_places::Places;
 use cg_text::{Controllers, Settings};
 use std::alloc::{AllocError, Global};
 use std::marker::Model;
 
-// The settings of each group, and `None` at each dead path.
+// The settings of each group, `None` at each dead path, and the group of each process.
 pub(crate) struct Groups {
     nodes: PathTree<Entry>,
+    // A group's number is that of its node's key.
+    places: Places,
 }
 
 // By hand, so that whoever drops one calls this, and doesn't drop each thing in it: that makes proofs shorter.
 impl Drop for Groups {
     fn drop(self) {
-        let Groups { nodes: _ } = self;
+        let Groups {
+            nodes: _,
+            places: _,
+        } = self;
     }
 }
 
 impl Model for Groups {
-    ghost use Rattle.std.specs.Prelude.{Option};
-    ghost use Rattle.std.specs.Coded.{coded_option};
-    ghost use Rattle.cg_maps.specs.Code.{map_code};
-    ghost use Rattle.cg_maps.specs.FiniteMap.{FiniteMap};
-    ghost use Rattle.cg_model.specs.Code.{path_code, settings_code};
-    ghost use Rattle.cg_name.specs.Path.{path_cmp};
-    ghost use Rattle.cg_text.specs.declared.settings.Settings.{Settings};
-    ghost use Rattle.cg_tree.specs.Entries.{groups_in, AreCounted};
+    ghost use Rattle.cg_tree.specs.Contents.{contents_code, contents_of, AreKept, Contents};
 
-    ghost Value = { FiniteMap path_cmp (Option Settings) };
+    ghost Value = { Contents };
 
-    ghost coded = { map_code path_code (coded_option settings_code) };
+    ghost coded = { contents_code };
 
-    ghost view = { λ g. groups_in g.nodes.values };
+    ghost view = { λ g. contents_of g.nodes g.places };
 
-    ghost invariant = { λ g. AreCounted g.nodes.values };
+    ghost invariant = { λ g. AreKept g.nodes g.places };
 }
 
 impl Groups {
-    // A map with no entry.
+    // No entry, and no process.
     pub(crate) fn new(alloc: Global) -> Groups
-        ensures { result ≡ empty }
+        ensures groups { result.groups ≡ empty }
+        ensures places { result.places ≡ empty }
     {
         Groups {
             nodes: PathTree::new(alloc),
+            places: Places::new(alloc),
         }
     }
 
     // What the map has at the path.
     pub(crate) fn get(&self, path: &Path) -> Option<Option<Settings>>
-        ensures { result ≡ get self.now path.now }
+        ensures { result ≡ get self.now.groups path.now }
     {
         Some(entry(&self.nodes, path)?.settings)
     }
 
     // What the map has at the path of the first `depth` names, or of all where there are fewer.
     pub(crate) fn get_prefix(&self, path: &Path, depth: u32) -> Option<Option<Settings>>
-        ensures { result ≡ get self.now (take depth path.now) }
+        ensures { result ≡ get self.now.groups (take depth path.now) }
     {
         Some(prefix_entry(&self.nodes, path, depth)?.settings)
     }
 
     // Whether the map has an entry at the path.
     pub(crate) fn contains(&self, path: &Path) -> bool
-        ensures { result ≡ is_some (get self.now path.now) }
+        ensures { result ≡ is_some (get self.now.groups path.now) }
     {
         self.nodes.laws();
         self.nodes.find(path).is_some()
     }
 
     // Makes an entry at a path that has none, the root's or one whose parent has an entry; an error where there is no
-    // memory for it, which leaves the map as it was.
+    // memory for it, which leaves all as it was.
     pub(crate) fn insert(
         &mut self,
         alloc: Global,
         path: &Path,
         settings: Option<Settings>,
     ) -> Result<(), AllocError>
-        requires absent { get self.old path.now ≡ None }
-        requires parent { is_root path.now ≡ false → IsSome (get self.old (parent_path path.now)) }
-        ensures ok { OnOk result (self.new ≡ set_at self.old path.now (Some settings)) }
+        requires absent { get self.old.groups path.now ≡ None }
+        requires parent { is_root path.now ≡ false → IsSome (get self.old.groups (parent_path path.now)) }
+        ensures ok { OnOk result (self.new.groups ≡ set_at self.old.groups path.now (Some settings)) }
+        ensures places { self.new.places ≡ self.old.places }
         ensures err { OnErr result (self.new ≡ self.old) }
     {
         self.nodes.laws();
         let key = add_dead(&mut self.nodes, alloc, path)?;
         self.nodes.laws();
+        let Ok(()) = make_room(&mut self.places, key) else {
+            self.nodes.remove(key);
+            return Err(AllocError);
+        };
         put(&mut self.nodes, key, settings);
         Ok(())
     }
 
     // Puts the settings into the entry at the path, if there is one.
     pub(crate) fn replace(&mut self, path: &Path, settings: Option<Settings>)
-        ensures there { IsSome (get self.old path.now) → self.new ≡ set_at self.old path.now (Some settings) }
-        ensures absent { get self.old path.now ≡ None → self.new ≡ self.old }
+        ensures there { IsSome (get self.old.groups path.now) → self.new.groups ≡ set_at self.old.groups path.now (Some settings) }
+        ensures absent { get self.old.groups path.now ≡ None → self.new.groups ≡ self.old.groups }
+        ensures places { self.new.places ≡ self.old.places }
     {
         self.nodes.laws();
         if let Some(key) = self.nodes.find(path) {
@@ -112,21 +124,24 @@ impl Groups {
         }
     }
 
-    // Takes out the entry at the path, if there is one: it is no group's, and none is right below it.
+    // Takes out the entry at the path, if there is one: it is no group's, none is right below it, and no process is in it.
     pub(crate) fn remove(&mut self, path: &Path)
-        requires dead { option_flatten (get self.old path.now) ≡ None }
-        requires leaf { IsSome (get self.old path.now) → (q : _) → is_parent path.now q ≡ true → get self.old q ≡ None }
-        ensures { self.new ≡ set_at self.old path.now None }
+        requires dead { option_flatten (get self.old.groups path.now) ≡ None }
+        requires leaf { IsSome (get self.old.groups path.now) → (q : _) → is_parent path.now q ≡ true → get self.old.groups q ≡ None }
+        requires unused { IsSome (get self.old.groups path.now) → (pid : ℕ) → get self.old.places pid ≢ Some path.now }
+        ensures groups { self.new.groups ≡ set_at self.old.groups path.now None }
+        ensures places { self.new.places ≡ self.old.places }
     {
         self.nodes.laws();
         if let Some(key) = self.nodes.find(path) {
             self.nodes.remove(key);
+            self.nodes.laws();
         }
     }
 
     // How many groups are below the path of the first `depth` names, or of all where there are fewer.
     pub(crate) fn descendants(&self, path: &Path, depth: u32) -> usize
-        ensures { result ≡ group_count self.now (is_above (take depth path.now)) }
+        ensures { result ≡ group_count self.now.groups (is_above (take depth path.now)) }
     {
         self.nodes.laws();
         match prefix_entry(&self.nodes, path, depth) {
@@ -135,9 +150,27 @@ impl Groups {
         }
     }
 
+    // What the map has at the path and at each above it.
+    pub(crate) fn ancestors(&self, path: &Path) -> Ancestors<'_>
+        ensures { result ≡ downward (ancestor_in self.now.groups path.now) (suc (length path.now)) }
+    {
+        self.nodes.laws();
+        let at = deepest(&self.nodes, path);
+        Ancestors::new(&self.nodes, at, path.depth() + 1)
+    }
+
+    // What the map has at each path above.
+    pub(crate) fn above(&self, path: &Path) -> Ancestors<'_>
+        ensures { result ≡ downward (ancestor_in self.now.groups path.now) (length path.now) }
+    {
+        self.nodes.laws();
+        let at = deepest_above(&self.nodes, path);
+        Ancestors::new(&self.nodes, at, path.depth())
+    }
+
     // Whether a group is right below the path.
     pub(crate) fn has_children(&self, path: &Path) -> bool
-        ensures { result ≡ is_nonempty (entries (retain (present self.now) (is_parent path.now))) }
+        ensures { result ≡ is_nonempty (entries (retain (present self.now.groups) (is_parent path.now))) }
     {
         self.nodes.laws();
         match entry(&self.nodes, path) {
@@ -148,7 +181,7 @@ impl Groups {
 
     // The groups, in the order of their paths.
     pub(crate) fn present_groups(&self, alloc: Global) -> Result<Listed<'_>, AllocError>
-        ensures { IfOk result (λ l. l ≡ entries (present self.now)) }
+        ensures { IfOk result (λ l. l ≡ entries (present self.now.groups)) }
     {
         self.nodes.laws();
         let keys = self.nodes.sorted(alloc)?;
@@ -157,7 +190,7 @@ impl Groups {
 
     // The groups right below the path, in the order of their paths.
     pub(crate) fn children(&self, alloc: Global, path: &Path) -> Result<Listed<'_>, AllocError>
-        ensures { IfOk result (λ l. l ≡ entries (retain (present self.now) (is_parent path.now))) }
+        ensures { IfOk result (λ l. l ≡ entries (retain (present self.now.groups) (is_parent path.now))) }
     {
         self.nodes.laws();
         let Some(key) = self.nodes.find(path) else {
@@ -169,7 +202,7 @@ impl Groups {
 
     // The controllers that a group right below the path passes on.
     pub(crate) fn control_below(&self, path: &Path) -> Controllers
-        ensures { result ≡ used_below (entries (retain (present self.now) (is_parent path.now))) }
+        ensures { result ≡ used_below (entries (retain (present self.now.groups) (is_parent path.now))) }
     {
         self.nodes.laws();
         match self.nodes.find(path) {
@@ -177,4 +210,117 @@ impl Groups {
             None => Controllers::empty(),
         }
     }
+
+    // Puts a process that isn't there into the group at the path, which has an entry; an error where there is no memory.
+    pub(crate) fn add_process(&mut self, pid: u32, path: &Path) -> Result<(), AllocError>
+        requires absent { get self.old.places pid ≡ None }
+        requires entry { IsSome (get self.old.groups path.now) }
+        ensures groups { self.new.groups ≡ self.old.groups }
+        ensures places { OnOk result (self.new.places ≡ set_at self.old.places pid (Some path.now)) }
+    {
+        self.nodes.laws();
+        let Some(key) = self.nodes.find(path) else {
+            return Err(AllocError);
+        };
+        self.places.add(pid, key.number())?;
+        // They can tell how many they are, so that each count has room.
+        let _ = self.places.len();
+        count_process(&mut self.nodes, key, true);
+        Ok(())
+    }
+
+    // Moves the process to the group at the path, which has an entry, if there is a process with this PID.
+    pub(crate) fn put_process(&mut self, pid: u32, path: &Path)
+        requires { IsSome (get self.old.groups path.now) }
+        ensures groups { self.new.groups ≡ self.old.groups }
+        ensures places { self.new.places ≡ set_at self.old.places pid (replaced (get self.old.places pid) (Some path.now)) }
+    {
+        self.nodes.laws();
+        let Some(key) = self.nodes.find(path) else {
+            return;
+        };
+        let Some(group) = self.places.group_of(pid) else {
+            return;
+        };
+        count_process(&mut self.nodes, NodeKey::new(group), false);
+        self.places.put(pid, key.number());
+        // As in `add_process`.
+        let _ = self.places.len();
+        count_process(&mut self.nodes, key, true);
+    }
+
+    // Whether some process has this PID.
+    pub(crate) fn has_process(&self, pid: u32) -> bool
+        ensures { result ≡ is_some (get self.now.places pid) }
+    {
+        self.places.has(pid)
+    }
+
+    // The path of the group of the process, if one has this PID.
+    pub(crate) fn place(&self, pid: u32) -> Option<PathRef<'_>>
+        ensures { result ≡ get self.now.places pid }
+    {
+        self.nodes.laws();
+        let group = self.places.group_of(pid)?;
+        Some(self.nodes.path(NodeKey::new(group)))
+    }
+
+    // Whether the process is in the group at the path.
+    pub(crate) fn is_at(&self, pid: u32, path: &Path) -> bool
+        ensures { result ≡ is_in path.now (get self.now.places pid) }
+    {
+        self.nodes.laws();
+        let Some(group) = self.places.group_of(pid) else {
+            return false;
+        };
+        match self.nodes.find(path) {
+            Some(key) => key.number() == group,
+            None => false,
+        }
+    }
+
+    // Whether some process is in the group at the path.
+    pub(crate) fn has_processes(&self, path: &Path) -> bool
+        ensures { result ≡ is_nonempty (keys (retain self.now.places (λ k. is_in path.now (get self.now.places k)))) }
+    {
+        self.nodes.laws();
+        match self.nodes.find(path) {
+            Some(key) => !self.places.is_empty(key.number()),
+            None => false,
+        }
+    }
+
+    // Whether some process is in the group at the path or in one below it.
+    pub(crate) fn is_populated(&self, path: &Path) -> bool
+        ensures { result ≡ is_nonempty (keys (retain self.now.places (λ k. is_in_subtree path.now (get self.now.places k)))) }
+    {
+        self.nodes.laws();
+        match entry(&self.nodes, path) {
+            Some(entry) => entry.processes > 0,
+            None => false,
+        }
+    }
+
+    // The processes in the group at the path, ascending.
+    pub(crate) fn processes(&self, alloc: Global, path: &Path) -> Result<Vec<u32>, AllocError>
+        ensures { IfOk result (λ pids. pids.items ≡ keys (retain self.now.places (λ k. is_in path.now (get self.now.places k)))) }
+    {
+        self.nodes.laws();
+        match self.nodes.find(path) {
+            Some(key) => self.places.pids_in(alloc, key.number()),
+            None => Ok(Vec::new(alloc)),
+        }
+    }
+}
+
+// Makes room for processes in the group of the node. Where there is no memory for it, all is as it was.
+fn make_room(places: &mut Places, key: NodeKey) -> Result<(), AllocError>
+    ensures places { places.new.places ≡ places.old.places }
+    ensures more { places.old.groups ≤ places.new.groups }
+    ensures room { OnOk result (number_of key < places.new.groups) }
+{
+    let Some(groups) = key.number().checked_add(1) else {
+        return Err(AllocError);
+    };
+    places.make_room(groups)
 }

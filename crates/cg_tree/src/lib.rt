@@ -1,6 +1,7 @@
 //! The tree that commands change, with the room that going back needs.
 #![tactic(auto)]
 
+mod ancestors;
 mod below;
 mod counting;
 mod edit;
@@ -9,10 +10,14 @@ mod groups;
 mod listed;
 mod looking;
 mod pids;
+mod placed;
+mod processes;
 mod tree;
 mod worlds;
 
+pub use ancestors::{Ancestor, Ancestors};
 pub use edit::Edit;
 pub use listed::Listed;
 pub use pids::Pids;
+pub use placed::Placed;
 pub use tree::Tree;

@@ -1,7 +1,6 @@
 //! Groups and processes, and which paths have an entry.
 ghost use Rattle.std.specs.Prelude.{◌≡◌, ◌↔◌, IsTrue, is_some, true, Some, IfOk, IfSome, IsOk, IsSome, OnOk, OnErr, slice_get};
-ghost use Rattle.std.specs.Ordering.{nat_cmp};
-ghost use Rattle.cg_maps.specs.FiniteMap.{domain, from_entries, keys, set_at};
+ghost use Rattle.cg_maps.specs.FiniteMap.{domain, entries, keys, set_at};
 ghost use Rattle.cg_model.specs.Sound.{Sound};
 ghost use Rattle.cg_model.specs.Key.{replaced};
 ghost use Rattle.cg_model.specs.Tree.{group, place_of};
@@ -15,13 +14,13 @@ ghost use Rattle.cg_world.specs.Representable.{AreCpusUpTo};
 use crate::edit::Edit;
 use crate::groups::Groups;
 use crate::pids::Pids;
-use crate::worlds::{add_groups, add_places, with_entries};
+use crate::placed::Placed;
+use crate::worlds::{add_groups, add_places, add_processes, pids_of, with_entries};
 use cg_cpus::CpuSet;
 use cg_name::Path;
 use cg_text::{Controllers, Settings};
 use cg_world::{PlainTree, World};
 use std::alloc::{AllocError, Global};
-use std::collections::BTreeMap;
 use std::marker::Model;
 
 /// Groups and processes, with an entry for each group and for dead paths: those of groups that were taken away and may
@@ -29,9 +28,10 @@ use std::marker::Model;
 pub struct Tree {
     controllers: Controllers,
     online: CpuSet,
-    // The settings of each group, and `None` at each dead path.
+    // The settings of each group, `None` at each dead path, and the group of each process.
     groups: Groups,
-    places: BTreeMap<u32, Path>,
+    // The PIDs of all processes, ascending. No process comes or goes.
+    pids: Vec<u32>,
 }
 
 // By hand, so that whoever drops one calls this, and doesn't drop each thing in it: that makes proofs shorter.
@@ -41,15 +41,15 @@ impl Drop for Tree {
             controllers: _,
             online: _,
             groups: _,
-            places: _,
+            pids: _,
         } = self;
     }
 }
 
 impl Model for Tree {
     ghost use Rattle.cg_tree.specs.Code.{room_code};
-    ghost use Rattle.cg_tree.specs.Room.{IsRooted, TreeWithRoom};
-    ghost use Rattle.cg_tree.specs.Inside.{room_of};
+    ghost use Rattle.cg_tree.specs.Room.{TreeWithRoom};
+    ghost use Rattle.cg_tree.specs.Inside.{room_of, IsWhole};
 
     ghost Value = { TreeWithRoom };
 
@@ -57,7 +57,7 @@ impl Model for Tree {
 
     ghost view = { room_of };
 
-    ghost invariant = { λ t. IsRooted (room_of t) };
+    ghost invariant = { λ t. IsWhole t };
 }
 
 impl Tree {
@@ -68,11 +68,13 @@ impl Tree {
         ensures sound { Sound world }
     {
         let (controllers, online, listed, places) = world.into_tree().into_parts();
+        let mut groups = with_entries(alloc, &listed)?;
+        add_processes(&mut groups, &places)?;
         Ok(Tree {
             controllers,
             online,
-            groups: with_entries(alloc, &listed)?,
-            places,
+            groups,
+            pids: pids_of(alloc, &places)?,
         })
     }
 
@@ -83,7 +85,7 @@ impl Tree {
     {
         let mut tree = PlainTree::new(alloc, self.controllers, self.online);
         add_groups(alloc, &self.groups, &mut tree)?;
-        add_places(alloc, &self.places, &mut tree)?;
+        add_places(alloc, self, &mut tree)?;
         Ok(World::from_tree(tree))
     }
 
@@ -133,18 +135,15 @@ impl Tree {
     pub fn is_at(&self, pid: u32, path: &Path) -> bool
         ensures { result ≡ is_in path.now (place_of self.now.tree pid) }
     {
-        match self.places.get(&pid) {
-            Some(place) => path == place,
-            None => false,
-        }
+        self.groups.is_at(pid, path)
     }
 
     /// Whether the process is in the group at the path or in one below it; no where no process has this PID.
     pub fn is_below(&self, pid: u32, path: &Path) -> bool
         ensures { result ≡ is_in_subtree path.now (place_of self.now.tree pid) }
     {
-        match self.places.get(&pid) {
-            Some(place) => path.is_prefix(place),
+        match self.groups.place(pid) {
+            Some(place) => place.begins_with(path),
             None => false,
         }
     }
@@ -153,8 +152,8 @@ impl Tree {
     pub fn location(&self, alloc: Global, pid: u32) -> Result<Option<Path>, AllocError>
         ensures { IfOk result (λ place. place ≡ place_of self.now.tree pid) }
     {
-        match self.places.get(&pid) {
-            Some(place) => Ok(Some(place.copy(alloc)?)),
+        match self.groups.place(pid) {
+            Some(place) => Ok(Some(place.to_path(alloc)?)),
             None => Ok(None),
         }
     }
@@ -164,22 +163,21 @@ impl Tree {
     pub fn pid_at(&self, index: u32) -> Option<u32>
         ensures { result ≡ slice_get (keys self.now.tree.places) index }
     {
-        let (pid, _) = self.places.iter().nth(index as usize)?;
-        Some(*pid)
+        self.pids.get(index as usize).copied()
     }
 
     /// The PIDs of all processes, ascending.
     pub fn pids(&self) -> Pids<'_>
         ensures { result ≡ keys self.now.tree.places }
     {
-        Pids::new(&self.places)
+        Pids::new(&self.pids)
     }
 
     /// Whether some process has this PID.
     pub fn has_process(&self, pid: u32) -> bool
         ensures { result ≡ is_some (place_of self.now.tree pid) }
     {
-        self.places.contains_key(&pid)
+        self.groups.has_process(pid)
     }
 
     /// Whether the path has an entry: that of a group, or a dead one.
@@ -189,20 +187,21 @@ impl Tree {
         self.groups.contains(path)
     }
 
-    // The settings of each group, and `None` at each dead path.
+    // The settings of each group, `None` at each dead path, and the group of each process.
     pub(crate) fn groups(&self) -> &Groups
-        ensures present { present result.now ≡ self.now.tree.groups }
-        ensures entries { domain result.now ≡ self.now.entries }
+        ensures present { present result.now.groups ≡ self.now.tree.groups }
+        ensures entries { domain result.now.groups ≡ self.now.entries }
+        ensures places { result.now.places ≡ self.now.tree.places }
         ensures rooted { IsRooted self.now }
     {
         &self.groups
     }
 
-    /// The paths of the groups of the processes, by PID.
-    pub fn places(&self) -> &BTreeMap<u32, Path>
-        ensures { from_entries nat_cmp result.now.entries ≡ self.now.tree.places }
+    /// All processes by ascending PID, each with the path of its group. Takes no memory.
+    pub fn places(&self) -> Placed<'_>
+        ensures { result ≡ entries self.now.tree.places }
     {
-        &self.places
+        Placed::new(&self.groups, &self.pids)
     }
 
     /// Makes the entry that the edit needs, if it needs one and there is none. The path of that entry is the root's, or
@@ -245,7 +244,7 @@ impl Tree {
         let _ = &self.controllers;
         match edit {
             Edit::Group { path, settings } => self.put_group(&path, settings),
-            Edit::Place { pid, path } => self.put_place(pid, path),
+            Edit::Place { pid, path } => self.put_place(pid, &path),
             Edit::Control { path, value } => {
                 if let Some(mut settings) = self.settings(&path) {
                     settings.control = value;
@@ -304,16 +303,14 @@ impl Tree {
     }
 
     // Puts the process into the group, if there is a process with this PID.
-    fn put_place(&mut self, pid: u32, path: Path)
-        requires { has_entry self.old path ≡ true }
-        ensures tree { self.new.tree ≡ record self.old.tree { places = set_at self.old.tree.places pid (replaced (place_of self.old.tree pid) (Some path)) } }
+    fn put_place(&mut self, pid: u32, path: &Path)
+        requires { has_entry self.old path.now ≡ true }
+        ensures tree { self.new.tree ≡ record self.old.tree { places = set_at self.old.tree.places pid (replaced (place_of self.old.tree pid) (Some path.now)) } }
         ensures entries { self.new.entries ≡ self.old.entries }
     {
         // As above.
         let _ = path.names();
-        if let Some(place) = self.places.get_mut(&pid) {
-            *place = path;
-        }
+        self.groups.put_process(pid, path);
     }
 
     // Sets the CPUs that are online.

@@ -1,12 +1,13 @@
 //! Maps of groups with room for dead ones, and plain trees.
-ghost use Rattle.std.specs.Prelude.{◌≡◌, IfOk, OnOk};
+ghost use Rattle.std.specs.Prelude.{◌≡◌, ℕ, List, IfOk, IsSome, OnOk, Some};
 ghost use Rattle.std.specs.Ordering.{nat_cmp};
-ghost use Rattle.cg_maps.specs.FiniteMap.{domain, empty, from_entries};
+ghost use Rattle.cg_maps.specs.FiniteMap.{domain, empty, from_entries, get, keys};
 ghost use Rattle.cg_name.specs.Path.{path_cmp};
 ghost use Rattle.cg_tree.specs.Present.{present};
-ghost use Rattle.cg_tree.specs.Room.{ArePids, HaveParents};
+ghost use Rattle.cg_tree.specs.Room.{HaveParents};
 
 use crate::groups::Groups;
+use crate::tree::Tree;
 use cg_name::Path;
 use cg_text::Settings;
 use cg_world::PlainTree;
@@ -19,8 +20,9 @@ pub(crate) fn with_entries(
     listed: &BTreeMap<Path, Settings>,
 ) -> Result<Groups, AllocError>
     requires { HaveParents (from_entries path_cmp listed.now.entries) }
-    ensures groups { IfOk result (λ made. present made ≡ from_entries path_cmp listed.now.entries) }
-    ensures entries { IfOk result (λ made. domain made ≡ domain (from_entries path_cmp listed.now.entries)) }
+    ensures groups { IfOk result (λ made. present made.groups ≡ from_entries path_cmp listed.now.entries) }
+    ensures entries { IfOk result (λ made. domain made.groups ≡ domain (from_entries path_cmp listed.now.entries)) }
+    ensures places { IfOk result (λ made. made.places ≡ empty) }
 {
     let mut made = Groups::new(alloc);
     // A parent comes before its children.
@@ -37,7 +39,7 @@ pub(crate) fn add_groups(
     tree: &mut PlainTree,
 ) -> Result<(), AllocError>
     requires { tree.old.groups ≡ empty }
-    ensures { OnOk result (tree.new ≡ record tree.old { groups = present groups.now }) }
+    ensures { OnOk result (tree.new ≡ record tree.old { groups = present groups.now.groups }) }
 {
     for (path, settings) in groups.present_groups(alloc)? {
         tree.set_group(path.to_path(alloc)?, settings)?;
@@ -45,18 +47,42 @@ pub(crate) fn add_groups(
     Ok(())
 }
 
-// Puts the processes into a tree of none.
-pub(crate) fn add_places(
-    alloc: Global,
+// Puts the processes into their groups, each of which has an entry.
+pub(crate) fn add_processes(
+    groups: &mut Groups,
     places: &BTreeMap<u32, Path>,
-    tree: &mut PlainTree,
 ) -> Result<(), AllocError>
-    requires none { tree.old.places ≡ empty }
-    requires pids { ArePids (from_entries nat_cmp places.now.entries) }
-    ensures { OnOk result (tree.new ≡ record tree.old { places = from_entries nat_cmp places.now.entries }) }
+    requires none { groups.old.places ≡ empty }
+    requires entries { (k : ℕ) (p : List (List ℕ)) → get (from_entries nat_cmp places.now.entries) k ≡ Some p → IsSome (get groups.old.groups p) }
+    ensures groups { groups.new.groups ≡ groups.old.groups }
+    ensures places { OnOk result (groups.new.places ≡ from_entries nat_cmp places.now.entries) }
 {
     for (pid, path) in places {
-        tree.set_place(*pid, path.copy(alloc)?)?;
+        groups.add_process(*pid, path)?;
+    }
+    Ok(())
+}
+
+// The PIDs of the processes, ascending.
+pub(crate) fn pids_of(alloc: Global, places: &BTreeMap<u32, Path>) -> Result<Vec<u32>, AllocError>
+    ensures { IfOk result (λ pids. pids.items ≡ keys (from_entries nat_cmp places.now.entries)) }
+{
+    let mut pids = Vec::with_capacity(alloc, places.len())?;
+    for (pid, _) in places {
+        pids.push(*pid)?;
+    }
+    Ok(pids)
+}
+
+// Puts the processes of one tree into another that has none.
+pub(crate) fn add_places(alloc: Global, from: &Tree, tree: &mut PlainTree) -> Result<(), AllocError>
+    requires { tree.old.places ≡ empty }
+    ensures { OnOk result (tree.new ≡ record tree.old { places = from.now.tree.places }) }
+{
+    // A tree tells what PIDs it can have.
+    let _ = from.groups();
+    for (pid, path) in from.places() {
+        tree.set_place(pid, path.to_path(alloc)?)?;
     }
     Ok(())
 }

@@ -2,11 +2,11 @@
 ghost use Rattle.std.specs.Prelude.{◌≡◌, ◌++◌, IfOk, OnOk, OnErr, length, take};
 ghost use Rattle.std.specs.List.{flat_map, list_all};
 ghost use Rattle.cg_maps.specs.FiniteMap.{entries};
-ghost use Rattle.cg_world_text.specs.World.{group_line, settings_fit_one, text_of_version, world_text, written_version};
+ghost use Rattle.cg_world_text.specs.World.{group_line, process_line, settings_fit_one, text_of_version, world_text, written_version};
 
 use crate::fitting::{cpus_fit, settings_fit};
 use crate::version::Version;
-use crate::writing::{WriteWorld, append_end, append_group, append_head, append_processes};
+use crate::writing::{WriteWorld, append_end, append_group, append_head, append_process};
 use cg_name::or_truncate;
 use cg_tree::Tree;
 use std::alloc::{AllocError, Global};
@@ -55,7 +55,7 @@ fn append_tree(version: Version, tree: &Tree, out: &mut Vec<u8>) -> Result<(), A
 {
     append_head(version, &tree.controllers(), &tree.online(), out)?;
     append_groups(version, tree, out)?;
-    append_processes(tree.places(), out)?;
+    append_processes(tree, out)?;
     append_end(out)
 }
 
@@ -66,6 +66,17 @@ fn append_groups(version: Version, tree: &Tree, out: &mut Vec<u8>) -> Result<(),
 {
     for (path, settings) in tree.present_groups(*out.allocator())? {
         append_group(version, &path, &settings, out)?;
+    }
+    Ok(())
+}
+
+// The line of each process, by ascending PID.
+fn append_processes(tree: &Tree, out: &mut Vec<u8>) -> Result<(), AllocError>
+    ensures ok { OnOk result (out.new.items ≡ out.old.items ++ flat_map process_line (entries tree.now.tree.places)) }
+    ensures kept { OnErr result (take (length out.old.items) out.new.items ≡ out.old.items) }
+{
+    for (pid, path) in tree.places() {
+        append_process(pid, &path, out)?;
     }
     Ok(())
 }

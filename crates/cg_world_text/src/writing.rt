@@ -91,17 +91,21 @@ pub(crate) fn append_group(
     Ok(())
 }
 
-// Appends the line of each process, by ascending PID.
-pub(crate) fn append_processes(
-    places: &BTreeMap<u32, Path>,
+// Appends the line of a process.
+pub(crate) fn append_process(
+    pid: u32,
+    path: &PathRef<'_>,
     out: &mut Vec<u8>,
 ) -> Result<(), AllocError>
-    ensures ok { OnOk result (out.new.items ≡ out.old.items ++ flat_map process_line (entries (from_entries nat_cmp places.now.entries))) }
+    ensures ok { OnOk result (out.new.items ≡ out.old.items ++ process_line (pid, path.now)) }
     ensures kept { OnErr result (take (length out.old.items) out.new.items ≡ out.old.items) }
 {
-    for (pid, path) in places {
-        append_process(*pid, path, out)?;
-    }
+    let mut buffer = Buffer::new();
+    out.extend_from_slice(b"proc ")?;
+    out.extend_from_slice(buffer.format(pid).as_bytes())?;
+    out.push(b' ')?;
+    path.write(out)?;
+    out.push(b'\n')?;
     Ok(())
 }
 
@@ -166,6 +170,17 @@ fn append_groups(
     Ok(())
 }
 
+// The line of each process, by ascending PID.
+fn append_processes(places: &BTreeMap<u32, Path>, out: &mut Vec<u8>) -> Result<(), AllocError>
+    ensures ok { OnOk result (out.new.items ≡ out.old.items ++ flat_map process_line (entries (from_entries nat_cmp places.now.entries))) }
+    ensures kept { OnErr result (take (length out.old.items) out.new.items ≡ out.old.items) }
+{
+    for (pid, path) in places {
+        append_process(*pid, &path.borrowed(), out)?;
+    }
+    Ok(())
+}
+
 // The limits on descendants and on depth, each with a space before it, which version 1 has not.
 fn append_limits(version: Version, settings: &Settings, out: &mut Vec<u8>) -> Result<(), AllocError>
     ensures ok { OnOk result (out.new.items ≡ out.old.items ++ limits_text version settings.now) }
@@ -224,18 +239,4 @@ fn append_asked_cpus(cpus: &CpuSet, out: &mut Vec<u8>) -> Result<(), AllocError>
         return Ok(());
     }
     cpus.write(out)
-}
-
-// The line of a process.
-fn append_process(pid: u32, path: &Path, out: &mut Vec<u8>) -> Result<(), AllocError>
-    ensures ok { OnOk result (out.new.items ≡ out.old.items ++ process_line (pid, path.now)) }
-    ensures kept { OnErr result (take (length out.old.items) out.new.items ≡ out.old.items) }
-{
-    let mut buffer = Buffer::new();
-    out.extend_from_slice(b"proc ")?;
-    out.extend_from_slice(buffer.format(pid).as_bytes())?;
-    out.push(b' ')?;
-    path.write(out)?;
-    out.push(b'\n')?;
-    Ok(())
 }

@@ -113,6 +113,26 @@ fn write_pids(tree: &Tree, out: &mut Vec<u8>) -> Result<(), AllocError> {
     Ok(())
 }
 
+// Appends the PIDs of the root's own processes, and a plus sign where it has some and is populated.
+fn write_own(alloc: Global, tree: &Tree, out: &mut Vec<u8>) -> Result<(), AllocError> {
+    let root = Path::root(alloc);
+    write_procs(tree.processes(alloc, &root)?.as_slice(), out)?;
+    if tree.has_processes(&root) && tree.is_populated(&root) {
+        out.extend_from_slice(b"+\n")?;
+    }
+    Ok(())
+}
+
+// Appends all PIDs, each with the path of its group on a line of its own.
+fn write_places(tree: &Tree, out: &mut Vec<u8>) -> Result<(), AllocError> {
+    for (pid, path) in tree.places() {
+        write_procs(&[pid], out)?;
+        path.write(out)?;
+        out.push(b'\n')?;
+    }
+    Ok(())
+}
+
 // Appends where two processes are, and one that isn't there.
 fn write_locations(alloc: Global, tree: &Tree, out: &mut Vec<u8>) -> Result<(), AllocError> {
     write_location(alloc, tree, 10, out)?;
@@ -120,11 +140,13 @@ fn write_locations(alloc: Global, tree: &Tree, out: &mut Vec<u8>) -> Result<(), 
     write_location(alloc, tree, 99, out)
 }
 
-// Appends what the tree shows: that, its groups and its PIDs.
+// Appends what the tree shows: that, its groups, its PIDs, the root's processes and the places of all.
 fn write_tree(alloc: Global, tree: &Tree, out: &mut Vec<u8>) -> Result<(), AllocError> {
     write_locations(alloc, tree, out)?;
     write_below(alloc, tree, &Path::root(alloc), out)?;
-    write_pids(tree, out)
+    write_pids(tree, out)?;
+    write_own(alloc, tree, out)?;
+    write_places(tree, out)
 }
 
 // Appends that of the tree, and of the tree once it was edited.
@@ -147,12 +169,25 @@ const SHOWN: &str = "/
 /
 10
 11
+10
+11
++
+10
+/
+11
+/
 /
 /a/b
 
 /a//a/a/b2c
 10
 11
+10
++
+10
+/
+11
+/a/b
 ";
 
 #[test]

@@ -1,10 +1,12 @@
 -- The entry that is written is that of the key's path, and what is above is counted.
-use Rattle.std.proofs.Common.{◌≡◌, ◌<◌, ◌^◌, Some, option_map, is_some, true, not, sym, ap, subst, ◌∙◌, arith}
+use Rattle.std.proofs.Common.{◌≡◌, ◌<◌, ◌^◌, Some, option_map, is_some, true, not, refl, sym, ap, subst, ◌∙◌, arith}
 use Rattle.cg_maps.specs.FiniteMap.{get, len}
 use Rattle.cg_name.specs.Path.{is_above, is_parent}
 use Rattle.cg_path_tree.specs.Nodes.{path_of, IsKey}
-use Rattle.cg_tree.specs.Entries.{entry_at, groups_in, path_at, with_below, with_right_below, AreCounted}
+use Rattle.cg_tree.specs.declared.entry.Count.TheVariants.{Groups}
+use Rattle.cg_tree.specs.Entries.{entry_at, groups_in, held_in, path_at, recounted, with_right_below, AreCounted}
 use Rattle.cg_tree.proofs.Climbing.{at_own_path}
+use Rattle.cg_tree.proofs.Holding.{held_in_place, same_by_entries}
 use Rattle.cg_tree.proofs.Putting.{as_many, counted_alike, counted_anew, counted_groups, differ, agree, room_below, room_right_below, written_groups}
 use Rattle.cg_tree.proofs.counting.put.Goals as goal
 
@@ -67,7 +69,7 @@ returns-then-comes-was-clause-groups c =
     let new : is_some c.args.settings ≡ c.is_some-comes.result = sym c.is_some-comes.ensures in
     let old : is_some e.settings ≡ not c.is_some-comes.result = sym c.is_some-was.ensures ∙ differ c.is_some-comes.result c.is_some-was.result c.if-comes-was.true in
     counted_groups c.args.nodes.now c.args.key e there c.args.settings c.requires.counted c.is_some-comes.result new old c.count_at_parent.new.nodes (λ r. subst (λ n. get c.count_at_parent.new.nodes.values r ≡ option_map (with_right_below c.is_some-comes.result (path_at n c.args.key) r) (get n.values r)) wrote (c.count_at_parent.ensures.values r)) c.count_above.new.nodes
-    (λ r. subst (λ k. get c.count_above.new.nodes.values r ≡ option_map (with_below c.is_some-comes.result (path_of k c.args.key) r) (get c.count_at_parent.new.nodes.values r)) (c.count_at_parent.ensures.keys ∙ ap (λ n. n.keys) wrote) (c.count_above.ensures.values r))
+    (λ r. subst (λ k. get c.count_above.new.nodes.values r ≡ option_map (recounted Groups c.is_some-comes.result (is_above r (path_of k c.args.key))) (get c.count_at_parent.new.nodes.values r)) (c.count_at_parent.ensures.keys ∙ ap (λ n. n.keys) wrote) (c.count_above.ensures.values r))
 
 pub returns-then-comes-was-clause-counted : goal.returns-then-comes-was-clause-counted
 returns-then-comes-was-clause-counted c =
@@ -78,7 +80,7 @@ returns-then-comes-was-clause-counted c =
     let new : is_some c.args.settings ≡ c.is_some-comes.result = sym c.is_some-comes.ensures in
     let old : is_some e.settings ≡ not c.is_some-comes.result = sym c.is_some-was.ensures ∙ differ c.is_some-comes.result c.is_some-was.result c.if-comes-was.true in
     counted_anew c.args.nodes.now c.args.key e there c.args.settings c.requires.counted c.is_some-comes.result new old c.count_at_parent.new.nodes (λ r. subst (λ n. get c.count_at_parent.new.nodes.values r ≡ option_map (with_right_below c.is_some-comes.result (path_at n c.args.key) r) (get n.values r)) wrote (c.count_at_parent.ensures.values r)) c.count_above.new.nodes
-    (λ r. subst (λ k. get c.count_above.new.nodes.values r ≡ option_map (with_below c.is_some-comes.result (path_of k c.args.key) r) (get c.count_at_parent.new.nodes.values r)) (c.count_at_parent.ensures.keys ∙ ap (λ n. n.keys) wrote) (c.count_above.ensures.values r))
+    (λ r. subst (λ k. get c.count_above.new.nodes.values r ≡ option_map (recounted Groups c.is_some-comes.result (is_above r (path_of k c.args.key))) (get c.count_at_parent.new.nodes.values r)) (c.count_at_parent.ensures.keys ∙ ap (λ n. n.keys) wrote) (c.count_above.ensures.values r))
 
 pub returns-else-comes-was-clause-keys : goal.returns-else-comes-was-clause-keys
 returns-else-comes-was-clause-keys c =
@@ -104,3 +106,23 @@ returns-else-comes-was-clause-counted c =
     let wrote = c.write_settings.ensures e there in
     subst (λ n. AreCounted n.values) (sym wrote)
     (counted_alike c.args.nodes.now c.args.key e there c.args.settings c.requires.counted (sym c.is_some-comes.ensures ∙ agree c.is_some-comes.result c.is_some-was.result c.if-comes-was.false ∙ c.is_some-was.ensures))
+
+pub returns-then-comes-was-clause-held : goal.returns-then-comes-was-clause-held
+returns-then-comes-was-clause-held c =
+    let key = at_own_path c.args.nodes.now c.args.key c.laws.ensures.one_path c.requires.key in
+    let e = c.get.result.now in
+    let there : entry_at c.args.nodes.now c.args.key ≡ Some e = c.get.ensures (path_at c.args.nodes.now c.args.key) key in
+    let wrote = c.write_settings.ensures e there in
+    same_by_entries c.count_above.new.nodes.values c.count_at_parent.new.nodes.values _ (λ q e. refl) c.count_above.ensures.values
+    ∙ same_by_entries c.count_at_parent.new.nodes.values c.write_settings.new.nodes.values (with_right_below c.is_some-comes.result (path_at c.write_settings.new.nodes c.args.key)) (λ q e. refl) c.count_at_parent.ensures.values
+    ∙ ap (λ n. held_in n.values) wrote
+    ∙ held_in_place c.args.nodes.now.values (path_at c.args.nodes.now c.args.key) e there (record e { settings = c.args.settings }) refl
+
+pub returns-else-comes-was-clause-held : goal.returns-else-comes-was-clause-held
+returns-else-comes-was-clause-held c =
+    let key = at_own_path c.args.nodes.now c.args.key c.laws.ensures.one_path c.requires.key in
+    let e = c.get.result.now in
+    let there : entry_at c.args.nodes.now c.args.key ≡ Some e = c.get.ensures (path_at c.args.nodes.now c.args.key) key in
+    let wrote = c.write_settings.ensures e there in
+    ap (λ n. held_in n.values) wrote
+    ∙ held_in_place c.args.nodes.now.values (path_at c.args.nodes.now c.args.key) e there (record e { settings = c.args.settings }) refl

@@ -22,4 +22,4 @@ pub returns : goal.returns
 returns c =
     ap (λ es. with_groups c.loop-path.tree (puts c.loop-path.tree.groups es)) (sym c.in-None.ensures.steps.0)
     ∙ c.loop-path.invariant
-    ∙ ap (with_groups c.args.tree.now) (puts-entries path_cmp_total path_cmp_exact (present c.args.groups.now))
+    ∙ ap (with_groups c.args.tree.now) (puts-entries path_cmp_total path_cmp_exact (present c.args.groups.now.groups))

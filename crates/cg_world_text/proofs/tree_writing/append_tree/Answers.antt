@@ -14,6 +14,6 @@ returns-clause-ok c =
     let T = c.args.tree.now.tree in
     let head = first c.args.out.now.items (head_lines v T.controllers T.online) (c.in_ok-append_head.ensures.ok ∙ (λ i. c.args.out.now.items ++ head_lines v (c.controllers.ensures i) (c.online.ensures i))) in
     let groups = more (flat_map (group_line v) (entries T.groups)) head c.in_ok-append_groups.ensures.ok in
-    let processes = more (flat_map process_line (entries T.places)) groups (c.in_ok-append_processes.ensures.ok ∙ ap (λ m. c.append_groups.new.out.items ++ flat_map process_line (entries m)) c.places.ensures) in
+    let processes = more (flat_map process_line (entries T.places)) groups c.in_ok-append_processes.ensures.ok in
     let body = head_lines v T.controllers T.online ++ flat_map (group_line v) (entries T.groups) ++ flat_map process_line (entries T.places) in
     on_ok_weaker c.append_end.result (λ e. (more (codes "end\n") processes e).is ∙ ap (λ t. c.args.out.now.items ++ t) (sym (append_assoc body (codes "end") newline))) c.append_end.ensures.ok

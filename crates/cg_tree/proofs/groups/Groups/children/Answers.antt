@@ -1,6 +1,7 @@
 use Rattle.std.proofs.Common.{◌≡◌, Some, None, is_some, ap, sym, ◌∙◌}
 use Rattle.cg_maps.specs.FiniteMap.{entries, get, retain}
 use Rattle.cg_name.specs.Path.{is_parent}
+use Rattle.cg_tree.specs.Contents.{Contents}
 use Rattle.cg_tree.specs.Entries.{groups_in}
 use Rattle.cg_tree.specs.Listing.{listed}
 use Rattle.cg_tree.specs.Present.{present}
@@ -20,11 +21,11 @@ returns-in_default c =
     ∙ ap (listed c.self.inside.nodes) c.new.ensures.items
     ∙ sym (no_entries (retain (present (groups_in c.self.inside.nodes.values)) (is_parent c.args.path.now))
     (none_counted_right_below c.self.inside.nodes c.laws.ensures.closed c.laws.ensures.both c.args.path.now (ap is_some (sym own))))
-    ∙ ap (λ g. entries (retain (present g) (is_parent c.args.path.now))) c.self.view_is
+    ∙ ap (λ g. entries (retain (present g) (is_parent c.args.path.now))) (ap (λ (v : Contents). v.groups) c.self.view_is)
 
 pub returns : goal.returns
 returns c =
     let own : Some c.in-Some.key ≡ get c.self.inside.nodes.keys c.args.path.now = c.in-Some.ensures in
     c.new-2.ensures
     ∙ listed_where c.self.inside.nodes c.laws.ensures.both (is_parent c.args.path.now) c.in_ok-keys.keys.items (c.in_ok-keys.ensures c.args.path.now (sym own))
-    ∙ ap (λ g. entries (retain (present g) (is_parent c.args.path.now))) c.self.view_is
+    ∙ ap (λ g. entries (retain (present g) (is_parent c.args.path.now))) (ap (λ (v : Contents). v.groups) c.self.view_is)

@@ -3,6 +3,7 @@ use Rattle.std.proofs.Common.{◌≡◌, Some, None, is_some, ap, sym, ◌∙◌
 use Rattle.cg_maps.specs.FiniteMap.{entries, get, retain}
 use Rattle.cg_model.specs.Control.{used_below}
 use Rattle.cg_name.specs.Path.{is_parent}
+use Rattle.cg_tree.specs.Contents.{Contents}
 use Rattle.cg_tree.specs.Entries.{groups_in}
 use Rattle.cg_tree.specs.Present.{present}
 use Rattle.cg_tree.proofs.NodeLists.{no_entries}
@@ -22,7 +23,7 @@ returns-in-Some c =
     c.passed_on.ensures
     ∙ used_alike c.self.inside.nodes (is_parent c.args.path.now) c.children.result.now
     (are_where c.self.inside.nodes (is_parent c.args.path.now) c.children.result.now c.laws.ensures.one_path c.laws.ensures.both (c.children.ensures.below c.args.path.now (sym own)))
-    ∙ ap (λ g. used_below (entries (retain (present g) (is_parent c.args.path.now)))) c.self.view_is
+    ∙ ap (λ g. used_below (entries (retain (present g) (is_parent c.args.path.now)))) (ap (λ (v : Contents). v.groups) c.self.view_is)
 
 pub returns-in-None : goal.returns-in-None
 returns-in-None c =
@@ -30,4 +31,4 @@ returns-in-None c =
     c.empty.ensures
     ∙ ap used_below (sym (no_entries (retain (present (groups_in c.self.inside.nodes.values)) (is_parent c.args.path.now))
     (none_counted_right_below c.self.inside.nodes c.laws.ensures.closed c.laws.ensures.both c.args.path.now (ap is_some (sym own)))))
-    ∙ ap (λ g. used_below (entries (retain (present g) (is_parent c.args.path.now)))) c.self.view_is
+    ∙ ap (λ g. used_below (entries (retain (present g) (is_parent c.args.path.now)))) (ap (λ (v : Contents). v.groups) c.self.view_is)

@@ -1,22 +1,34 @@
 -- There is a node where there is an entry.
-use Rattle.std.proofs.Common.{◌≡◌, Some, None, is_some, ap, sym, ◌∙◌, true≢false}
+use Rattle.std.proofs.Common.{◌≡◌, Some, None, is_some, ap, sym, subst, ◌∙◌, true≢false}
 use Rattle.cg_maps.specs.FiniteMap.{get, set_at}
+use Rattle.cg_tree.specs.Contents.{places_in, Contents, AreAtNodes, AreHeld, HaveNumbers}
+use Rattle.cg_tree.specs.Entries.{held_in}
 use Rattle.cg_tree.proofs.Climbing.{at_path}
 use Rattle.cg_tree.proofs.Putting.{node_there}
 use Rattle.cg_tree.proofs.groups.Groups.replace.Goals as goal
+
+pub invariant_of-self : goal.invariant_of-self
+invariant_of-self c = record {
+  counted = c.put.ensures.counted;
+  held =
+      subst (λ ks. AreHeld (held_in c.put.new.nodes.values) (places_in ks c.self.inside.places.places)) (sym c.put.ensures.keys)
+      (subst (λ h. AreHeld h (places_in c.self.inside.nodes.keys c.self.inside.places.places)) (sym c.put.ensures.held) c.self.invariant.held);
+  placed = subst (λ ks. AreAtNodes ks c.self.inside.places.places) (sym c.put.ensures.keys) c.self.invariant.placed;
+  numbers = subst (λ ks. HaveNumbers ks c.self.inside.places.groups) (sym c.put.ensures.keys) c.self.invariant.numbers;
+}
 
 pub returns-in-Some-clause-there : goal.returns-in-Some-clause-there
 returns-in-Some-clause-there c some =
     let own : Some c.in-Some.key ≡ get c.self.inside.nodes.keys c.args.path.now = c.in-Some.ensures in
     let place = at_path c.self.inside.nodes c.in-Some.key c.args.path.now c.laws.ensures.one_path (sym own) in
-    c.put.ensures.groups ∙ (λ i. set_at (c.self.view_is i) (place i) (Some c.args.settings))
+    c.put.ensures.groups ∙ (λ i. set_at ((ap (λ (v : Contents). v.groups) c.self.view_is) i) (place i) (Some c.args.settings))
 
 pub returns-in-Some-clause-absent : goal.returns-in-Some-clause-absent
 returns-in-Some-clause-absent c none =
     let own : Some c.in-Some.key ≡ get c.self.inside.nodes.keys c.args.path.now = c.in-Some.ensures in
-    absurd (true≢false (ap is_some own ∙ node_there c.self.inside.nodes c.laws.ensures.both c.args.self.now c.self.view_is c.args.path.now ∙ ap is_some none))
+    absurd (true≢false (ap is_some own ∙ node_there c.self.inside.nodes c.laws.ensures.both c.args.self.now.groups (ap (λ (v : Contents). v.groups) c.self.view_is) c.args.path.now ∙ ap is_some none))
 
 pub returns-in_default-clause-there : goal.returns-in_default-clause-there
 returns-in_default-clause-there c some =
     let own : None ≡ get c.self.inside.nodes.keys c.args.path.now = c.in_default.ensures in
-    absurd (true≢false (sym some ∙ sym (node_there c.self.inside.nodes c.laws.ensures.both c.args.self.now c.self.view_is c.args.path.now) ∙ ap is_some (sym own)))
+    absurd (true≢false (sym some ∙ sym (node_there c.self.inside.nodes c.laws.ensures.both c.args.self.now.groups (ap (λ (v : Contents). v.groups) c.self.view_is) c.args.path.now) ∙ ap is_some (sym own)))

@@ -13,5 +13,5 @@ unfolding descendants
 returns c =
     let below = is_above (take c.args.depth c.args.path.now) in
     c.descendants.ensures
-    ∙ sym (len-domain-retain path_cmp_total path_cmp_exact (present c.groups.result.now) below)
+    ∙ sym (len-domain-retain path_cmp_total path_cmp_exact (present c.groups.result.now.groups) below)
     ∙ ap (λ m. len (retain (domain m) below)) c.groups.ensures.present

@@ -1,7 +1,6 @@
--- The map has the PID where the tree has a place for it.
-use Rattle.std.proofs.Common.{refl, ap, is_some, ◌∙◌}
-use Rattle.cg_tree.proofs.Places.{place_there}
+use Rattle.std.proofs.Common.{ap, is_some, ◌∙◌}
+use Rattle.cg_model.specs.Tree.{place_of}
 use Rattle.cg_tree.proofs.tree.Tree.has_process.Goals as goal
 
 pub returns : goal.returns
-returns c = c.contains_key.ensures ∙ ap is_some (place_there c.self.inside _ c.self.view_is c.args.pid _ refl)
+returns c = c.has_process.ensures ∙ ap (λ t. is_some (place_of t.tree c.args.pid)) c.self.view_is

@@ -1,7 +1,7 @@
 -- The entry is made where there is none.
 use Rattle.std.proofs.Common.{◌≡◌, true, Some, IfSome, sym, ap, subst, ◌∙◌}
 use Rattle.std.proofs.lemmas.Bool.{false≢true}
-use Rattle.cg_maps.specs.FiniteMap.{set_at, domain}
+use Rattle.cg_maps.specs.FiniteMap.{set_at, domain, keys}
 use Rattle.cg_tree.specs.Inside.{room_of}
 use Rattle.cg_tree.specs.Room.{IsRooted, has_entry, may_have_entry, with_entry}
 use Rattle.cg_tree.proofs.Edits.{needed_room, none_needed, room_needed}
@@ -12,8 +12,8 @@ use Rattle.cg_tree.proofs.tree.Tree.make_room.Goals as goal
 pub returns-in_default-clause-room : goal.returns-in_default-clause-room
 returns-in_default-clause-room c = none_needed c.args.self.now c.args.edit.now c.in_default.ensures
 
-made : (c : goal.In_ok-insert) → room_of (with_map c.self.inside c.in-Some.path.now c.insert.new.self) ≡ with_entries (room_of c.self.inside) (set_at (domain c.self.inside.groups) c.in-Some.path.now (Some tt))
-made c = entry_made c.self.inside c.in-Some.path.now c.insert.new.self c.in_ok-insert.ensures.ok (none_there _ (sym c.contains.ensures ∙ c.if-not-contains.true))
+made : (c : goal.In_ok-insert) → room_of (with_map c.self.inside c.in-Some.path.now c.insert.new.self c.insert.ensures.places) ≡ with_entries (room_of c.self.inside) (set_at (domain c.self.inside.groups.groups) c.in-Some.path.now (Some tt))
+made c = entry_made c.self.inside c.in-Some.path.now c.insert.new.self c.insert.ensures.places c.in_ok-insert.ensures.ok (none_there _ (sym c.contains.ensures ∙ c.if-not-contains.true))
 
 pub insert-requires-clause-absent : goal.insert-requires-clause-absent
 insert-requires-clause-absent c = none_there _ (sym c.contains.ensures ∙ c.if-not-contains.true)
@@ -26,7 +26,10 @@ insert-requires-clause-parent c =
 pub invariant_of-self : goal.invariant_of-self
 invariant_of-self c =
     let may : may_have_entry c.args.self.now.tree c.in-Some.path.now ≡ true = subst (λ w. IfSome w (λ p. may_have_entry c.args.self.now.tree p ≡ true)) (sym c.in-Some.ensures) c.requires in
-    subst IsRooted (sym (made c)) (entry_put (room_of c.self.inside) c.in-Some.path.now c.self.invariant (ap (λ t. may_have_entry t.tree c.in-Some.path.now) c.self.view_is ∙ may))
+    record {
+      rooted = subst IsRooted (sym (made c)) (entry_put (room_of c.self.inside) c.in-Some.path.now c.self.invariant.rooted (ap (λ t. may_have_entry t.tree c.in-Some.path.now) c.self.view_is ∙ may));
+      pids = c.self.invariant.pids ∙ ap keys (sym c.insert.ensures.places);
+    }
 
 pub returns-in_ok-insert-clause-tree : goal.returns-in_ok-insert-clause-tree
 returns-in_ok-insert-clause-tree c = ap (λ t. t.tree) (made c) ∙ ap (λ t. t.tree) c.self.view_is
@@ -37,7 +40,7 @@ returns-in_ok-insert-clause-entries c =
 
 pub returns-in_ok-insert-clause-room : goal.returns-in_ok-insert-clause-room
 returns-in_ok-insert-clause-room c =
-    needed_room (room_of (with_map c.self.inside c.in-Some.path.now c.insert.new.self)) c.args.edit.now c.in-Some.path.now c.in-Some.ensures (ap (λ t. has_entry t c.in-Some.path.now) (made c) ∙ added_here (room_of c.self.inside) c.in-Some.path.now c.self.invariant)
+    needed_room (room_of (with_map c.self.inside c.in-Some.path.now c.insert.new.self c.insert.ensures.places)) c.args.edit.now c.in-Some.path.now c.in-Some.ensures (ap (λ t. has_entry t c.in-Some.path.now) (made c) ∙ added_here (room_of c.self.inside) c.in-Some.path.now c.self.invariant.rooted)
 
 there : (c : goal.Else-not-contains) → has_entry c.args.self.now c.in-Some.path.now ≡ true
 there c = sym (c.contains.ensures ∙ entry_there c.self.inside c.args.self.now c.self.view_is c.in-Some.path.now) ∙ c.if-not-contains.false

@@ -1,22 +1,29 @@
+-- The room with the process in its new group.
 use Rattle.std.proofs.Common.{◌≡◌, sym, ap, subst, ◌∙◌}
+use Rattle.cg_maps.specs.FiniteMap.{keys}
 use Rattle.cg_tree.specs.Inside.{room_of}
 use Rattle.cg_tree.specs.Room.{IsRooted, has_entry}
-use Rattle.cg_tree.proofs.Places.{place_written, no_place_written}
+use Rattle.cg_tree.proofs.Places.{place_written, same_pids}
+use Rattle.cg_tree.proofs.Rooms.{entry_there}
 use Rattle.cg_tree.proofs.Rooting.{with_place, place_put}
 use Rattle.cg_tree.proofs.tree.Tree.put_place.Goals as goal
-use Rattle.cg_tree.proofs.tree.Tree.put_place.Goals.{in-Some+in-Heap-1, in-Some+in-Inline-1, in_default+in-Heap-1, in_default+in-Inline-1}
 
-same_room : (c : goal.Joined-get_mut) → room_of c.match-get_mut.self-inside ≡ with_place (room_of c.self.inside) c.args.pid c.args.path
-same_room c = elim c.match-get_mut.branch [
-  | in-Some+in-Heap-1 w ↦ ap room_of w.self-inside-is ∙ place_written c.self.inside (c.get_mut.follows.lender c.args.path) c.args.pid c.args.path _ (c.get_mut.follows.holds c.args.path).0 w.in-Some.ensures.value
-  | in-Some+in-Inline-1 w ↦ ap room_of w.self-inside-is ∙ place_written c.self.inside (c.get_mut.follows.lender c.args.path) c.args.pid c.args.path _ (c.get_mut.follows.holds c.args.path).0 w.in-Some.ensures.value
-  | in_default+in-Heap-1 w ↦ ap room_of w.self-inside-is ∙ ap (λ m. room_of (record c.self.inside { places = m })) c.get_mut.follows.holds-at-none ∙ no_place_written c.self.inside c.args.pid c.args.path w.in_default.ensures.value
-  | in_default+in-Inline-1 w ↦ ap room_of w.self-inside-is ∙ ap (λ m. room_of (record c.self.inside { places = m })) c.get_mut.follows.holds-at-none ∙ no_place_written c.self.inside c.args.pid c.args.path w.in_default.ensures.value
-]
+pub put_process-requires : goal.put_process-requires
+put_process-requires c = entry_there c.self.inside c.args.self.now c.self.view_is c.args.path.now ∙ c.requires
+
+same_room : (c : goal.After-put_process) → room_of (record c.self.inside { groups = c.put_process.new.self }) ≡ with_place (room_of c.self.inside) c.args.pid c.args.path.now
+same_room c = place_written c.self.inside c.put_process.new.self c.args.pid c.args.path.now c.put_process.ensures.groups c.put_process.ensures.places
 
 pub invariant_of-self : goal.invariant_of-self
-invariant_of-self c = subst IsRooted (sym (same_room c))
-    (place_put (room_of c.self.inside) c.args.pid c.args.path c.self.invariant c.names.ensures.valid (ap (λ t. has_entry t c.args.path) c.self.view_is ∙ c.requires))
+invariant_of-self c = record {
+  rooted =
+      subst IsRooted (sym (same_room c))
+      (place_put (room_of c.self.inside) c.args.pid c.args.path.now c.self.invariant.rooted c.names.ensures.valid (ap (λ t. has_entry t c.args.path.now) c.self.view_is ∙ c.requires));
+  pids = c.self.invariant.pids ∙ sym (same_pids c.self.inside.groups.places c.args.pid c.args.path.now) ∙ ap keys (sym c.put_process.ensures.places);
+}
 
 pub returns-clause-tree : goal.returns-clause-tree
-returns-clause-tree c = ap (λ t. t.tree) (same_room c) ∙ ap (λ t. (with_place t c.args.pid c.args.path).tree) c.self.view_is
+returns-clause-tree c = ap (λ t. t.tree) (same_room c) ∙ ap (λ t. (with_place t c.args.pid c.args.path.now).tree) c.self.view_is
+
+pub returns-clause-entries : goal.returns-clause-entries
+returns-clause-entries c = ap (λ t. t.entries) (same_room c) ∙ ap (λ t. t.entries) c.self.view_is

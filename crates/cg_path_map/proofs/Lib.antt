@@ -1,4 +1,0 @@
-pub mod BehindOrder
-pub mod PathEntries
-mod Texts
-pub mod Together

@@ -1,4 +1,0 @@
-pub mod PathEntries
-pub mod Behind
-pub mod PathMapLends
-pub mod SubtreeView

@@ -1,0 +1,136 @@
+//! The way from a path up to the root, one group after another.
+ghost use Rattle.std.specs.Prelude.{◌≡◌, ◌∷◌, [], MatchOption, length, suc};
+ghost use Rattle.std.specs.Iterator.{item_count, YieldsFirstBy};
+ghost use Rattle.cg_tree.specs.Ancestors.{ancestors, ancestors_above};
+ghost use Rattle.cg_tree.specs.Upward.{going_up, IsBelow, IsDeepest};
+
+use crate::entry::Entry;
+use crate::tree::Tree;
+use cg_name::Path;
+use cg_path_tree::{NodeKey, PathTree};
+use cg_text::Settings;
+use std::marker::Model;
+
+/// What a tree has at the first names of a path.
+#[derive(Clone, Copy)]
+pub struct Ancestor {
+    /// How many names these are, from 0 to 64.
+    pub depth: u32,
+    /// The settings of the group there, if there is one.
+    pub settings: Option<Settings>,
+    /// How many groups are below.
+    pub descendants: u64,
+}
+
+/// What a tree has at a path, or at its parent's, and from there up to the root. To go on takes a step to a parent, and no
+/// memory.
+#[derive(Drop)]
+pub struct Ancestors<'a> {
+    nodes: &'a PathTree<Entry>,
+    // The deepest node among those that are still to come, if there is any.
+    at: Option<NodeKey>,
+    // How many paths are still to come.
+    left: u32,
+}
+
+impl<'a> Model for Ancestors<'a> {
+    ghost use Rattle.std.specs.Prelude.{List};
+    ghost use Rattle.cg_tree.specs.declared.ancestors.Ancestor.{Ancestor};
+    ghost use Rattle.cg_tree.specs.Upward.{going_up, IsBelow};
+
+    ghost Value = { List Ancestor };
+
+    ghost view = { λ a. going_up a.nodes.now a.at a.left };
+
+    ghost invariant = { λ a. IsBelow a.nodes.now a.at a.left };
+}
+
+impl<'a> Ancestors<'a> {
+    // From so many names upward, of which the node is the deepest that there is.
+    pub(crate) fn new(nodes: &'a PathTree<Entry>, at: Option<NodeKey>, left: u32) -> Ancestors<'a>
+        requires { IsBelow nodes.now at left }
+        ensures { result ≡ going_up nodes.now at left }
+    {
+        Ancestors { nodes, at, left }
+    }
+}
+
+impl Tree {
+    /// What the tree has at the path and at each above it, the deepest first. Most often two look-ups, and then a step for
+    /// each; takes no memory.
+    pub fn ancestors(&self, path: &Path) -> Ancestors<'_>
+        ensures { result ≡ ancestors self.now.tree path.now }
+    {
+        self.groups().ancestors(path)
+    }
+
+    /// What the tree has at each path above, the deepest first. Most often one look-up, and then a step for each; takes no
+    /// memory.
+    pub fn above(&self, path: &Path) -> Ancestors<'_>
+        ensures { result ≡ ancestors_above self.now.tree path.now }
+    {
+        self.groups().above(path)
+    }
+}
+
+impl<'a> Iterator for Ancestors<'a> {
+    type Item = Ancestor;
+
+    ghost next_gives = { YieldsFirstBy (λ a. a) (λ rest. rest) };
+
+    ghost remaining = { item_count (λ rest. rest) };
+
+    fn next(&mut self) -> Option<Ancestor> {
+        next_up(self.nodes, &mut self.at, &mut self.left)
+    }
+}
+
+// What is told of the next path up.
+fn next_up(nodes: &PathTree<Entry>, at: &mut Option<NodeKey>, left: &mut u32) -> Option<Ancestor>
+    requires { IsBelow nodes.now at.old left.old }
+    ensures below { IsBelow nodes.now at.new left.new }
+    ensures value { MatchOption result ((going_up nodes.now at.old left.old ≡ []) × (going_up nodes.now at.new left.new ≡ [])) (λ a. going_up nodes.now at.old left.old ≡ a ∷ going_up nodes.now at.new left.new) }
+{
+    nodes.laws();
+    let depth = left.checked_sub(1)?;
+    *left = depth;
+    if let Some(key) = *at {
+        if nodes.depth(key) == depth {
+            *at = nodes.parent(key);
+            let entry = nodes.get(key);
+            return Some(Ancestor {
+                depth,
+                settings: entry.settings,
+                descendants: entry.below as u64,
+            });
+        }
+    }
+    Some(Ancestor {
+        depth,
+        settings: None,
+        descendants: 0,
+    })
+}
+
+// The deepest node on the path, if there is any.
+pub(crate) fn deepest(nodes: &PathTree<Entry>, path: &Path) -> Option<NodeKey>
+    ensures { IsDeepest nodes.now path.now (suc (length path.now)) result }
+{
+    let (key, _) = nodes.deepest(path)?;
+    Some(key)
+}
+
+// The deepest node above the path, if there is any.
+pub(crate) fn deepest_above(nodes: &PathTree<Entry>, path: &Path) -> Option<NodeKey>
+    ensures { IsDeepest nodes.now path.now (length path.now) result }
+{
+    nodes.laws();
+    if path.is_root() {
+        return None;
+    }
+    if let Some(key) = nodes.find_parent(path) {
+        return Some(key);
+    }
+    let (key, _) = nodes.deepest(path)?;
+    Some(key)
+}
