@@ -12,8 +12,8 @@ use Rattle.cg_script.specs.WorldPart.{ReadsWorld}
 use Rattle.cg_script.specs.declared.fault.ScriptFault.TheVariants as faults
 use Rattle.cg_program.specs.Show.{IsFileOf}
 use Rattle.cg_program.specs.Fault.{refusal_of_fault}
-use Rattle.cg_program.specs.declared.fault.ProgramFault.{ProgramFault}
-use Rattle.cg_program.specs.declared.fault.ProgramFault.TheVariants.{Stopped, NoGroup, NoFile, Disagree}
+use Rattle.cg_program.specs.declared.fault.ShowFault.{ShowFault}
+use Rattle.cg_program.specs.declared.fault.ShowFault.TheVariants.{Stopped, NoGroup, NoFile}
 
 -- the file of a tree that equals the one that was read
 pub file_found : (left rest : Option (List ℕ)) (T U : Tree) (p : Path) (f : FileName) (found : Result (List ℕ) Refusal) → IfSome left (λ text. ReadsWorld text T rest) → U ≡ T → file U p f ≡ found → IsFileOf left p f found
@@ -21,21 +21,19 @@ file_found left rest T U p f found reads e q =
     IfSome_then left reads (λ text h. (T, rest, h, subst (λ V. file V p f ≡ found) e q))
 
 -- a read fault is told where a reader broke alone,
-pub told_read_fault : (e : ProgramFault) → refusal_of_fault e ≡ refusals.ReadFault → e ≡ Stopped faults.ReadFault
+pub told_read_fault : (e : ShowFault) → refusal_of_fault e ≡ refusals.ReadFault → e ≡ Stopped faults.ReadFault
 told_read_fault (Stopped faults.Syntax) h = absurd (cc h)
 told_read_fault (Stopped faults.Memory) h = absurd (cc h)
 told_read_fault (Stopped faults.ReadFault) h = refl
 told_read_fault (Stopped faults.WriteFault) h = absurd (cc h)
 told_read_fault NoGroup h = absurd (cc h)
 told_read_fault NoFile h = absurd (cc h)
-told_read_fault Disagree h = absurd (cc h)
 
 -- and a write fault where the sink failed
-pub told_write_fault : (e : ProgramFault) → refusal_of_fault e ≡ refusals.WriteFault → e ≡ Stopped faults.WriteFault
+pub told_write_fault : (e : ShowFault) → refusal_of_fault e ≡ refusals.WriteFault → e ≡ Stopped faults.WriteFault
 told_write_fault (Stopped faults.Syntax) h = absurd (cc h)
 told_write_fault (Stopped faults.Memory) h = absurd (cc h)
 told_write_fault (Stopped faults.ReadFault) h = absurd (cc h)
 told_write_fault (Stopped faults.WriteFault) h = refl
 told_write_fault NoGroup h = absurd (cc h)
 told_write_fault NoFile h = absurd (cc h)
-told_write_fault Disagree h = absurd (cc h)

@@ -1,20 +1,11 @@
--- Why a run as a whole is refused, as a refusal.
+-- Why a file is not shown, as a refusal.
 use Rattle.cg_name.specs.declared.refusal.Refusal.{Refusal}
 use Rattle.cg_name.specs.declared.refusal.Refusal.TheVariants as refusals
 use Rattle.cg_script.specs.Fault.{refusal_of}
-use Rattle.cg_script.specs.declared.fault.ScriptFault.TheVariants.{Memory}
-use Rattle.cg_runner.specs.declared.fault.RunFault.{RunFault}
-use Rattle.cg_runner.specs.declared.fault.RunFault.TheVariants as run_faults
-use Rattle.cg_program.specs.declared.fault.ProgramFault.{ProgramFault}
-use Rattle.cg_program.specs.declared.fault.ProgramFault.TheVariants.{Stopped, NoGroup, NoFile, Disagree}
+use Rattle.cg_program.specs.declared.fault.ShowFault.{ShowFault}
+use Rattle.cg_program.specs.declared.fault.ShowFault.TheVariants.{Stopped, NoGroup, NoFile}
 
-abbrev pub refusal_of_fault : ProgramFault → Refusal
+abbrev pub refusal_of_fault : ShowFault → Refusal
 refusal_of_fault (Stopped fault) = refusal_of fault
 refusal_of_fault NoGroup = refusals.NoGroup
 refusal_of_fault NoFile = refusals.NoFile
-refusal_of_fault Disagree = refusals.Disagree
-
--- that of a run of scripts
-abbrev pub of_run_fault : RunFault → ProgramFault
-of_run_fault run_faults.Memory = Stopped Memory
-of_run_fault run_faults.Disagree = Disagree

@@ -1,5 +1,3 @@
-pub mod Batch
-pub mod Ends
 pub mod Fault
 pub mod Named
 pub mod Program

@@ -88,8 +88,9 @@ pub fn show_named<P: Inputs, O: Sink, E: Sink>(
     }
 }
 
-// A reader of the lines of what the word names.
-pub(crate) fn open_reader<P: Inputs>(
+/// A reader of the lines of what the word names: `ReadFault` where there is no such file, or it may not be read, and `Memory` where
+/// there is none for it.
+pub fn open_reader<P: Inputs>(
     alloc: Global,
     inputs: &P,
     word: &str,
@@ -139,8 +140,8 @@ fn open<P: Inputs>(inputs: &P, word: &str) -> Result<P::Input, ScriptFault>
     Ok(inputs.open_file(word)?)
 }
 
-// Whether the word names standard input.
-pub(crate) fn is_standard(word: &str) -> bool
+/// Whether the word names standard input: it is `-`.
+pub fn is_standard(word: &str) -> bool
     ensures { result ≡ is_standard word.now }
 {
     matches!(word.as_bytes(), [b'-'])

@@ -15,7 +15,7 @@ ghost use Rattle.cg_program.specs.Show.{Finds, IsFileOf, NamesNoFile, SpellsNoPa
 ghost use Rattle.cg_program.specs.Status.{status_where, refusal_line};
 ghost use Rattle.cg_program.specs.Fault.{refusal_of_fault};
 
-use crate::fault::ProgramFault;
+use crate::fault::ShowFault;
 use crate::status::Status;
 use cg_lines::{LineReader, Sink, Source, write_all};
 use cg_name::{FileName, Path, Refusal};
@@ -64,20 +64,20 @@ fn show<W: Source, O: Sink>(
     path: &str,
     file: &str,
     out: &mut O,
-) -> Result<(), ProgramFault>
+) -> Result<(), ShowFault>
     ensures done { OnOk result ((text : List ℕ) × Finds (pending world.old) path.now file.now (Ok text) × Appends (O.taken out.old) (O.taken out.new) text) }
     ensures why { IfErr result (λ e. WhyNotShown (pending world.old) path.now file.now (refusal_of_fault e)) }
-    ensures reads { IsErrOf result (ProgramFault.Stopped faults.ReadFault) → IsBroken world.new }
-    ensures writes { IsErrOf result (ProgramFault.Stopped faults.WriteFault) → Failed (O.failed out.old) (O.failed out.new) }
-    ensures kept { IfErr result (λ e. (out.new ≡ out.old) ⊎ (e ≡ ProgramFault.Stopped faults.WriteFault)) }
-    ensures front { IsErrOf result (ProgramFault.Stopped faults.WriteFault) → (text : List ℕ) × Finds (pending world.old) path.now file.now (Ok text) × AppendsFront (O.taken out.old) (O.taken out.new) text }
+    ensures reads { IsErrOf result (ShowFault.Stopped faults.ReadFault) → IsBroken world.new }
+    ensures writes { IsErrOf result (ShowFault.Stopped faults.WriteFault) → Failed (O.failed out.old) (O.failed out.new) }
+    ensures kept { IfErr result (λ e. (out.new ≡ out.old) ⊎ (e ≡ ShowFault.Stopped faults.WriteFault)) }
+    ensures front { IsErrOf result (ShowFault.Stopped faults.WriteFault) → (text : List ℕ) × Finds (pending world.old) path.now file.now (Ok text) × AppendsFront (O.taken out.old) (O.taken out.new) text }
     ensures unread { SpellsNoPath path.now ⊎ NamesNoFile file.now → world.new ≡ world.old }
 {
     let (path, file) = read_words(alloc, path, file)?;
     let text = find(alloc, world, &path, file)?;
     match write_all(out, text.as_slice()) {
         Ok(()) => Ok(()),
-        Err(_) => Err(ProgramFault::Stopped(ScriptFault::WriteFault)),
+        Err(_) => Err(ShowFault::Stopped(ScriptFault::WriteFault)),
     }
 }
 
@@ -105,23 +105,22 @@ fn find<W: Source>(
     world: &mut LineReader<W>,
     path: &Path,
     file: FileName,
-) -> Result<Vec<u8>, ProgramFault>
+) -> Result<Vec<u8>, ShowFault>
     ensures value { IfOk result (λ text. IsFileOf (pending world.old) path.now file (Ok text.items)) }
-    ensures syntax { IsErrOf result (ProgramFault.Stopped faults.Syntax) → IfSome (pending world.old) HasNoWorld }
-    ensures no_group { IsErrOf result ProgramFault.NoGroup → IsFileOf (pending world.old) path.now file (Err refusals.NoGroup) }
-    ensures no_file { IsErrOf result ProgramFault.NoFile → IsFileOf (pending world.old) path.now file (Err refusals.NoFile) }
-    ensures reads { IsErrOf result (ProgramFault.Stopped faults.ReadFault) → IsBroken world.new }
-    ensures writes { ¬ (IsErrOf result (ProgramFault.Stopped faults.WriteFault)) }
-    ensures agrees { ¬ (IsErrOf result ProgramFault.Disagree) }
+    ensures syntax { IsErrOf result (ShowFault.Stopped faults.Syntax) → IfSome (pending world.old) HasNoWorld }
+    ensures no_group { IsErrOf result ShowFault.NoGroup → IsFileOf (pending world.old) path.now file (Err refusals.NoGroup) }
+    ensures no_file { IsErrOf result ShowFault.NoFile → IsFileOf (pending world.old) path.now file (Err refusals.NoFile) }
+    ensures reads { IsErrOf result (ShowFault.Stopped faults.ReadFault) → IsBroken world.new }
+    ensures writes { ¬ (IsErrOf result (ShowFault.Stopped faults.WriteFault)) }
 {
     let world = read_world(alloc, world)?;
     let Ok(tree) = Tree::from_world(alloc, world) else {
-        return Err(ProgramFault::Stopped(ScriptFault::Memory));
+        return Err(ShowFault::Stopped(ScriptFault::Memory));
     };
     match cg_derive::file(alloc, &tree, path, file) {
         Ok(text) => Ok(text),
-        Err(Refusal::NoGroup) => Err(ProgramFault::NoGroup),
-        Err(Refusal::NoFile) => Err(ProgramFault::NoFile),
-        Err(_) => Err(ProgramFault::Stopped(ScriptFault::Memory)),
+        Err(Refusal::NoGroup) => Err(ShowFault::NoGroup),
+        Err(Refusal::NoFile) => Err(ShowFault::NoFile),
+        Err(_) => Err(ShowFault::Stopped(ScriptFault::Memory)),
     }
 }

@@ -9,10 +9,9 @@ mod progress;
 
 use crate::host::Host;
 use crate::progress::Progress;
+use cg_batch::{Words, run_named};
 use cg_command_line::{Asked, Batch, Unasked, read_command_line};
-use cg_program::{
-    FromWrite, ScriptFault, Status, Words, replay_named, run_named, show_named, stop,
-};
+use cg_program::{FromWrite, ScriptFault, Status, replay_named, show_named, stop};
 use std::io::IsTerminal;
 use std::process::ExitCode;
 use std::sync::Wait;

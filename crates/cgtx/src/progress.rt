@@ -1,5 +1,5 @@
 //! How far a run of scripts has come, as a terminal shows it.
-use cg_program::Gate;
+use cg_batch::Gate;
 use std::sync::{Mutex, Wait};
 
 /// What was told of the scripts so far.

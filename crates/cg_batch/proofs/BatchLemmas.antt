@@ -1,0 +1,47 @@
+-- Scripts, their texts and their ends, one after another.
+use Rattle.std.proofs.Common.{◌≡◌, ℕ, ◌+◌, ◌<◌, List, [], ◌∷◌, ◌++◌, length, map, take, get_or, subst, sym, ap, ◌∙◌, append_assoc, append-nil, arith, length-take}
+use Rattle.std.specs.List.{AllZip}
+use Rattle.std.proofs.lemmas.List.{take_more}
+use Rattle.std.proofs.lemmas.Slice.Zip.{all_zipped_more}
+use Rattle.cg_runner.specs.declared.end.ScriptEnd.{ScriptEnd}
+use Rattle.cg_batch.specs.Ends.{end_line, end_lines}
+
+-- the lines of ends and of one more
+lines_more : (n : ℕ) (es : List ScriptEnd) (e : ScriptEnd) → end_lines n (es ++ e ∷ []) ≡ end_lines n es ++ end_line (n + length es) e
+lines_more n [] e = append-nil (end_line n e) ∙ ap (λ k. end_line k e) (omega arith)
+lines_more n (x ∷ es) e =
+    ap (λ t. end_line n x ++ t) (lines_more (n + 1) es e)
+    ∙ sym (append_assoc (end_line n x) (end_lines (n + 1) es) (end_line (n + 1 + length es) e))
+    ∙ ap (λ k. (end_line n x ++ end_lines (n + 1) es) ++ end_line k e) (omega arith)
+
+lines_next : (es : List ScriptEnd) (i : ℕ) (d : ScriptEnd) → i < length es → end_lines 1 (take (i + 1) es) ≡ end_lines 1 (take i es) ++ end_line (i + 1) (get_or es i d)
+lines_next es i d inside =
+    ap (end_lines 1) (take_more es i d inside)
+    ∙ lines_more 1 (take i es) (get_or es i d)
+    ∙ ap (λ k. end_lines 1 (take i es) ++ end_line k (get_or es i d)) (omega (arith, length-take i es))
+
+-- a text of so many lines, and of one more
+pub lines_step : (es : List ScriptEnd) (i n : ℕ) (d : ScriptEnd) (old new : List ℕ) → i < length es → n ≡ i → old ≡ end_lines 1 (take i es) → new ≡ old ++ end_line (n + 1) (get_or es i d) → new ≡ end_lines 1 (take (i + 1) es)
+lines_step es i n d old new inside same before now =
+    now
+    ∙ ap (λ m. old ++ end_line (m + 1) (get_or es i d)) same
+    ∙ ap (λ t. t ++ end_line (i + 1) (get_or es i d)) before
+    ∙ sym (lines_next es i d inside)
+
+-- the second list grows by what fits the next item of the first
+pub zip_next : {A B : Type 0} (R : A → B → Type 0) (xs : List A) (ys : List B) (i : ℕ) (d : A) (y : B) → i < length xs → AllZip R (take i xs) ys → R (get_or xs i d) y → AllZip R (take (i + 1) xs) (ys ++ y ∷ [])
+zip_next R xs ys i d y inside before here =
+    subst (λ zs. AllZip R zs (ys ++ y ∷ [])) (sym (take_more xs i d inside)) (all_zipped_more R (take i xs) ys (get_or xs i d) y before here)
+
+-- what holds of the items of two lists, place by place, holds of what is made of them
+pub zip_maps : {A B C D : Type 0} (R : C → D → Type 0) (f : A → C) (g : B → D) (xs : List A) (ys : List B) → AllZip (λ x y. R (f x) (g y)) xs ys → AllZip R (map f xs) (map g ys)
+zip_maps R f g [] [] h = h
+zip_maps R f g [] (y ∷ ys) h = absurd h
+zip_maps R f g (x ∷ xs) [] h = absurd h
+zip_maps R f g (x ∷ xs) (y ∷ ys) h = (h.0, zip_maps R f g xs ys h.1)
+
+pub zip_map : {A B C : Type 0} (R : C → B → Type 0) (f : A → C) (xs : List A) (ys : List B) → AllZip (λ x y. R (f x) y) xs ys → AllZip R (map f xs) ys
+zip_map R f [] [] h = h
+zip_map R f [] (y ∷ ys) h = absurd h
+zip_map R f (x ∷ xs) [] h = absurd h
+zip_map R f (x ∷ xs) (y ∷ ys) h = (h.0, zip_map R f xs ys h.1)

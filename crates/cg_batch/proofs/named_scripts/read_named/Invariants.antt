@@ -1,0 +1,8 @@
+use Rattle.std.proofs.Common.{◌≡◌, take}
+use Rattle.std.specs.Prelude.{IfSome}
+use Rattle.std.specs.List.{AllZip}
+use Rattle.cg_batch.proofs.named_scripts.read_named.Given as goal
+
+-- the texts so far are those of the names so far
+abbrev pub invariant-loop-name : goal.invariant-loop-name
+invariant-loop-name g l = AllZip (λ name text. IfSome (g.P.Inputs.file l.files name.now) (λ known. text.items ≡ known)) (take l.name-index l.names) l.texts.items

@@ -1,0 +1,4 @@
+pub mod Batch
+pub mod Ends
+pub mod Fault
+pub mod Files

@@ -1,0 +1,15 @@
+//! Whole runs of scripts over sources and sinks, and the words that name these.
+#![tactic(auto)]
+
+mod ends;
+mod fault;
+mod named_scripts;
+mod outputs;
+mod running;
+mod scripts;
+
+pub use cg_runner::Gate;
+pub use named_scripts::{Words, run_named};
+pub use outputs::{CreateFault, Outputs};
+pub use running::run_to;
+pub use scripts::read_all;
