@@ -83,11 +83,13 @@ def without_generics(text):
 
 
 def owner_of(head):
-    """The type and the trait of an impl's first lines, as a check prints them."""
+    """The type and the trait of an impl's first lines, as a check prints them: `From<AllocFailed<T>>` as `FromAllocFailed`."""
     words = without_generics(head.removeprefix("unsafe ").removeprefix("impl")).partition(" where ")[0].split("{")[0].strip()
     trait, found, of = words.rpartition(" for ")
-    of = re.sub(r"&('\w+ )?(mut )?", "Ref", of.strip())
-    return of.rpartition("::")[2], trait.strip().rpartition("::")[2] if found else ""
+    of, trait = re.sub(r"&('\w+ )?(mut )?", "Ref", of.strip()), trait.strip()
+    given = re.search(rf"\b{re.escape(trait)}<(.*?)> for ", head) if found else None
+    types = re.findall(r"\w+", without_generics(given[1])) if given else []
+    return of.rpartition("::")[2], "".join([trait.rpartition("::")[2], *(it[0].upper() + it[1:] for it in types)]) if found else ""
 
 
 def functions_of(path, text):

@@ -7,6 +7,7 @@ stand, and what the tree is that their commands give in the order of the records
   commands.py   the ten commands: what each checks and changes, and under which marks
   history.py    the records, what they say, and the answer to the next request
   texts.py      world texts and the lines of schedules
+  worlds.py     world texts of which nothing is taken for right
   replay.py     what a whole schedule is answered
   schedules.py  worlds and schedules from seeds
   cases.toml    worked cases, written by hand"""

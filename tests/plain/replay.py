@@ -19,7 +19,12 @@ class Answered:
 
 def replay(world, schedule, bound):
     """The answers to a schedule over a world, both in bytes, and the text of the tree that it leaves."""
-    history = History(read_world(world), bound)
+    return replay_on(read_world(world), schedule, bound)
+
+
+def replay_on(opening, schedule, bound):
+    """The same over an opening tree."""
+    history = History(opening, bound)
     answers = [*answers_to(history, schedule)]
     behind = schedule.count(b"\n") + 1
     for session, _ in sorted(history.open_transactions().items(), key=lambda it: it[1]):
