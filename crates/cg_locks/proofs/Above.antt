@@ -1,6 +1,6 @@
 -- The paths with which a path begins, one after another.
-use Rattle.std.proofs.Common.{◌≡◌, ℕ, ◌+◌, ◌≤◌, true, drop, length, take, ◌++◌, ap, subst, ◌∙◌, arith}
-use Rattle.std.proofs.lemmas.List.{length-append, take-append-drop, take-append-le, take_all}
+use Rattle.std.proofs.Common.{◌≡◌, ℕ, ◌+◌, ◌≤◌, true, drop, length, take, ◌++◌, sym, ap, subst, ◌∙◌, arith}
+use Rattle.std.proofs.lemmas.List.{length-append, take-append-drop, take-append-le, take-take, take_all}
 use Rattle.cg_name.proofs.Packing.{prefix-append, prefix_rest}
 use Rattle.cg_name.specs.Path.{Path, is_prefix}
 
@@ -20,3 +20,8 @@ short_first q p e =
   where
     prefix_shorter : (q r p : Path) → p ≡ q ++ r → length q ≤ length p
     prefix_shorter q r p is = let all : length p ≡ length q + length r = ap length is ∙ length-append q r in omega (arith, all)
+
+pub prefix_take : (m d : ℕ) (p : Path) → m ≤ d → is_prefix (take m p) (take d p) ≡ true
+prefix_take m d p low =
+    let cut : take m p ++ drop m (take d p) ≡ take d p = ap (λ x. x ++ drop m (take d p)) (sym (take-take m d p low)) ∙ take-append-drop m (take d p) in
+    subst (λ x. is_prefix (take m p) x ≡ true) cut (prefix-append (take m p) (drop m (take d p)))

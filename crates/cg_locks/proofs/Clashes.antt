@@ -1,5 +1,5 @@
 -- Who is in the way of a mark, at a node and along the way up from it.
-use Rattle.std.proofs.Common.{◌≡◌, ℕ, zero, suc, ◌+◌, ◌-◌, ◌<◌, ◌≤◌, ◌⊎◌, inl, inr, false, true, length, take, [], ◌∷◌, Option, Some, None, option_map, refl, sym, ap, ◌∙◌, arith}
+use Rattle.std.proofs.Common.{◌≡◌, ℕ, zero, suc, ◌+◌, ◌-◌, ◌<◌, ◌≤◌, ◌⊎◌, inl, inr, false, true, length, take, [], ◌∷◌, Option, Some, None, option_map, refl, sym, ap, subst, ◌∙◌, arith}
 use Rattle.std.proofs.lemmas.Bool.{false≢true}
 use Rattle.std.proofs.lemmas.List.{length-take-le, take-take, take_all}
 use Rattle.cg_maps.specs.FiniteMap.{get}
@@ -13,8 +13,9 @@ use Rattle.cg_locks.specs.declared.held.Part.{Part}
 use Rattle.cg_locks.specs.declared.held.Part.TheVariants.{ChangedAt, ReadAt, StaysAt, CountedAt, ChangedBelow, ReadBelow, StaysBelow}
 use Rattle.cg_locks.specs.Held.{above_of, here_of, in_way, part_of}
 use Rattle.cg_locks.specs.HeldByPath.{in_part, marked, weighed, weighed_above, weighed_if, weighed_until, AreSummedUp, HeldByPath}
-use Rattle.cg_locks.specs.Holders.{held_above, held_at, held_below, held_by, held_if, held_until, lesser_of, IsLeastOther}
-use Rattle.cg_locks.proofs.Counts.{least_alike, least_of_sum, no_holder}
+use Rattle.cg_locks.specs.Holders.{held_above, held_at, held_below, held_by, held_if, held_until, lesser_of, IsLeastOther, IsSummedUp}
+use Rattle.cg_locks.proofs.Branches.{has_below, held_somewhere}
+use Rattle.cg_locks.proofs.Counts.{least_alike, least_of_sum, least_seen, no_holder, seen_in_sum}
 use Rattle.cg_locks.proofs.HeldMaps.{held_in}
 
 -- ---- sums along a path
@@ -118,14 +119,49 @@ module _ (T : HeldByPath) where
   zero_here q u = elim (get T q) as (λ o. weighed_if (λ h v. 0) o u ≡ 0) [ None ↦ refl | Some h ↦ refl ]
 
   module _ (sums : AreSummedUp T) (p : Path) (u : ℕ) where
-    changed_below : held_below (in_part ChangedAt T) p u ≡ weighed (by_part ChangedBelow) T p u
-    changed_below = sym (sums.changed p u) ∙ part_weighed ChangedBelow p u
+    -- what is held in the part of a kind at the path or below it, as its part below tells it
+    abbrev Told : Part → Part → Type 0
+    Told a b = (0 < weighed (by_part b) T p u → 0 < held_below (in_part a T) p u) × (0 < held_below (in_part a T) p u → 0 < weighed (by_part b) T p u)
 
-    read_below : held_below (in_part ReadAt T) p u ≡ weighed (by_part ReadBelow) T p u
-    read_below = sym (sums.read p u) ∙ part_weighed ReadBelow p u
+    told : (a b : Part) → IsSummedUp (in_part a T) (in_part b T) → Told a b
+    told a b sum = (
+      λ low. held_somewhere (in_part a T) (in_part b T) sum u p (subst (λ n. 0 < n) (sym (part_weighed b p u)) low),
+      λ low. subst (λ n. 0 < n) (part_weighed b p u) (has_below (in_part a T) (in_part b T) sum u p low),
+    )
 
-    stays_below : held_below (in_part StaysAt T) p u ≡ weighed (by_part StaysBelow) T p u
-    stays_below = sym (sums.stays p u) ∙ part_weighed StaysBelow p u
+    changed_told : Told ChangedAt ChangedBelow
+    changed_told = told ChangedAt ChangedBelow sums.changed
+
+    read_told : Told ReadAt ReadBelow
+    read_told = told ReadAt ReadBelow sums.read
+
+    stays_told : Told StaysAt StaysBelow
+    stays_told = told StaysAt StaysBelow sums.stays
+
+    abbrev Fixed : ℕ
+    Fixed = held_below (in_part ChangedAt T) p u + held_below (in_part StaysAt T) p u
+
+    fixed_is : weighed (here_of kinds.Read) T p u ≡ weighed (by_part ChangedBelow) T p u + weighed (by_part StaysBelow) T p u
+    fixed_is = sum_at (by_part ChangedBelow) (by_part StaysBelow) p u
+
+    fixed_to : 0 < weighed (here_of kinds.Read) T p u → 0 < Fixed
+    fixed_to low = seen_in_sum (weighed (by_part ChangedBelow) T p u) _ (weighed (by_part StaysBelow) T p u) _ changed_told.0 stays_told.0 (subst (λ n. 0 < n) fixed_is low)
+
+    fixed_from : 0 < Fixed → 0 < weighed (here_of kinds.Read) T p u
+    fixed_from low = subst (λ n. 0 < n) (sym fixed_is) (seen_in_sum (held_below (in_part ChangedAt T) p u) _ (held_below (in_part StaysAt T) p u) _ changed_told.1 stays_told.1 low)
+
+    all_is : weighed (here_of kinds.Changed) T p u ≡ weighed (by_part ReadBelow) T p u + weighed (here_of kinds.Read) T p u
+    all_is = sum_at (by_part ReadBelow) (here_of kinds.Read) p u
+
+    -- anything at all that a mark to change the subtree clashes with there
+    abbrev pub AllBelow : ℕ
+    AllBelow = held_below (in_part ReadAt T) p u + Fixed
+
+    all_to : 0 < weighed (here_of kinds.Changed) T p u → 0 < AllBelow
+    all_to low = seen_in_sum (weighed (by_part ReadBelow) T p u) _ (weighed (here_of kinds.Read) T p u) _ read_told.0 fixed_to (subst (λ n. 0 < n) all_is low)
+
+    pub all_from : 0 < AllBelow → 0 < weighed (here_of kinds.Changed) T p u
+    all_from low = subst (λ n. 0 < n) (sym all_is) (seen_in_sum (held_below (in_part ReadAt T) p u) _ Fixed _ read_told.1 fixed_from low)
 
     subtrees_above : weighed_above (above_of kinds.Changed) T p u ≡ held_above (in_part ChangedAt T) p u + held_above (in_part ReadAt T) p u
     subtrees_above =
@@ -133,44 +169,63 @@ module _ (T : HeldByPath) where
         let c = sum_until (by_part ChangedAt) (by_part ReadAt) p (suc (length p)) u in
         c ∙ (λ i. sym a i + sym b i)
 
-    fixed_below : weighed (here_of kinds.Read) T p u ≡ held_below (in_part ChangedAt T) p u + held_below (in_part StaysAt T) p u
-    fixed_below = sum_at (by_part ChangedBelow) (by_part StaysBelow) p u ∙ (λ i. sym changed_below i + sym stays_below i)
+    itself : (n : ℕ) → 0 < n → 0 < n
+    itself n low = low
 
-    pub in_way_is : (k : Kind) → weighed (here_of k) T p u + weighed_above (above_of k) T p u ≡ in_way (marked T) k p u
-    in_way_is kinds.Changed =
+    -- what is seen on the way up is in the way
+    pub in_way_to : (k : Kind) → 0 < weighed (here_of k) T p u + weighed_above (above_of k) T p u → 0 < in_way (marked T) k p u
+    in_way_to kinds.Changed low =
         let a = subtrees_above in
-        let b = fixed_below in
-        let c : weighed (here_of kinds.Changed) T p u ≡ held_below (in_part ReadAt T) p u + weighed (here_of kinds.Read) T p u =
-        sum_at (by_part ReadBelow) (here_of kinds.Read) p u ∙ ap (λ n. n + weighed (here_of kinds.Read) T p u) (sym read_below) in
-        omega (arith, a, b, c)
-    in_way_is kinds.Read =
-        let a : weighed_above (above_of kinds.Read) T p u ≡ held_above (in_part ChangedAt T) p u = sym (above_weighed ChangedAt p u) in
-        let b = fixed_below in
+        let b = seen_in_sum (weighed (here_of kinds.Changed) T p u) _ (weighed_above (above_of kinds.Changed) T p u) _ all_to (itself _) low in
         omega (arith, a, b)
-    in_way_is kinds.Stays =
+    in_way_to kinds.Read low =
+        let a : weighed_above (above_of kinds.Read) T p u ≡ held_above (in_part ChangedAt T) p u = sym (above_weighed ChangedAt p u) in
+        let b = seen_in_sum (weighed (here_of kinds.Read) T p u) _ (weighed_above (above_of kinds.Read) T p u) _ fixed_to (itself _) low in
+        omega (arith, a, b)
+    in_way_to kinds.Stays low =
         let a : weighed_above (above_of kinds.Stays) T p u ≡ held_above (in_part ChangedAt T) p u + held_above (in_part ReadAt T) p u = subtrees_above in
         let b : weighed (here_of kinds.Stays) T p u ≡ 0 = zero_here p u in
-        omega (arith, a, b)
-    in_way_is kinds.Descendants =
+        omega (arith, a, b, low)
+    in_way_to kinds.Descendants low =
         let a : weighed_above (above_of kinds.Descendants) T p u ≡ 0 = zero_until p (suc (length p)) u in
         let b : weighed (here_of kinds.Descendants) T p u ≡ held_at (in_part CountedAt T) p u = sym (part_weighed CountedAt p u) in
-        omega (arith, a, b)
+        omega (arith, a, b, low)
+
+    -- and the other way round
+    pub in_way_from : (k : Kind) → 0 < in_way (marked T) k p u → 0 < weighed (here_of k) T p u + weighed_above (above_of k) T p u
+    in_way_from kinds.Changed low =
+        let a = subtrees_above in
+        seen_in_sum AllBelow _ (weighed_above (above_of kinds.Changed) T p u) _ all_from (itself _) (omega (arith, a, low))
+    in_way_from kinds.Read low =
+        let a : weighed_above (above_of kinds.Read) T p u ≡ held_above (in_part ChangedAt T) p u = sym (above_weighed ChangedAt p u) in
+        seen_in_sum Fixed _ (weighed_above (above_of kinds.Read) T p u) _ fixed_from (itself _) (omega (arith, a, low))
+    in_way_from kinds.Stays low =
+        let a : weighed_above (above_of kinds.Stays) T p u ≡ held_above (in_part ChangedAt T) p u + held_above (in_part ReadAt T) p u = subtrees_above in
+        omega (arith, a, low)
+    in_way_from kinds.Descendants low =
+        let b : weighed (here_of kinds.Descendants) T p u ≡ held_at (in_part CountedAt T) p u = sym (part_weighed CountedAt p u) in
+        omega (arith, b, low)
 
 -- the least in the way, where the path has a node and where it has none
 module _ (T : HeldByPath) (sums : AreSummedUp T) (k : Kind) (p : Path) (t : ℕ) where
   pub least_with_node : (h : Held) (r s : Option ℕ) → get T p ≡ Some h → IsLeastOther t (here_of k h) r → IsLeastOther t (weighed_above (above_of k) T p) s → IsLeastOther t (in_way (marked T) k p) (lesser_of r s)
   least_with_node h r s there here above =
-      least_alike t (λ u. here_of k h u + weighed_above (above_of k) T p u) (in_way (marked T) k p) (lesser_of r s)
-      (λ u. ap (λ n. n + weighed_above (above_of k) T p u) (sym (weighed_there (here_of k) T p h u there)) ∙ in_way_is T sums p u k)
+      let same : (u : ℕ) → here_of k h u + weighed_above (above_of k) T p u ≡ weighed (here_of k) T p u + weighed_above (above_of k) T p u = λ u. ap (λ n. n + weighed_above (above_of k) T p u) (sym (weighed_there (here_of k) T p h u there)) in
+      least_seen t (λ u. here_of k h u + weighed_above (above_of k) T p u) (in_way (marked T) k p) (lesser_of r s)
+      (λ u low. in_way_to T sums p u k (subst (λ n. 0 < n) (same u) low)) (λ u low. subst (λ n. 0 < n) (sym (same u)) (in_way_from T sums p u k low))
       (least_of_sum t (here_of k h) (weighed_above (above_of k) T p) r s here above)
 
   module _ (absent : get T p ≡ None) where
-    only_above : (u : ℕ) → weighed_above (above_of k) T p u ≡ in_way (marked T) k p u
-    only_above u = let a = weighed_nowhere (here_of k) T p u absent in let b = in_way_is T sums p u k in omega (arith, a, b)
+    above_to : (u : ℕ) → 0 < weighed_above (above_of k) T p u → 0 < in_way (marked T) k p u
+    above_to u low = in_way_to T sums p u k (omega (arith, low))
+
+    above_from : (u : ℕ) → 0 < in_way (marked T) k p u → 0 < weighed_above (above_of k) T p u
+    above_from u low = let a = weighed_nowhere (here_of k) T p u absent in let b = in_way_from T sums p u k low in omega (arith, a, b)
 
     pub least_from_deepest : (d : ℕ) (r : Option ℕ) → d ≤ length p → ((m : ℕ) → d < m → m ≤ length p → get T (take m p) ≡ None) → IsLeastOther t (weighed_above (above_of k) T (take d p)) r → IsLeastOther t (in_way (marked T) k p) r
     least_from_deepest d r short none above =
-        least_alike t (weighed_above (above_of k) T (take d p)) (in_way (marked T) k p) r (λ u. deepest_above (above_of k) T p d u short none ∙ only_above u) above
+        least_seen t (weighed_above (above_of k) T p) (in_way (marked T) k p) r above_to above_from
+        (least_alike t (weighed_above (above_of k) T (take d p)) (weighed_above (above_of k) T p) r (λ u. deepest_above (above_of k) T p d u short none) above)
 
     pub least_of_none : ((m : ℕ) → get T (take m p) ≡ None) → IsLeastOther t (in_way (marked T) k p) None
-    least_of_none none = no_holder t (in_way (marked T) k p) (λ u. sym (only_above u) ∙ nothing_above (above_of k) T p u none)
+    least_of_none none = least_seen t (weighed_above (above_of k) T p) (in_way (marked T) k p) None above_to above_from (no_holder t (weighed_above (above_of k) T p) (λ u. nothing_above (above_of k) T p u none))

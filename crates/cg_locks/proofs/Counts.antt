@@ -188,3 +188,19 @@ least_as P Q r to from h = record {
 pub least_alike : (t : ℕ) (f g : ℕ → ℕ) (r : Option ℕ) → ((u : ℕ) → f u ≡ g u) → IsLeastOther t f r → IsLeastOther t g r
 least_alike t f g r same =
     least_as (IsOtherHolder t f) (IsOtherHolder t g) r (λ u w. (w.0, subst (λ n. 0 < n) (same u) w.1)) (λ u w. (w.0, subst (λ n. 0 < n) (sym (same u)) w.1))
+
+-- where something is held by f exactly where it is by g
+pub least_seen : (t : ℕ) (f g : ℕ → ℕ) (r : Option ℕ) → ((u : ℕ) → 0 < f u → 0 < g u) → ((u : ℕ) → 0 < g u → 0 < f u) → IsLeastOther t f r → IsLeastOther t g r
+least_seen t f g r to from h = least_as (IsOtherHolder t f) (IsOtherHolder t g) r (λ u w. (w.0, to u w.1)) (λ u w. (w.0, from u w.1)) h
+
+-- no other holds anything by g, where each that does holds something by f
+pub none_seen : (t : ℕ) (f g : ℕ → ℕ) → ((u : ℕ) → 0 < g u → 0 < f u) → IsLeastOther t f None → IsLeastOther t g None
+none_seen t f g from h = record {
+  some = λ u e. absurd (none-some u e);
+  least = λ u e. absurd (none-some u e);
+  none = λ e v w. h.none refl v (w.0, from v w.1);
+}
+
+-- a sum of two, each of which is seen where the other is
+pub seen_in_sum : (x y r s : ℕ) → (0 < x → 0 < y) → (0 < r → 0 < s) → 0 < x + r → 0 < y + s
+seen_in_sum x y r s f g low = elim (one_of_two x r low) [ inl l ↦ (let z = f l in omega (arith, z)) | inr l ↦ (let z = g l in omega (arith, z)) ]

@@ -1,17 +1,18 @@
 -- What is held at the paths of a tree, changed at one path.
-use Rattle.std.proofs.Common.{◌≡◌, ℕ, ◌+◌, ◌==◌, ◌&&◌, Bool, true, false, cond, List, [], ◌∷◌, map, Option, Some, None, option_map, refl, sym, ap, ◌∙◌, arith}
+use Rattle.std.proofs.Common.{◌≡◌, ℕ, zero, suc, ◌+◌, ◌<◌, ◌==◌, ◌&&◌, nat_lt, Bool, true, false, cond, List, [], ◌∷◌, map, Option, Some, None, option_map, refl, sym, ap, ◌∙◌, arith}
+use Rattle.std.proofs.lemmas.Bool.Decides.{nat_tests}
 use Rattle.std.specs.FinMap.Entries.{find}
 use Rattle.std.specs.Ordering.{eq_by_cmp}
 use Rattle.cg_maps.specs.FiniteMap.{entries, get, set_at}
 use Rattle.cg_maps.proofs.Maps as maps
 use Rattle.cg_name.specs.Order.{path_cmp_total, path_cmp_exact}
-use Rattle.cg_name.specs.Path.{Path, path_cmp, is_prefix, same_path}
+use Rattle.cg_name.specs.Path.{Path, path_cmp, is_parent, same_path}
 use Rattle.cg_locks.specs.declared.held.Held.{Held}
 use Rattle.cg_locks.specs.declared.held.Part.{Part}
 use Rattle.cg_locks.specs.Held.{part_of, same_part, IsHeldMore}
 use Rattle.cg_locks.specs.HeldByPath.{in_part, HeldByPath, IsOneMoreIn, IsSameHeld}
-use Rattle.cg_locks.specs.Holders.{Counts, held_at, held_by, held_if, one}
-use Rattle.cg_locks.proofs.Summed.{as_before, changed_at, changed_below, neither}
+use Rattle.cg_locks.specs.Holders.{Counts, branches, held_at, held_by, held_if, one}
+use Rattle.cg_locks.proofs.Summed.{as_before, changed_at, changed_branches, neither}
 
 -- ---- one part, by paths
 
@@ -48,9 +49,29 @@ in_both true false c = refl
 in_both false true c = refl
 in_both false false c = refl
 
+some : (n : ℕ) → 0 < n → one (nat_lt 0 n) ≡ 1
+some n low = let l : nat_lt 0 n ≡ true = grind (arith, nat_tests, low) in ap one l
+
+-- from n to one more: it is a branch more where n is 0
+turns : (c a b : Bool) (n m : ℕ) → m ≡ n + one (a && b) → cond c (one (nat_lt 0 m)) 0 ≡ cond c (one (nat_lt 0 n)) 0 + one (a && (c && (b && (n == 0))))
+turns false a b n m e = elim a as (λ x. 0 ≡ 0 + one (x && false)) [ true ↦ refl | false ↦ refl ]
+turns true false b n m e = let same : m ≡ n = omega (arith, e) in let z : one (nat_lt 0 m) ≡ one (nat_lt 0 n) = ap (λ x. one (nat_lt 0 x)) same in omega (arith, z)
+turns true true false n m e = let same : m ≡ n = omega (arith, e) in let z : one (nat_lt 0 m) ≡ one (nat_lt 0 n) = ap (λ x. one (nat_lt 0 x)) same in omega (arith, z)
+turns true true true zero m e = let z = some m (omega (arith, e)) in omega (arith, z)
+turns true true true (suc n) m e =
+    let z = some m (omega (arith, e)) in
+    let y = some (suc n) (omega arith) in
+    let low : 0 < suc n = omega arith in
+    let w : (suc n == 0) ≡ false = grind (arith, nat_tests, low) in
+    let v : one (true && (true && (true && (suc n == 0)))) ≡ 0 = ap (λ b. one (true && (true && (true && b)))) w in
+    omega (arith, z, y, v)
+
 module _ (T T' : HeldByPath) (p : Path) (h h' : Held) (there : get T p ≡ Some h) (written : T' ≡ set_at T p (Some h')) where
   part_written : (r : Part) → in_part r T' ≡ set_at (in_part r T) p (Some (part_of r h'))
   part_written r = ap (in_part r) written ∙ part-set r T p (Some h')
+
+  here : get T' p ≡ Some h'
+  here = ap (λ M. get M p) written ∙ maps.get_here path_cmp_total path_cmp_exact T p (Some h')
 
   module _ (s : Part) (t : ℕ) where
     pub written_more : IsHeldMore h s t h' → IsOneMoreIn T s p t T'
@@ -61,9 +82,11 @@ module _ (T T' : HeldByPath) (p : Path) (h h' : Held) (there : get T p ≡ Some 
           at = λ r q u.
               let z = changed_at (in_part r T) (in_part r T') p (Some (part_of r h')) (part_written r) 0 (one (same_part r s && (u == t))) u (change r u) q in
               let a = neither (same_path q p) in let b = in_both (same_part r s) (same_path q p) (u == t) in omega (arith, z, a, b);
-          below = λ r q u.
-              let z = changed_below (in_part r T) (in_part r T') p (Some (part_of r h')) (part_written r) 0 (one (same_part r s && (u == t))) u (change r u) q in
-              let a = neither (is_prefix q p) in let b = in_both (same_part r s) (is_prefix q p) (u == t) in omega (arith, z, a, b);
+          branched = λ r q u.
+              let z = changed_branches (in_part r T) (in_part r T') p (Some (part_of r h')) (part_written r) q u in
+              let m : held_if (Some (part_of r h')) u ≡ held_at (in_part r T) p u + one (same_part r s && (u == t)) = (let c = change r u in omega (arith, c)) in
+              let a = turns (is_parent q p) (same_part r s) (u == t) (held_at (in_part r T) p u) (held_if (Some (part_of r h')) u) m in
+              omega (arith, z, a);
         }
 
     pub written_less : IsHeldMore h' s t h → IsOneMoreIn T' s p t T
@@ -74,9 +97,13 @@ module _ (T T' : HeldByPath) (p : Path) (h h' : Held) (there : get T p ≡ Some 
           at = λ r q u.
               let z = changed_at (in_part r T) (in_part r T') p (Some (part_of r h')) (part_written r) (one (same_part r s && (u == t))) 0 u (change r u) q in
               let a = neither (same_path q p) in let b = in_both (same_part r s) (same_path q p) (u == t) in omega (arith, z, a, b);
-          below = λ r q u.
-              let z = changed_below (in_part r T) (in_part r T') p (Some (part_of r h')) (part_written r) (one (same_part r s && (u == t))) 0 u (change r u) q in
-              let a = neither (is_prefix q p) in let b = in_both (same_part r s) (is_prefix q p) (u == t) in omega (arith, z, a, b);
+          branched = λ r q u.
+              let z = changed_branches (in_part r T) (in_part r T') p (Some (part_of r h')) (part_written r) q u in
+              let now : held_at (in_part r T') p u ≡ held_if (Some (part_of r h')) u = held_there r T' p h' u here in
+              let m : held_at (in_part r T) p u ≡ held_at (in_part r T') p u + one (same_part r s && (u == t)) = (let c = change r u in omega (arith, c, now)) in
+              let a = turns (is_parent q p) (same_part r s) (u == t) (held_at (in_part r T') p u) (held_at (in_part r T) p u) m in
+              let b : cond (is_parent q p) (one (nat_lt 0 (held_at (in_part r T') p u))) 0 ≡ cond (is_parent q p) (one (nat_lt 0 (held_if (Some (part_of r h')) u))) 0 = ap (λ n. cond (is_parent q p) (one (nat_lt 0 n)) 0) now in
+              omega (arith, z, a, b);
         }
 
 -- ---- the same held
@@ -88,8 +115,8 @@ IsFree h = (r : Part) (u : ℕ) → held_by (part_of r h) u ≡ 0
 module _ (T T' : HeldByPath) (p : Path) (o : Option Held) (set : T' ≡ set_at T p o) (same : (r : Part) (u : ℕ) → held_if (option_map (part_of r) o) u ≡ held_at (in_part r T) p u) where
   set_alike : IsSameHeld T T'
   set_alike = record {
-    at = λ r q u. (as_before (in_part r T) (in_part r T') p 0 (option_map (part_of r) o) (ap (in_part r) set ∙ part-set r T p o) (same r)).at q u;
-    below = λ r q u. (as_before (in_part r T) (in_part r T') p 0 (option_map (part_of r) o) (ap (in_part r) set ∙ part-set r T p o) (same r)).below q u;
+    at = λ r q u. (as_before (in_part r T) (in_part r T') p (option_map (part_of r) o) (ap (in_part r) set ∙ part-set r T p o) (same r)).at q u;
+    branched = λ r q u. (as_before (in_part r T) (in_part r T') p (option_map (part_of r) o) (ap (in_part r) set ∙ part-set r T p o) (same r)).branched q u;
   }
 
 pub made_alike : (T T' : HeldByPath) (p : Path) (h : Held) → get T p ≡ None → T' ≡ set_at T p (Some h) → IsFree h → IsSameHeld T T'
@@ -101,15 +128,22 @@ dropped_alike T T' p h there set free = set_alike T T' p None set (λ r u. sym (
 pub alike_then : (T M T' : HeldByPath) → IsSameHeld T M → IsSameHeld M T' → IsSameHeld T T'
 alike_then T M T' a b = record {
   at = λ r q u. b.at r q u ∙ a.at r q u;
-  below = λ r q u. b.below r q u ∙ a.below r q u;
+  branched = λ r q u. b.branched r q u ∙ a.branched r q u;
 }
 
 -- what is added and taken away again
 pub undone : (T M M' T' : HeldByPath) (s : Part) (p : Path) (t : ℕ) → IsOneMoreIn T s p t M → IsSameHeld M M' → IsOneMoreIn T' s p t M' → IsSameHeld T T'
 undone T M M' T' s p t more same less = record {
-  at = λ r q u. let a = more.at r q u in let b = same.at r q u in let c = less.at r q u in omega (arith, a, b, c);
-  below = λ r q u. let a = more.below r q u in let b = same.below r q u in let c = less.below r q u in omega (arith, a, b, c);
+  at = as_it_was;
+  branched = λ r q u.
+      let a = more.branched r q u in let b = same.branched r q u in let c = less.branched r q u in
+      let d : one (same_part r s && (is_parent q p && ((u == t) && (held_at (in_part r T') p u == 0)))) ≡ one (same_part r s && (is_parent q p && ((u == t) && (held_at (in_part r T) p u == 0)))) =
+      ap (λ n. one (same_part r s && (is_parent q p && ((u == t) && (n == 0))))) (as_it_was r p u) in
+      omega (arith, a, b, c, d);
 }
+  where
+    as_it_was : (r : Part) (q : Path) (u : ℕ) → held_at (in_part r T') q u ≡ held_at (in_part r T) q u
+    as_it_was r q u = let a = more.at r q u in let b = same.at r q u in let c = less.at r q u in omega (arith, a, b, c)
 
 -- what is at a path written again
 pub unwritten : (T : HeldByPath) (p q : Path) (h h' : Held) → q ≡ p → get T p ≡ Some h → h' ≡ h → set_at T q (Some h') ≡ T

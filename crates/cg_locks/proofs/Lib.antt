@@ -1,4 +1,6 @@
 mod Above
+mod Alone
+mod Branches
 mod Clashes
 mod Counting
 mod Counts

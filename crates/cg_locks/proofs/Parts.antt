@@ -1,5 +1,6 @@
 -- Parts of what is held at a path, told apart, and one of them changed.
 use Rattle.std.proofs.Common.{◌≡◌, true, false, Some, refl, subst}
+use Rattle.std.proofs.lemmas.Bool.{false≢true}
 use Rattle.std.proofs.lemmas.Option.{none-some, same_Some}
 use Rattle.cg_locks.specs.declared.held.Kind.{Kind}
 use Rattle.cg_locks.specs.declared.held.Kind.TheVariants as kinds
@@ -15,6 +16,16 @@ same_part-itself CountedAt = refl
 same_part-itself ChangedBelow = refl
 same_part-itself ReadBelow = refl
 same_part-itself StaysBelow = refl
+
+pub same_part-is : (r s : Part) → same_part r s ≡ true → r ≡ s
+same_part-is ChangedAt ChangedAt e = refl
+same_part-is ReadAt ReadAt e = refl
+same_part-is StaysAt StaysAt e = refl
+same_part-is CountedAt CountedAt e = refl
+same_part-is ChangedBelow ChangedBelow e = refl
+same_part-is ReadBelow ReadBelow e = refl
+same_part-is StaysBelow StaysBelow e = refl
+same_part-is r s e = absurd (false≢true e)
 
 -- ---- the parts of a kind
 

@@ -1,5 +1,5 @@
 -- What is seen of a tree, by kinds of marks.
-use Rattle.std.proofs.Common.{◌≡◌, ℕ, None, refl, sym, ap, ◌∙◌}
+use Rattle.std.proofs.Common.{◌≡◌, ℕ, ◌+◌, None, refl, sym, ap, ◌∙◌, arith}
 use Rattle.cg_maps.specs.FiniteMap.{empty, entries, get}
 use Rattle.cg_maps.proofs.Maps.{get-empty}
 use Rattle.cg_name.specs.Path.{Path, path_cmp}
@@ -9,7 +9,7 @@ use Rattle.cg_locks.specs.declared.held.Part.{Part}
 use Rattle.cg_locks.specs.declared.held.Part.TheVariants.{ChangedAt, ReadAt, StaysAt, ChangedBelow, ReadBelow, StaysBelow}
 use Rattle.cg_locks.specs.Held.{at_path, of_kind, Marked}
 use Rattle.cg_locks.specs.HeldByPath.{in_part, marked, AreSummedUp, HeldByPath}
-use Rattle.cg_locks.specs.Holders.{held_at, held_below, IsSummedUp}
+use Rattle.cg_locks.specs.Holders.{branches, held_at, IsSummedUp}
 use Rattle.cg_locks.proofs.HeldMaps.{held_nowhere}
 
 of_marked : (k : Kind) (T : HeldByPath) → of_kind (marked T) k ≡ in_part (at_path k) T
@@ -30,9 +30,9 @@ seen_nowhere k T m view p u absent = seen_at k T m view p u ∙ held_nowhere (at
 pub nowhere : (T : HeldByPath) → T ≡ empty → (p : Path) → get T p ≡ None
 nowhere T e p = ap (λ M. get M p) e ∙ get-empty path_cmp p
 
-nothing_below : (s : Part) (q : Path) (u : ℕ) → held_below (in_part s empty) q u ≡ 0
-unfolding held_below in_part entries empty
-nothing_below s q u = refl
+no_branch : (s : Part) (q : Path) (u : ℕ) → branches (in_part s empty) q u ≡ 0
+unfolding branches in_part entries empty
+no_branch s q u = refl
 
 pub nothing_summed : (T : HeldByPath) → T ≡ empty → AreSummedUp T
 nothing_summed T e = record {
@@ -42,4 +42,8 @@ nothing_summed T e = record {
 }
   where
     sums : (a b : Part) → IsSummedUp (in_part a T) (in_part b T)
-    sums a b q u = held_nowhere b T q u (nowhere T e q) ∙ sym (ap (λ M. held_below (in_part a M) q u) e ∙ nothing_below a q u)
+    sums a b q u =
+        let x = held_nowhere b T q u (nowhere T e q) in
+        let y = held_nowhere a T q u (nowhere T e q) in
+        let z : branches (in_part b T) q u ≡ 0 = ap (λ M. branches (in_part b M) q u) e ∙ no_branch b q u in
+        omega (arith, x, y, z)

@@ -1,5 +1,6 @@
--- What is held at or below each path, as the holders of one path change.
-use Rattle.std.proofs.Common.{◌≡◌, ℕ, zero, suc, ◌+◌, ◌<◌, ◌≤◌, ◌&&◌, Bool, true, false, cond, not, T, List, [], ◌∷◌, Option, Some, None, Ordering, Less, Equal, Greater, refl, sym, ap, subst, ◌∙◌, arith}
+-- What is held at or below each path, and right below it, as the holders of one path change.
+use Rattle.std.proofs.Common.{◌≡◌, ℕ, zero, suc, ◌+◌, ◌<◌, ◌≤◌, ◌&&◌, nat_lt, Bool, true, false, cond, not, T, List, [], ◌∷◌, length, Option, Some, None, Ordering, Less, Equal, Greater, refl, sym, ap, subst, ◌∙◌, arith}
+use Rattle.std.proofs.lemmas.Bool.Decides.{nat_tests}
 use Rattle.std.proofs.lemmas.List.Sums.{sum_by-cons}
 use Rattle.std.specs.Cmp.{IsTotalOrder}
 use Rattle.std.specs.FinMap.{IsAntisymmetric}
@@ -10,9 +11,9 @@ use Rattle.cg_maps.specs.FiniteMap.{FiniteMap, entries, get, insert, retain, set
 use Rattle.cg_maps.proofs.Maps as maps
 use Rattle.cg_maps.proofs.Tests.{and_both, and_first, and_second, less}
 use Rattle.cg_name.specs.Order.{path_cmp_total, path_cmp_exact}
-use Rattle.cg_name.specs.Path.{Path, path_cmp, is_prefix, same_path}
+use Rattle.cg_name.specs.Path.{Path, path_cmp, is_parent, is_prefix, same_path}
 use Rattle.cg_model_laws.proofs.Paths.{same_path-is}
-use Rattle.cg_locks.specs.Holders.{Counts, PathCounts, held_at, held_below, held_by, held_if, one, IsSame}
+use Rattle.cg_locks.specs.Holders.{Counts, PathCounts, branches, held_at, held_below, held_by, held_if, one, IsSame}
 
 -- ---- a sum over the entries of a map
 
@@ -125,6 +126,24 @@ below_set T p o q u =
     let after = term_if q p u o in
     omega (arith, all, before, after)
 
+-- what the holders at p add to the branches at q
+abbrev branch : Path → ℕ → Path × Counts → ℕ
+branch q u e = cond (is_parent q e.0) (one (nat_lt 0 (held_by e.1 u))) 0
+
+branch_if : (q p : Path) (u : ℕ) (o : Option Counts) → of_found path_cmp_total path_cmp_exact (branch q u) p o ≡ cond (is_parent q p) (one (nat_lt 0 (held_if o u))) 0
+branch_if q p u None = neither (is_parent q p)
+branch_if q p u (Some C) = refl
+
+pub branches_set : (T : PathCounts) (p : Path) (o : Option Counts) (q : Path) (u : ℕ)
+    → branches (set_at T p o) q u + cond (is_parent q p) (one (nat_lt 0 (held_at T p u))) 0 ≡ branches T q u + cond (is_parent q p) (one (nat_lt 0 (held_if o u))) 0
+unfolding branches
+branches_set T p o q u =
+    let all : branches (set_at T p o) q u + of_found path_cmp_total path_cmp_exact (branch q u) p (get T p) ≡ branches T q u + of_found path_cmp_total path_cmp_exact (branch q u) p o =
+    sum-set_at path_cmp_total path_cmp_exact (branch q u) T p o in
+    let before = branch_if q p u (get T p) in
+    let after = branch_if q p u o in
+    omega (arith, all, before, after)
+
 -- ---- one holding more or less at one path
 
 pub within : (b c : Bool) → ◌≡◌ {A = ℕ} (cond b (one c) 0) (one (b && c))
@@ -141,22 +160,16 @@ module _ (T T' : PathCounts) (p : Path) (o : Option Counts) (set : T' ≡ set_at
         | false ↦ λ is. refl
       ] refl
 
-  pub changed_below : (q : Path) → held_below T' q u + cond (is_prefix q p) x 0 ≡ held_below T q u + cond (is_prefix q p) y 0
-  changed_below q =
-      let all : held_below T' q u + cond (is_prefix q p) (held_at T p u) 0 ≡ held_below T q u + cond (is_prefix q p) (held_if o u) 0 =
-      ap (λ M. held_below M q u + cond (is_prefix q p) (held_at T p u) 0) set ∙ below_set T p o q u in
-      elim (is_prefix q p) as (λ b. held_below T' q u + cond b (held_at T p u) 0 ≡ held_below T q u + cond b (held_if o u) 0 → held_below T' q u + cond b x 0 ≡ held_below T q u + cond b y 0) [
-        | true ↦ λ z. omega (arith, z, change)
-        | false ↦ λ z. z
-      ] all
+module _ (T T' : PathCounts) (p : Path) (o : Option Counts) (set : T' ≡ set_at T p o) where
+  pub changed_branches : (q : Path) (u : ℕ) → branches T' q u + cond (is_parent q p) (one (nat_lt 0 (held_at T p u))) 0 ≡ branches T q u + cond (is_parent q p) (one (nat_lt 0 (held_if o u))) 0
+  changed_branches q u = ap (λ M. branches M q u + cond (is_parent q p) (one (nat_lt 0 (held_at T p u))) 0) set ∙ branches_set T p o q u
 
-module _ (T T' : PathCounts) (p : Path) (t : ℕ) (o : Option Counts) (set : T' ≡ set_at T p o) where
   pub as_before : ((u : ℕ) → held_if o u ≡ held_at T p u) → IsSame T T'
   as_before same =
       let change : (u : ℕ) → held_if o u + 0 ≡ held_at T p u + 0 = λ u. ap (λ n. n + 0) (same u) in
       record {
         at = λ q u. let z = changed_at T T' p o set 0 0 u (change u) q in let a = neither (same_path q p) in omega (arith, z, a);
-        below = λ q u. let z = changed_below T T' p o set 0 0 u (change u) q in let a = neither (is_prefix q p) in omega (arith, z, a);
+        branched = λ q u. let z = changed_branches q u in let a = ap (λ n. cond (is_parent q p) (one (nat_lt 0 n)) 0) (same u) in omega (arith, z, a);
       }
 
 -- what is at a path is among what is at or below each path with which it begins
@@ -179,3 +192,46 @@ found_below T q u low =
     let w = some_entry path_cmp_total path_cmp_exact (term q u) T low in
     let both = found_term q u w.0 w.2 in
     (w.0.0, both.0, subst (λ r. 0 < held_if r u) (sym w.1) both.1)
+
+-- ---- what is right below a path
+
+-- where something is held right below, it is a branch
+pub branch_counts : (T : PathCounts) (q p : Path) (u : ℕ) → is_parent q p ≡ true → 0 < held_at T p u → 0 < branches T q u
+branch_counts T q p u child low =
+    let some : nat_lt 0 (held_at T p u) ≡ true = grind (arith, nat_tests, low) in
+    let all = branches_set T p None q u in
+    let here : cond (is_parent q p) (one (nat_lt 0 (held_at T p u))) 0 ≡ 1 = (λ i. cond (child i) (one (some i)) 0) in
+    let none : cond (is_parent q p) (one (nat_lt 0 (held_if None u))) 0 ≡ 0 = sym (neither (is_parent q p)) in
+    omega (arith, all, here, none)
+
+-- and where there is a branch, something is held right below
+found_branch_term : (q : Path) (u : ℕ) (e : Path × Counts) → 0 < branch q u e → (is_parent q e.0 ≡ true) × (0 < held_by e.1 u)
+found_branch_term q u e low = elim (is_parent q e.0) as (λ b. is_parent q e.0 ≡ b → 0 < cond b (one (nat_lt 0 (held_by e.1 u))) 0 → (is_parent q e.0 ≡ true) × (0 < held_by e.1 u)) [
+  | true ↦ λ is z. (is, some (held_by e.1 u) z)
+  | false ↦ λ is z. absurd (omega (arith, z))
+] refl low
+  where
+    some : (n : ℕ) → 0 < one (nat_lt 0 n) → 0 < n
+    some zero z = absurd (omega (arith, z))
+    some (suc n) z = omega arith
+
+pub found_branch : (T : PathCounts) (q : Path) (u : ℕ) → 0 < branches T q u → (p : Path) × (is_parent q p ≡ true) × (0 < held_at T p u)
+unfolding branches
+found_branch T q u low =
+    let w = some_entry path_cmp_total path_cmp_exact (branch q u) T low in
+    let both = found_branch_term q u w.0 w.2 in
+    (w.0.0, both.0, subst (λ r. 0 < held_if r u) (sym w.1) both.1)
+
+-- no path at which something is held is longer than all of them
+unfoldable pub longest : PathCounts → ℕ
+longest T = sum_by (λ e. length e.0) (entries T)
+
+pub not_longer : (T : PathCounts) (p : Path) (u : ℕ) → 0 < held_at T p u → length p ≤ longest T
+unfolding longest
+not_longer T p u low = elim (get T p) as (λ o. get T p ≡ o → length p ≤ longest T) [
+  | None ↦ λ none. let zero_here : held_at T p u ≡ 0 = ap (λ o. held_if o u) none in absurd (omega (arith, low, zero_here))
+  | Some C ↦ λ there.
+      let all : longest (set_at T p None) + of_found path_cmp_total path_cmp_exact (λ e. length e.0) p (get T p) ≡ longest T + 0 = sum-set_at path_cmp_total path_cmp_exact (λ e. length e.0) T p None in
+      let own : of_found path_cmp_total path_cmp_exact (λ e. length e.0) p (get T p) ≡ length p = ap (of_found path_cmp_total path_cmp_exact (λ e. length e.0) p) there in
+      omega (arith, all, own)
+] refl

@@ -51,7 +51,7 @@ found_until T p (suc n) u low = elim (one_of_two (held_until T p n u) (held_at T
   | inr l ↦ (take n p, first_names p n, l)
 ]
 
-found_above : (T : PathCounts) (p : Path) (u : ℕ) → 0 < held_above T p u → Begins T p u
+pub found_above : (T : PathCounts) (p : Path) (u : ℕ) → 0 < held_above T p u → Begins T p u
 found_above T p u low = found_until T p (suc (length p)) u low
 
 -- ---- one mark

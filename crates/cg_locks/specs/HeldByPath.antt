@@ -1,13 +1,13 @@
 -- Who holds what at the paths of a tree.
-use Rattle.std.specs.Prelude.{◌≡◌, ℕ, zero, suc, ◌+◌, ◌==◌, ◌&&◌, false, length, map, take, Option, Some, None}
+use Rattle.std.specs.Prelude.{◌≡◌, ℕ, zero, suc, ◌+◌, ◌<◌, ◌≤◌, ◌==◌, ◌&&◌, false, length, map, take, Option, Some, None}
 use Rattle.cg_maps.specs.FiniteMap.{FiniteMap, entries, from_entries, get}
-use Rattle.cg_name.specs.Path.{Path, path_cmp, same_path, is_prefix}
+use Rattle.cg_name.specs.Path.{Path, path_cmp, is_parent, same_path}
 use Rattle.cg_locks.specs.declared.held.Held.{Held}
 use Rattle.cg_locks.specs.declared.held.Kind.{Kind}
 use Rattle.cg_locks.specs.declared.held.Part.{Part}
 use Rattle.cg_locks.specs.declared.held.Part.TheVariants.{ChangedAt, ReadAt, StaysAt, CountedAt, ChangedBelow, ReadBelow, StaysBelow}
 use Rattle.cg_locks.specs.Held.{at_path, part_of, same_kind, same_part, Marked}
-use Rattle.cg_locks.specs.Holders.{PathCounts, held_at, held_below, one, IsSummedUp}
+use Rattle.cg_locks.specs.Holders.{PathCounts, branches, held_at, one, IsSummedUp}
 
 abbrev pub HeldByPath : Type 0
 HeldByPath = FiniteMap path_cmp Held
@@ -19,28 +19,36 @@ in_part s T = from_entries path_cmp (map (λ e. (e.0, part_of s e.1)) (entries T
 abbrev pub marked : HeldByPath → Marked
 marked T = record { changed = in_part ChangedAt T; read = in_part ReadAt T; stays = in_part StaysAt T; descendants = in_part CountedAt T }
 
--- each path has, how often what is at it or below it is held
+-- the parts below have what is at each path and at those right below it
 pub record AreSummedUp (T : HeldByPath) : Type 0 where
   pub changed : IsSummedUp (in_part ChangedAt T) (in_part ChangedBelow T)
   pub read : IsSummedUp (in_part ReadAt T) (in_part ReadBelow T)
   pub stays : IsSummedUp (in_part StaysAt T) (in_part StaysBelow T)
 
--- in T' the transaction t holds one more in the part s at p
+-- in T' the transaction t holds one more in the part s at p: where it held none there, p is one branch more above
 pub record IsOneMoreIn (T : HeldByPath) (s : Part) (p : Path) (t : ℕ) (T' : HeldByPath) : Type 0 where
   pub at : (r : Part) (q : Path) (u : ℕ) → held_at (in_part r T') q u ≡ held_at (in_part r T) q u + one (same_part r s && (same_path q p && (u == t)))
-  pub below : (r : Part) (q : Path) (u : ℕ) → held_below (in_part r T') q u ≡ held_below (in_part r T) q u + one (same_part r s && (is_prefix q p && (u == t)))
+  pub branched : (r : Part) (q : Path) (u : ℕ) → branches (in_part r T') q u ≡ branches (in_part r T) q u + one (same_part r s && (is_parent q p && ((u == t) && (held_at (in_part r T) p u == 0))))
 
--- and so at each path with which p begins
+-- in T' it has one more there than the branches at p tell, and at each other path as many more as in T
 pub record IsOneMoreUp (T : HeldByPath) (s : Part) (p : Path) (t : ℕ) (T' : HeldByPath) : Type 0 where
-  pub at : (r : Part) (q : Path) (u : ℕ) → held_at (in_part r T') q u ≡ held_at (in_part r T) q u + one (same_part r s && (is_prefix q p && (u == t)))
-  pub below : (r : Part) → same_part r s ≡ false → (q : Path) (u : ℕ) → held_below (in_part r T') q u ≡ held_below (in_part r T) q u
+  pub at : (r : Part) → same_part r s ≡ false → (q : Path) (u : ℕ) → held_at (in_part r T') q u ≡ held_at (in_part r T) q u
+  pub beyond : (r : Part) (q : Path) (u : ℕ) → held_at (in_part r T') q u + branches (in_part r T) q u ≡ (held_at (in_part r T) q u + branches (in_part r T') q u) + one (same_part r s && (same_path q p && (u == t)))
+
+-- the transaction has at each path at least as many as the branches tell
+abbrev pub HasBranches : HeldByPath → Part → ℕ → Type 0
+HasBranches T s t = (q : Path) → branches (in_part s T) q t ≤ held_at (in_part s T) q t
+
+-- and more at this one
+abbrev pub HasMoreThanBranches : HeldByPath → Part → ℕ → Path → Type 0
+HasMoreThanBranches T s t p = branches (in_part s T) p t < held_at (in_part s T) p t
 
 -- in T' the same is held
 pub record IsSameHeld (T T' : HeldByPath) : Type 0 where
   pub at : (r : Part) (q : Path) (u : ℕ) → held_at (in_part r T') q u ≡ held_at (in_part r T) q u
-  pub below : (r : Part) (q : Path) (u : ℕ) → held_below (in_part r T') q u ≡ held_below (in_part r T) q u
+  pub branched : (r : Part) (q : Path) (u : ℕ) → branches (in_part r T') q u ≡ branches (in_part r T) q u
 
--- in T' the transaction t holds the mark of the kind k at p once more, and what is at a path or below it is counted as in T
+-- in T' the transaction t holds the mark of the kind k at p once more, and the parts below have what they should as in T
 pub record IsMarkMore (T : HeldByPath) (k : Kind) (p : Path) (t : ℕ) (T' : HeldByPath) : Type 0 where
   pub at : (j : Kind) (q : Path) (u : ℕ) → held_at (in_part (at_path j) T') q u ≡ held_at (in_part (at_path j) T) q u + one (same_kind j k && (same_path q p && (u == t)))
   pub summed : AreSummedUp T → AreSummedUp T'

@@ -6,7 +6,7 @@ use Rattle.std.specs.Option.{unwrap_or}
 use Rattle.std.specs.Ordering.{nat_cmp}
 use Rattle.cg_maps.specs.FiniteMap.{FiniteMap, entries, from_entries, get}
 use Rattle.cg_name.specs.declared.refusal.TxnNumber.{TxnNumber}
-use Rattle.cg_name.specs.Path.{Path, path_cmp, is_prefix}
+use Rattle.cg_name.specs.Path.{Path, path_cmp, is_parent, is_prefix}
 
 -- transactions, each with how often it holds the thing
 abbrev pub Counts : Type 0
@@ -63,14 +63,19 @@ held_above T p u = held_until T p (suc (length p)) u
 abbrev pub one : Bool → ℕ
 one b = cond b 1 0
 
--- in T' the same is held, at each path and at or below it
+-- at how many of the paths right below this one u holds something
+unfoldable pub branches : PathCounts → Path → ℕ → ℕ
+branches T p u = sum_by (λ e. cond (is_parent p e.0) (one (nat_lt 0 (held_by e.1 u))) 0) (entries T)
+
+-- in T' the same is held, at each path and right below it
 pub record IsSame (T T' : PathCounts) : Type 0 where
   pub at : (q : Path) (u : ℕ) → held_at T' q u ≡ held_at T q u
-  pub below : (q : Path) (u : ℕ) → held_below T' q u ≡ held_below T q u
+  pub branched : (q : Path) (u : ℕ) → branches T' q u ≡ branches T q u
 
--- each path has, how often what is at it or below it is held
+-- in B each path has, how often what is at it is held, and at how many of the paths right below it something is:
+-- so it has something where that is held at the path or anywhere below it
 abbrev pub IsSummedUp : PathCounts → PathCounts → Type 0
-IsSummedUp T B = (q : Path) (u : ℕ) → held_at B q u ≡ held_below T q u
+IsSummedUp T B = (q : Path) (u : ℕ) → held_at B q u ≡ held_at T q u + branches B q u
 
 -- another than t, which holds something
 abbrev pub IsOtherHolder : ℕ → (ℕ → ℕ) → ℕ → Type 0

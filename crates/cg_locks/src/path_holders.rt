@@ -1,5 +1,5 @@
 //! The holders of marks at paths, in one tree of them.
-ghost use Rattle.std.specs.Prelude.{◌≡◌, ◌<◌, List, ℕ, OnErr, OnOk, option_map};
+ghost use Rattle.std.specs.Prelude.{◌≡◌, ◌<◌, List, ℕ, None, IsTrue, OnErr, OnOk, option_map};
 ghost use Rattle.cg_locks.specs.Held.{in_way, of_kind, IsMarkedAlike, IsMarkedMore};
 ghost use Rattle.cg_locks.specs.Holders.{held_at, number_of, IsLeastOther};
 ghost use Rattle.cg_locks.specs.declared.held.Kind.{Kind};
@@ -75,6 +75,9 @@ impl PathHolders {
     ) -> Option<TxnNumber>
         ensures { IsLeastOther transaction.0 (in_way self.now kind path.now) (option_map number_of result) }
     {
+        if self.is_alone(kind, path, transaction) {
+            return None;
+        }
         self.nodes.laws();
         match self.nodes.find(path) {
             Some(key) => lesser(
@@ -85,6 +88,24 @@ impl PathHolders {
                 Some((key, _depth)) => least_above(&self.nodes, key, kind, transaction),
                 None => None,
             },
+        }
+    }
+
+    // Whether the root's node tells that no other transaction holds what could clash with a mark of this kind, wherever that
+    // is: all marks of subtrees and of groups that stay are counted there.
+    fn is_alone(&self, kind: Kind, path: &Path, transaction: TxnNumber) -> bool
+        ensures { IsTrue result → IsLeastOther transaction.0 (in_way self.now kind path.now) None }
+    {
+        if kind.at_or_below().is_none() {
+            return false;
+        }
+        self.nodes.laws();
+        match self.nodes.find_prefix(path, 0) {
+            Some(root) => {
+                let held = self.nodes.get(root);
+                held.least_here(Kind::Changed, transaction).is_none()
+            }
+            None => false,
         }
     }
 

@@ -1,10 +1,9 @@
 //! Walks from a node upward, and the nodes that they need.
 ghost use Rattle.std.specs.Prelude.{◌≡◌, ◌<◌, ◌≤◌, true, List, ℕ, IfOk, None, OnErr, OnOk, Some, length, option_map, suc, take, IsSome};
 ghost use Rattle.cg_maps.specs.FiniteMap.{get, set_at};
-ghost use Rattle.cg_name.specs.Path.{is_prefix};
 ghost use Rattle.cg_path_tree.specs.Nodes.{HasParent, IsKey};
 ghost use Rattle.cg_locks.specs.Held.{above_of, at_path};
-ghost use Rattle.cg_locks.specs.HeldByPath.{in_part, weighed_above, AreSummedUp, IsMarkMore, IsOneMoreIn, IsOneMoreUp, IsSameHeld};
+ghost use Rattle.cg_locks.specs.HeldByPath.{in_part, weighed_above, AreSummedUp, HasBranches, HasMoreThanBranches, IsMarkMore, IsOneMoreIn, IsOneMoreUp, IsSameHeld};
 ghost use Rattle.cg_locks.specs.Holders.{held_at, number_of, IsLeastOther};
 
 use crate::held::{Held, Kind, Part};
@@ -57,8 +56,17 @@ fn remove_at(nodes: &mut PathTree<Held>, key: NodeKey, part: Part, transaction: 
     nodes.get_mut(key).remove(part, transaction);
 }
 
-// One holding more by the transaction in this part of the node and of each above. An error, where there is no memory for
-// them, leaves what was held.
+// How often the transaction holds what is in this part of the node.
+fn count_at(nodes: &PathTree<Held>, key: NodeKey, part: Part, transaction: TxnNumber) -> usize
+    requires { IsKey nodes.now.keys key }
+    ensures { (p : List (List ℕ)) → get nodes.now.keys p ≡ Some key → result ≡ held_at (in_part part nodes.now.values) p transaction.0 }
+{
+    nodes.get(key).part(part).count(transaction)
+}
+
+// One holding more by the transaction in this part of the node. Where that is its first there, the node above has one more
+// too: it counts the nodes right below it at which something is held, and not how often. An error, where there is no memory
+// for them, leaves what was held.
 fn add_up(
     nodes: &mut PathTree<Held>,
     key: NodeKey,
@@ -72,6 +80,9 @@ fn add_up(
 {
     nodes.laws();
     add_at(nodes, key, part, transaction)?;
+    if count_at(nodes, key, part, transaction) > 1 {
+        return Ok(());
+    }
     let Some(parent) = nodes.parent(key) else {
         return Ok(());
     };
@@ -82,15 +93,20 @@ fn add_up(
     added
 }
 
-// One holding less by the transaction in this part of the node and of each above, where it has one.
+// One holding less by the transaction in this part of the node, where it has one that no node below brought. Where that was
+// its last there, the node above has one less too.
 fn remove_up(nodes: &mut PathTree<Held>, key: NodeKey, part: Part, transaction: TxnNumber)
     requires there { IsKey nodes.old.keys key }
-    requires held { (p q : List (List ℕ)) → get nodes.old.keys p ≡ Some key → is_prefix q p ≡ true → 0 < held_at (in_part part nodes.old.values) q transaction.0 }
+    requires branches { HasBranches nodes.old.values part transaction.0 }
+    requires more { (p : List (List ℕ)) → get nodes.old.keys p ≡ Some key → HasMoreThanBranches nodes.old.values part transaction.0 p }
     ensures keys { nodes.new.keys ≡ nodes.old.keys }
     ensures less { (p : List (List ℕ)) → get nodes.old.keys p ≡ Some key → IsOneMoreUp nodes.new.values part p transaction.0 nodes.old.values }
 {
     nodes.laws();
     remove_at(nodes, key, part, transaction);
+    if count_at(nodes, key, part, transaction) > 0 {
+        return;
+    }
     if let Some(parent) = nodes.parent(key) {
         remove_up(nodes, parent, part, transaction);
     }

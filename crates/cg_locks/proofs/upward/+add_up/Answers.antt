@@ -1,17 +1,24 @@
--- One more here, and then above; where that fails, one less here again.
+-- One more here, and, where it is the first, one more above; where that fails, one less here again.
 use Rattle.std.proofs.Common.{◌≡◌, ◌<◌, length, sym, ap, subst, ◌∙◌, arith}
 use Rattle.std.proofs.lemmas.Result.{on_ok_weaker, on_err_weaker}
 use Rattle.cg_path_tree.specs.Nodes.{parent_path, path_of, HaveOnePath}
 use Rattle.cg_locks.proofs.HeldMaps.{undone}
 use Rattle.cg_locks.proofs.Keys.{above_of_key, at_root, same_key, shorter}
 use Rattle.cg_locks.proofs.Results.{went_wrong}
-use Rattle.cg_locks.proofs.Walks.{added_is_held, up_next, up_root}
+use Rattle.cg_locks.proofs.Walks.{added_is_held, one_more_at, up_next, up_root, up_stop}
 use Rattle.cg_locks.proofs.upward.+add_up.Goals as goal
+
+pub returns-then-count_at-gt1-clause-ok : goal.returns-then-count_at-gt1-clause-ok
+returns-then-count_at-gt1-clause-ok t c = λ p h.
+    let more = c.in_ok-add_at.ensures.ok p h in
+    let many = c.count_at.ensures p (same_key c.args.nodes.now.keys c.add_at.new.nodes.keys p c.args.key c.in_ok-add_at.ensures.keys h) in
+    let one = one_more_at c.args.nodes.now.values c.add_at.new.nodes.values c.args.part p c.args.transaction.0 more in
+    up_stop c.args.nodes.now.values c.add_at.new.nodes.values c.args.part p c.args.transaction.0 more (omega (arith, c.if-count_at-gt1.true, many, one))
 
 pub returns-in_default-clause-ok : goal.returns-in_default-clause-ok
 returns-in_default-clause-ok t c = λ p h.
-    up_root c.args.nodes.now.values c.add_at.new.nodes.values c.args.part p c.args.transaction.0
-    (at_root p (c.in_default.ensures.root p (same_key c.args.nodes.now.keys c.add_at.new.nodes.keys p c.args.key c.in_ok-add_at.ensures.keys h))) (c.in_ok-add_at.ensures.ok p h)
+    up_root c.args.nodes.now.values c.add_at.new.nodes.values c.args.part p c.args.transaction.0 (c.in_ok-add_at.ensures.ok p h)
+    (at_root p (c.in_default.ensures.root p (same_key c.args.nodes.now.keys c.add_at.new.nodes.keys p c.args.key c.in_ok-add_at.ensures.keys h)))
 
 pub add_up-added-requires : goal.add_up-added-requires
 add_up-added-requires t c =
@@ -42,6 +49,9 @@ pub returns-else-is_err-clause-ok : goal.returns-else-is_err-clause-ok
 returns-else-is_err-clause-ok t c =
     let keys = c.add_at.new.nodes.keys in
     on_ok_weaker c.add_up-added.result (λ up p h.
+    let more = c.in_ok-add_at.ensures.ok p h in
     let first = same_key c.args.nodes.now.keys keys p c.args.key c.in_ok-add_at.ensures.keys h in
+    let many = c.count_at.ensures p first in
+    let one = one_more_at c.args.nodes.now.values c.add_at.new.nodes.values c.args.part p c.args.transaction.0 more in
     let above = above_of_key keys c.args.key c.in-Some.parent (λ q k. c.in-Some.ensures.root q k) (λ q k r. c.in-Some.ensures.value q k r) p first in
-    up_next c.args.nodes.now.values c.add_at.new.nodes.values c.add_up-added.new.nodes.values c.args.part p c.args.transaction.0 above.root (c.in_ok-add_at.ensures.ok p h) (up (parent_path p) above.there)) c.add_up-added.ensures.ok
+    up_next c.args.nodes.now.values c.add_at.new.nodes.values c.add_up-added.new.nodes.values c.args.part p c.args.transaction.0 above.root (omega (arith, c.if-count_at-gt1.false, many, one)) more (up (parent_path p) above.there)) c.add_up-added.ensures.ok
