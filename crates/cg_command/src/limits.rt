@@ -11,6 +11,9 @@ use cg_tree::{Ancestor, Tree};
 pub(crate) fn too_many(path: &Path, tree: &Tree) -> bool
     ensures { result ≡ too_many tree.now.tree path.now }
 {
+    if !tree.may_limit() {
+        return false;
+    }
     tree.above(path).any(|above| reaches_descendants(&above))
 }
 
@@ -18,6 +21,9 @@ pub(crate) fn too_many(path: &Path, tree: &Tree) -> bool
 pub(crate) fn too_deep(path: &Path, tree: &Tree) -> bool
     ensures { result ≡ too_deep tree.now.tree path.now }
 {
+    if !tree.may_limit() {
+        return false;
+    }
     let depth = path.depth();
     tree.above(path).any(|above| exceeds_depth(&above, depth))
 }

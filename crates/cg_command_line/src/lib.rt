@@ -12,6 +12,9 @@ use clap::error::ErrorKind;
 use clap::{Arg, ArgMatches, Command, Error, value_parser};
 use std::alloc::{AllocError, Global};
 
+// The version of the program.
+const VERSION: &str = "0.1.0";
+
 // The word that names standard input.
 const STANDARD_INPUT: &str = "-";
 
@@ -38,11 +41,11 @@ pub enum Asked<'a> {
 /// Why the words of a command line ask for nothing.
 #[derive(Clone, Copy, Debug, PartialEq, Eq, thiserror::Error)]
 pub enum Unasked {
-    /// They asked for help, which stands on standard output.
-    #[error("the words ask for help")]
+    /// They asked for help or for the version, which stands on standard output.
+    #[error("the words ask for help or for the version")]
     Helped,
-    /// They asked for help, and standard output didn't take it.
-    #[error("the help is not written")]
+    /// They asked for one of these, and standard output didn't take it.
+    #[error("the help or the version is not written")]
     Unwritten,
     /// They aren't in the grammar, as standard error says.
     #[error("the words are not in the grammar")]
@@ -62,7 +65,7 @@ impl From<AllocError> for Unasked {
 }
 
 /// What the words ask for, the program's name first. With no words beside it that is to replay standard input alone.
-/// Help goes to standard output, and what is wrong with the words to standard error.
+/// Help and the version go to standard output, and what is wrong with the words to standard error.
 pub fn read_command_line<'a, R: Print + Eprint + AllocGlobal>(
     rt: &R,
     words: &'a [String],
@@ -119,7 +122,7 @@ fn number(given: &ArgMatches<'_>, id: &str, most: u32) -> u32
     given.get_one::<u32>(id).unwrap_or(1).clamp(1, most)
 }
 
-// Prints help on standard output and what is wrong with the words on standard error.
+// Prints help or the version on standard output and what is wrong with the words on standard error.
 fn answer<R: Print + Eprint>(rt: &R, error: &Error) -> Unasked {
     if error.kind() == ErrorKind::OutOfMemory {
         return Unasked::Memory;
@@ -135,6 +138,7 @@ fn answer<R: Print + Eprint>(rt: &R, error: &Error) -> Unasked {
 fn command<'a>(alloc: Global) -> Result<Command<'a>, AllocError> {
     Command::new(alloc, "cgtx")
         .bin_name("cgtx")?
+        .version(VERSION)
         .about(
             "Replays schedules and runs scripts of requests against a tree of control groups, and shows its files.",
         )

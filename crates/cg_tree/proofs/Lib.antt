@@ -14,6 +14,7 @@ mod Rising
 mod Rooms
 mod Rooting
 mod Seeing
+mod Unlimited
 mod Unordered
 mod WorldGroups
 pub mod Downward

@@ -10,4 +10,5 @@ pub mod Prefix
 pub mod Present
 pub mod Room
 pub mod Seen
+pub mod Unlimited
 pub mod Upward

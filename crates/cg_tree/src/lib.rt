@@ -7,6 +7,7 @@ mod counting;
 mod edit;
 mod entry;
 mod groups;
+mod limits;
 mod listed;
 mod looking;
 mod pids;

@@ -1,11 +1,12 @@
 //! Groups and processes, and which paths have an entry.
-ghost use Rattle.std.specs.Prelude.{◌≡◌, ◌↔◌, IsTrue, is_some, true, Some, IfOk, IfSome, IsOk, IsSome, OnOk, OnErr, slice_get};
+ghost use Rattle.std.specs.Prelude.{◌≡◌, ◌↔◌, IsTrue, is_some, false, true, Some, IfOk, IfSome, IsOk, IsSome, OnOk, OnErr, slice_get};
 ghost use Rattle.cg_maps.specs.FiniteMap.{domain, entries, keys, set_at};
 ghost use Rattle.cg_model.specs.Sound.{Sound};
 ghost use Rattle.cg_model.specs.Key.{replaced};
 ghost use Rattle.cg_model.specs.Tree.{group, place_of};
 ghost use Rattle.cg_model.specs.Derived.{is_in, is_in_subtree};
 ghost use Rattle.cg_tree.specs.Edit.{edited, needed_entry, RoomForEdit};
+ghost use Rattle.cg_tree.specs.Unlimited.{AreUnlimited};
 ghost use Rattle.cg_tree.specs.Present.{present};
 ghost use Rattle.cg_tree.specs.Prefix.{prefix_group};
 ghost use Rattle.cg_tree.specs.Room.{has_entry, may_have_entry, with_entry, without_dead, IsRooted, MaySweepIfDead};
@@ -13,6 +14,7 @@ ghost use Rattle.cg_world.specs.Representable.{AreCpusUpTo};
 
 use crate::edit::Edit;
 use crate::groups::Groups;
+use crate::limits::{has_limit, have_limit};
 use crate::pids::Pids;
 use crate::placed::Placed;
 use crate::worlds::{add_groups, add_places, add_processes, pids_of, with_entries};
@@ -32,6 +34,8 @@ pub struct Tree {
     groups: Groups,
     // The PIDs of all processes, ascending. No process comes or goes.
     pids: Vec<u32>,
+    // Whether a group may have a limit: not as long as none ever had one.
+    may_limit: bool,
 }
 
 // By hand, so that whoever drops one calls this, and doesn't drop each thing in it: that makes proofs shorter.
@@ -42,6 +46,7 @@ impl Drop for Tree {
             online: _,
             groups: _,
             pids: _,
+            may_limit: _,
         } = self;
     }
 }
@@ -75,6 +80,7 @@ impl Tree {
             online,
             groups,
             pids: pids_of(alloc, &places)?,
+            may_limit: have_limit(&listed),
         })
     }
 
@@ -101,6 +107,14 @@ impl Tree {
         ensures { result ≡ self.now.tree.online }
     {
         self.online
+    }
+
+    /// Whether some group may have a limit other than `max`, on its descendants or on its depth. Where the answer is no, none has;
+    /// it is no as long as none had one in the world or since.
+    pub fn may_limit(&self) -> bool
+        ensures { result ≡ false → AreUnlimited self.now.tree.groups }
+    {
+        self.may_limit
     }
 
     /// Whether there is a group at the path.
@@ -299,6 +313,7 @@ impl Tree {
         // The path and the CPUs tell what holds of them.
         let _ = path.names();
         tell_cpus(&settings);
+        self.may_limit |= has_limit(&settings);
         self.groups.replace(path, settings);
     }
 

@@ -2,6 +2,7 @@ use Rattle.std.proofs.Common.{sym, ap, subst, ◌∙◌}
 use Rattle.cg_maps.specs.FiniteMap.{domain, keys}
 use Rattle.cg_model.specs.Tree.{Tree}
 use Rattle.cg_tree.specs.declared.tree.Tree.TheInside.{Inside}
+use Rattle.cg_tree.specs.Unlimited.{AreUnlimited}
 use Rattle.cg_tree.specs.Present.{present}
 use Rattle.cg_tree.specs.Room.{IsRooted, HaveParents}
 use Rattle.cg_tree.proofs.WorldGroups.{sound_parents}
@@ -22,6 +23,7 @@ invariant_of-result c =
       online = c.into_parts-online.result.1;
       groups = c.add_processes.new.groups;
       pids = c.in_ok-pids_of.field-0;
+      may_limit = c.have_limit.result;
     } in
     let groups = c.add_processes.ensures.groups in
     record {
@@ -30,4 +32,5 @@ invariant_of-result c =
           (sym (world_room made c.args.world (c.into_parts-online.ensures ∙ c.into_tree.ensures.value) (ap present groups ∙ c.in_ok-groups.ensures.groups) (ap domain groups ∙ c.in_ok-groups.ensures.entries) c.in_ok-add_processes.ensures.places))
           (sound_rooted c.args.world c.into_tree.ensures.sound c.into_tree.ensures.valid);
       pids = c.in_ok-pids_of.ensures ∙ ap keys (sym c.in_ok-add_processes.ensures.places);
+      unlimited = λ no. subst AreUnlimited (sym (ap present groups ∙ c.in_ok-groups.ensures.groups)) (c.have_limit.ensures no);
     }

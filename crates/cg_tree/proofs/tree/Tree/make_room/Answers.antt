@@ -3,6 +3,7 @@ use Rattle.std.proofs.Common.{◌≡◌, true, Some, IfSome, sym, ap, subst, ◌
 use Rattle.std.proofs.lemmas.Bool.{false≢true}
 use Rattle.cg_maps.specs.FiniteMap.{set_at, domain, keys}
 use Rattle.cg_tree.specs.Inside.{room_of}
+use Rattle.cg_tree.specs.Unlimited.{AreUnlimited}
 use Rattle.cg_tree.specs.Room.{IsRooted, has_entry, may_have_entry, with_entry}
 use Rattle.cg_tree.proofs.Edits.{needed_room, none_needed, room_needed}
 use Rattle.cg_tree.proofs.Rooms.{entry_made, entry_there, entry_same, none_there, parent_has_entry, with_map}
@@ -29,6 +30,7 @@ invariant_of-self c =
     record {
       rooted = subst IsRooted (sym (made c)) (entry_put (room_of c.self.inside) c.in-Some.path.now c.self.invariant.rooted (ap (λ t. may_have_entry t.tree c.in-Some.path.now) c.self.view_is ∙ may));
       pids = c.self.invariant.pids ∙ ap keys (sym c.insert.ensures.places);
+      unlimited = λ no. subst AreUnlimited (sym (ap (λ t. t.tree.groups) (made c))) (c.self.invariant.unlimited no);
     }
 
 pub returns-in_ok-insert-clause-tree : goal.returns-in_ok-insert-clause-tree

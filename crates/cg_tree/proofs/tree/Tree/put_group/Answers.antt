@@ -3,7 +3,10 @@ use Rattle.cg_maps.specs.FiniteMap.{get, keys}
 use Rattle.cg_text.specs.declared.settings.Settings.{Settings}
 use Rattle.cg_tree.specs.Contents.{Contents}
 use Rattle.cg_tree.specs.Inside.{room_of}
+use Rattle.cg_tree.specs.Unlimited.{AreUnlimited}
+use Rattle.cg_tree.specs.Present.{present}
 use Rattle.cg_tree.specs.Room.{IsRooted, has_entry}
+use Rattle.cg_tree.proofs.Unlimited.{first_false, second_false, unlimited_put}
 use Rattle.cg_tree.proofs.Rooms.{group_written, nothing_written, with_map}
 use Rattle.cg_tree.proofs.Rooting.{with_group, group_put}
 use Rattle.cg_tree.proofs.tree.Tree.put_group.Goals as goal
@@ -25,6 +28,9 @@ invariant_of-self c = record {
   rooted = subst IsRooted (sym (same_room c))
       (group_put (room_of c.self.inside) c.args.path.now c.args.settings c.self.invariant.rooted c.names.ensures.valid c.tell_cpus.ensures (room_before c));
   pids = c.self.invariant.pids ∙ ap keys (sym c.replace.ensures.places);
+  unlimited = λ no.
+      subst AreUnlimited (sym (ap (λ t. t.tree.groups) (same_room c)))
+      (unlimited_put (present c.self.inside.groups.groups) c.args.path.now c.args.settings (c.self.invariant.unlimited (first_false c.self.inside.may_limit c.has_limit.result no)) (c.has_limit.ensures (second_false c.self.inside.may_limit c.has_limit.result no)));
 }
 
 pub returns-clause-tree : goal.returns-clause-tree

@@ -2,6 +2,7 @@
 use Rattle.std.proofs.Common.{◌≡◌, sym, ap, subst, ◌∙◌}
 use Rattle.cg_maps.specs.FiniteMap.{keys}
 use Rattle.cg_tree.specs.Inside.{room_of}
+use Rattle.cg_tree.specs.Unlimited.{AreUnlimited}
 use Rattle.cg_tree.specs.Room.{IsRooted, has_entry}
 use Rattle.cg_tree.proofs.Places.{place_written, same_pids}
 use Rattle.cg_tree.proofs.Rooms.{entry_there}
@@ -20,6 +21,7 @@ invariant_of-self c = record {
       subst IsRooted (sym (same_room c))
       (place_put (room_of c.self.inside) c.args.pid c.args.path.now c.self.invariant.rooted c.names.ensures.valid (ap (λ t. has_entry t c.args.path.now) c.self.view_is ∙ c.requires));
   pids = c.self.invariant.pids ∙ sym (same_pids c.self.inside.groups.places c.args.pid c.args.path.now) ∙ ap keys (sym c.put_process.ensures.places);
+  unlimited = λ no. subst AreUnlimited (sym (ap (λ t. t.tree.groups) (same_room c))) (c.self.invariant.unlimited no);
 }
 
 pub returns-clause-tree : goal.returns-clause-tree

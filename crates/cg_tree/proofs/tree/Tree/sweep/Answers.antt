@@ -3,6 +3,7 @@ use Rattle.std.proofs.Common.{◌≡◌, None, refl, sym, ap, subst, ◌∙◌}
 use Rattle.cg_maps.specs.FiniteMap.{set_at, domain, keys}
 use Rattle.cg_model.specs.Tree.{group}
 use Rattle.cg_tree.specs.Inside.{room_of}
+use Rattle.cg_tree.specs.Unlimited.{AreUnlimited}
 use Rattle.cg_tree.specs.Room.{IsRooted, MaySweepIfDead}
 use Rattle.cg_tree.proofs.Rooms.{entry_removed, none_in_it, none_right_below, none_there, settings_there, with_map, dead_swept}
 use Rattle.cg_tree.proofs.Rooting.{with_entries, entry_swept_if_dead}
@@ -30,6 +31,7 @@ invariant_of-self c = record {
       (entry_swept_if_dead (room_of c.self.inside) c.args.path.now c.self.invariant.rooted (ap (λ t. group t.tree c.args.path.now) c.self.view_is ∙ no_group c)
       (subst (λ t. MaySweepIfDead t c.args.path.now) (sym c.self.view_is) c.requires));
   pids = c.self.invariant.pids ∙ ap keys (sym c.remove.ensures.places);
+  unlimited = λ no. subst AreUnlimited (sym (ap (λ t. t.tree.groups) (removed c))) (c.self.invariant.unlimited no);
 }
 
 pub returns-then-not-find-clause-tree : goal.returns-then-not-find-clause-tree

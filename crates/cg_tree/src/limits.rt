@@ -1,0 +1,44 @@
+// Which groups have limits.
+ghost use Rattle.std.specs.Prelude.{◌≡◌, false, IfSome};
+ghost use Rattle.cg_maps.specs.FiniteMap.{from_entries};
+ghost use Rattle.cg_name.specs.Path.{path_cmp};
+ghost use Rattle.cg_tree.specs.Unlimited.{AreUnlimited, IsUnlimited};
+
+use cg_name::Path;
+use cg_text::{Limit, Settings};
+use std::collections::BTreeMap;
+
+// Whether one of a group's limits isn't `max`.
+fn is_limited(settings: &Settings) -> bool
+    ensures { result ≡ false → IsUnlimited settings.now }
+{
+    match settings.max_descendants {
+        Limit::Max => match settings.max_depth {
+            Limit::Max => false,
+            Limit::UpTo(_) => true,
+        },
+        Limit::UpTo(_) => true,
+    }
+}
+
+// The same of settings that may be missing.
+pub(crate) fn has_limit(settings: &Option<Settings>) -> bool
+    ensures { result ≡ false → IfSome settings.now IsUnlimited }
+{
+    match settings {
+        Some(settings) => is_limited(settings),
+        None => false,
+    }
+}
+
+// Whether one of these groups has such a limit.
+pub(crate) fn have_limit(listed: &BTreeMap<Path, Settings>) -> bool
+    ensures { result ≡ false → AreUnlimited (from_entries path_cmp listed.now.entries) }
+{
+    for (_, settings) in listed {
+        if is_limited(settings) {
+            return true;
+        }
+    }
+    false
+}
