@@ -135,9 +135,10 @@ fn with_counts(alloc: Global, path: &Path, tree: &Tree) -> Result<Footprint, All
     ensures { IfOk result (λ f. f ≡ model.X path.now ∷ counts tree.now.tree path.now) }
 {
     let mut footprint = of_change(alloc, path)?;
-    if tree.may_limit() {
-        footprint.push_counts(alloc, path, tree.above(path))?;
+    if !tree.may_limit() {
+        return Ok(footprint);
     }
+    footprint.push_counts(alloc, path, tree.above(path))?;
     Ok(footprint)
 }
 
