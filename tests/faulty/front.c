@@ -1,6 +1,7 @@
-/* Loaded in front of the C library (LD_PRELOAD): refuses growths of memory, and lets reads and writes fail, come short or be
-   interrupted. What it does, and what it has counted, stands in a page that it shares with whoever started the program: the
-   file named by FRONT_PAGE. tests/faulty/front.py has the other side. */
+/* Loaded in front of the C library (LD_PRELOAD), or linked into a program: refuses growths of memory, and lets reads and writes
+   fail, come short or be interrupted. What it does, and what it has counted, stands in a page that it shares with whoever started
+   the program, or with the program itself: the file named by FRONT_PAGE, or else the file `page` in the folder where it runs.
+   tests/faulty/front.py has the other side, and tests/calling. */
 #define _GNU_SOURCE
 #include <errno.h>
 #include <fcntl.h>
@@ -28,15 +29,19 @@ struct page {
 
 static struct page *page;
 
-void *__libc_malloc(size_t);
-void *__libc_calloc(size_t, size_t);
-void *__libc_realloc(void *, size_t);
-void *__libc_memalign(size_t, size_t);
+/* What gives the memory: the C library, or what is named when this is compiled, as AddressSanitizer is. */
+#ifndef BELOW
+#define BELOW(name) __libc_##name
+#endif
+void *BELOW(malloc)(size_t);
+void *BELOW(calloc)(size_t, size_t);
+void *BELOW(realloc)(void *, size_t);
+void *BELOW(memalign)(size_t, size_t);
 
 __attribute__((constructor)) static void begin(void)
 {
     const char *name = getenv("FRONT_PAGE");
-    int file = name ? open(name, O_RDWR | O_CLOEXEC) : -1;
+    int file = open(name ? name : "page", O_RDWR | O_CLOEXEC);
     if (file < 0)
         _exit(99);
     void *found = mmap(NULL, sizeof *page, PROT_READ | PROT_WRITE, MAP_SHARED, file, 0);
@@ -64,22 +69,22 @@ static int is_refused(void)
 
 void *malloc(size_t size)
 {
-    return is_refused() ? NULL : __libc_malloc(size);
+    return is_refused() ? NULL : BELOW(malloc)(size);
 }
 
 void *calloc(size_t count, size_t size)
 {
-    return is_refused() ? NULL : __libc_calloc(count, size);
+    return is_refused() ? NULL : BELOW(calloc)(count, size);
 }
 
 void *realloc(void *at, size_t size)
 {
-    return is_refused() ? NULL : __libc_realloc(at, size);
+    return is_refused() ? NULL : BELOW(realloc)(at, size);
 }
 
 void *memalign(size_t alignment, size_t size)
 {
-    return is_refused() ? NULL : __libc_memalign(alignment, size);
+    return is_refused() ? NULL : BELOW(memalign)(alignment, size);
 }
 
 void *aligned_alloc(size_t alignment, size_t size)

@@ -11,6 +11,7 @@ import tempfile
 HERE = os.path.dirname(os.path.realpath(__file__))
 COUNTS = ("growths", "reads", "writes")
 DONE = ("growth", "growths_from", "read", "reads_from", "write", "writes_from", "read_bytes", "write_bytes", "interrupted")
+PAGE = mmap.PAGESIZE
 
 
 class Page(ctypes.Structure):
@@ -36,12 +37,21 @@ def loaded(name):
     return module
 
 
+def compile_to(file, *how):
+    """Compiles the library to this file, and returns that."""
+    words = [os.environ.get("CC", "cc"), "-O2", "-Wall", "-Werror", "-fPIC", *how, "-o", file, f"{HERE}/front.c"]
+    subprocess.run(words, check=True)
+    return file
+
+
 def build(folder):
     """Compiles the library, and returns where it lies."""
-    library = f"{folder}/front.so"
-    words = [os.environ.get("CC", "cc"), "-O2", "-Wall", "-Werror", "-shared", "-fPIC", "-o", library, f"{HERE}/front.c"]
-    subprocess.run(words, check=True)
-    return library
+    return compile_to(f"{folder}/front.so", "-shared")
+
+
+def build_object(folder):
+    """Compiles it to be linked into a program that gets its memory from AddressSanitizer, and returns where it lies."""
+    return compile_to(f"{folder}/front.o", "-c", "-DBELOW(name)=___interceptor_##name")
 
 
 def page(folder):
