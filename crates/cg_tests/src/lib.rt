@@ -16,3 +16,5 @@ mod printed;
 mod replaying;
 #[cfg(test)]
 mod runner;
+#[cfg(test)]
+mod telling;

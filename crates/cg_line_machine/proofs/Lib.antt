@@ -1,0 +1,3 @@
+mod LineSteps
+mod NoFile
+mod SameRefusal
