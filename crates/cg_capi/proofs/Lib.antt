@@ -1,0 +1,4 @@
+mod Behind
+mod HeldValues
+mod Opening
+mod Values
