@@ -2,7 +2,7 @@
 PREFIX ?= /usr/local
 PROGRAM = crates/cgtx/out/cgtx
 
-# Proves and builds the program, with as many processors as there are; what is built and unchanged is left as it is.
+# Proves and builds the program and the library for C, with as many processors as there are; what is built and unchanged is left as it is.
 all:
 	tests/prove --program
 
@@ -16,6 +16,10 @@ check:
 
 install: all
 	install -D -m 755 $(PROGRAM) $(DESTDIR)$(PREFIX)/bin/cgtx
+	install -D -m 644 include/cgtx.h $(DESTDIR)$(PREFIX)/include/cgtx.h
+	tests/c_library --archive $(DESTDIR)$(PREFIX)/lib/libcgtx.a
+	mkdir -p $(DESTDIR)$(PREFIX)/lib/pkgconfig
+	sed 's|@PREFIX@|$(PREFIX)|' include/cgtx.pc.in > $(DESTDIR)$(PREFIX)/lib/pkgconfig/cgtx.pc
 
 # The same as all, and the processor seconds of each crate.
 seconds:

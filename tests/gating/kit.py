@@ -52,6 +52,12 @@ class Crate(rt.Crate):
             it.write(self.sum)
         return True
 
+    def prove_static(self, jobs):
+        """Proves a static library over its kept work, if there is any, and makes its archive. Returns whether that went well."""
+        os.makedirs(f"{self.folder}/out", exist_ok=True)
+        words = ["--jobs", str(jobs)]
+        return not (self.prove(["check", *self.words(words), *rtlib.KEPT]) or self.build_static(words))
+
     def prove_program(self, jobs, compilers):
         """Proves the program from nothing, and lets each of these compilers take what was proved, side by side. Returns whether that
         went well."""

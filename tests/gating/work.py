@@ -35,17 +35,24 @@ class Tally:
 
 
 def proof(crate, jobs, tally, compilers):
-    """Proves the crate; of a program, builds it by these compilers."""
+    """Proves the crate; builds a program by these compilers, and of a static library its archive."""
     crate, began = copy.copy(crate), time.monotonic()
     with tempfile.TemporaryFile("w+", errors="replace") as crate.out:
         why = kit.fault_in_texts(crate)
-        is_well = not why and (crate.prove_program(jobs, compilers) if crate.is_program else crate.prove_library(jobs))
+        is_well = not why and made(crate, jobs, compilers)
         crate.out.seek(0)
         said = crate.out.read()
     found = re.search(r"^logic=proved functions=(\d+)", said, re.M)
     text = f"{crate.name}: {found[1]} functions proved in {time.monotonic() - began:.0f} seconds" if is_well and found else ""
     tally.note(is_well, crate.name, text if is_well else f"{crate.name} is not proved: {why or ''}\n{said}")
     return is_well
+
+
+def made(crate, jobs, compilers):
+    """Proves the crate, and makes of it what others use. Returns whether that went well."""
+    if crate.is_program:
+        return crate.prove_program(jobs, compilers)
+    return crate.prove_static(jobs) if crate.is_static else crate.prove_library(jobs)
 
 
 def wrong_bodies(crate, jobs, tally):
@@ -77,7 +84,7 @@ def tasks_of(found, tally, kinds, is_kept=False):
         if has_tests and crate.name not in stood_on:
             continue
         below = [(it.name, "proof") for it in crate.deps]
-        done = is_kept and not crate.is_program and crate.is_built()
+        done = is_kept and crate.makes_rlib() and crate.is_built()
         yield lanes.Task(crate.name, "proof", below, lines, needs, lambda jobs, it=crate, done=done: done or proof(it, jobs, tally, compilers))
         wrong = sum(map(len, kit.rt.edits_of(crate)))
         if "edits" in kinds and wrong:
