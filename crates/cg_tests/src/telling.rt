@@ -87,7 +87,15 @@ fn lines_are_answered_and_told(rt: HostRuntime) -> Result<(), Fail> {
         assert_told(&rt, &teller, told, (status, text));
     }
     let told = teller.tell_answer();
-    assert_told(&rt, &teller, told, (Status::Refused(Refusal::NoTransaction), "refused 2 notransaction"));
+    assert_told(
+        &rt,
+        &teller,
+        told,
+        (
+            Status::Refused(Refusal::NoTransaction),
+            "refused 2 notransaction",
+        ),
+    );
     assert_eq!(rt; teller.open_count(), 1);
     let told = teller.abort_oldest(alloc);
     assert_told(&rt, &teller, told, (Status::Done, "aborted 2"));
