@@ -16,3 +16,5 @@ mod Slots
 mod Stages
 mod Stepping
 mod TheLaws
+-- where the commands on a stack have their records
+mod CommitPlaces

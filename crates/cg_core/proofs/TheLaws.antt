@@ -1,6 +1,7 @@
 -- The laws of what any steps lead to, as the definitions have them.
 use Rattle.cg_model.specs.Cgroups.{cgroups}
 use Rattle.cg_model.specs.Machine.{opened, steps}
+use Rattle.cg_core_laws.specs.CommittedCommands.{CommitsByCommands}
 use Rattle.cg_core_laws.specs.Laws as laws
 use Rattle.cg_core_laws.specs.Laws.{LiveKeysApart}
 use Rattle.cg_core_laws.specs.MachineOf.{StepsByHistory}
@@ -11,6 +12,7 @@ use Rattle.cg_core_laws.proofs.ControlGroups.LiveKeysApart.{keys_of_others_apart
 use Rattle.cg_core_laws.proofs.ControlGroups.RoomForGoingBack.{room_kept}
 use Rattle.cg_core_laws.proofs.ControlGroups.SteppingOn as stepping
 use Rattle.cg_core_laws.proofs.Interleaving.AbortsAtTheEnd.{ends_all}
+use Rattle.cg_core_laws.proofs.Interleaving.CommitsByCommands.{are_commits}
 use Rattle.cg_core_laws.proofs.Interleaving.Theorem.{by_log, serial, faithful, going_back, others_untouched}
 
 pub serial_law : laws.Serial
@@ -48,3 +50,7 @@ oldest_law opening bound requests sound proper =
 
 pub room_law : laws.Roomy
 room_law opening bound requests sound proper = room_kept opening _ (serial cgroups groups.laws opening sound bound requests proper)
+
+pub commits_law : CommitsByCommands
+commits_law opening bound requests sound proper =
+    are_commits cgroups opening _ _ (faithful cgroups groups.laws opening sound bound requests proper).legal (serial cgroups groups.laws opening sound bound requests proper).commits

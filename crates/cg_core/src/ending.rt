@@ -5,7 +5,6 @@ ghost use Rattle.cg_core.specs.Ending.{asked_by};
 ghost use Rattle.cg_core.specs.State.{after, reply};
 ghost use Rattle.cg_history.specs.Meaning.{answer_of};
 
-use crate::answers::twice;
 use crate::machine::Core;
 use cg_history::{Answer, Record, Request, SessionId};
 use cg_name::Refusal;
@@ -30,26 +29,31 @@ impl Core {
             return Answer::Refused(Refusal::NoTransaction);
         };
         let number = txn.number();
-        let items = txn.len();
-        let (request, answer) = match ending {
+        match ending {
             Ending::Abort => {
+                let items = txn.len();
                 cg_txn::abort(&mut self.tree, &mut self.locks, txn);
-                (Request::Abort, Answer::Aborted(number))
+                self.history.push(Record {
+                    session,
+                    txn: number,
+                    request: Request::Abort,
+                    answer: Answer::Aborted(number),
+                });
+                self.history.release(items);
+                Answer::Aborted(number)
             }
             Ending::Commit => {
                 let commit_number = self.history.committed() + 1;
+                let entry = Record {
+                    session,
+                    txn: number,
+                    request: Request::Commit,
+                    answer: Answer::Committed(commit_number),
+                };
+                self.history.commit(entry, &txn);
                 cg_txn::commit(&mut self.tree, &mut self.locks, txn);
-                (Request::Commit, Answer::Committed(commit_number))
+                Answer::Committed(commit_number)
             }
-        };
-        let (answer, recorded) = twice(answer);
-        self.history.push(Record {
-            session,
-            txn: number,
-            request,
-            answer: recorded,
-        });
-        self.history.release(items);
-        answer
+        }
     }
 }

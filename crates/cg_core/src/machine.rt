@@ -1,6 +1,7 @@
 //! The machine: its state.
-ghost use Rattle.std.specs.Prelude.{◌≡◌, ◌≤◌, ℕ, IfOk, [], false, length, option_map};
+ghost use Rattle.std.specs.Prelude.{◌≡◌, ◌≤◌, ℕ, IfOk, [], false, length, map, option_map, Some};
 ghost use Rattle.std.specs.Bool.{OnFalse, OnTrue};
+ghost use Rattle.cg_core_laws.specs.CommittedCommands.{command_at, commit_of, script_commands, script_places, AreCommits, GoUp};
 ghost use Rattle.cg_core_laws.specs.Laws.{GoBack, IsBusyExactly};
 ghost use Rattle.cg_core_laws.specs.MachineOf.{Reached};
 ghost use Rattle.cg_core_laws.specs.Room.{RoomKept};
@@ -13,7 +14,7 @@ ghost use Rattle.cg_locks.specs.Holdings.{holdings};
 ghost use Rattle.cg_model.specs.Cgroups.{cgroups};
 ghost use Rattle.cg_model.specs.Footprint.{Mark};
 ghost use Rattle.cg_model.specs.Machine.{step};
-ghost use Rattle.cg_model.specs.Opens.{opens, transaction_in};
+ghost use Rattle.cg_model.specs.Opens.{commits, opens, transaction_in};
 ghost use Rattle.cg_model.specs.Reply.{is_full, slots};
 ghost use Rattle.cg_model.specs.Run.{tree_of};
 ghost use Rattle.cg_model.specs.Sound.{Sound};
@@ -22,7 +23,8 @@ ghost use Rattle.cg_tree.specs.Room.{has_entry};
 
 use crate::answers::twice;
 use crate::ending::Ending;
-use cg_history::{Answer, History, Record, Request, SessionId, SessionMap};
+use cg_commits::CommitHistory;
+use cg_history::{Answer, Record, Request, SessionId, SessionMap};
 use cg_locks::LockTable;
 use cg_name::TxnNumber;
 use cg_tree::Tree;
@@ -39,7 +41,7 @@ pub struct Core {
     pub(crate) locks: LockTable,
     pub(crate) open: SessionMap<Txn>,
     // With a slot reserved for the end of each open transaction, and for each item on its stack.
-    pub(crate) history: History,
+    pub(crate) history: CommitHistory,
 }
 
 // By hand, so that whoever drops one calls this, and doesn't drop each thing in it: that makes proofs shorter.
@@ -87,7 +89,7 @@ impl Core {
             tree: Tree::from_world(alloc, world)?,
             locks: LockTable::new(alloc),
             open: SessionMap::new(alloc),
-            history: History::new(alloc),
+            history: CommitHistory::new(alloc),
         })
     }
 
@@ -120,6 +122,31 @@ impl Core {
         ensures { history_of result.now ≡ self.now.history }
     {
         self.history.records()
+    }
+
+    /// How many transactions committed.
+    pub fn commit_count(&self) -> u32
+        ensures { result ≡ commits self.now.history }
+    {
+        self.history.committed()
+    }
+
+    /// Which committed script has the record at this index as a command's, counted from 1 in commit order; 0 where none has, as
+    /// where the command was undone, returned over or aborted, or its transaction is open, and where there is no such record.
+    pub fn commit_of(&self, index: u32) -> u32
+        ensures { result ≡ commit_of index self.now.history }
+    {
+        self.history.commit_of(index)
+    }
+
+    /// The script that committed as this one, counted from 1: the indices, ascending, of the records that asked for its commands.
+    /// There are none of a script without a command, and where there is no such script.
+    pub fn script(&self, number: u32) -> &[u32]
+        ensures places { result.now ≡ script_places number self.now.history }
+        ensures commands { map (command_at self.now.history) result.now ≡ map Some (script_commands number self.now.history) }
+        ensures ascending { GoUp result.now }
+    {
+        self.history.script(number)
     }
 
     /// The session's open transaction, where it has one.
@@ -160,6 +187,7 @@ impl Core {
         ensures going_back { GoBack (machine self.now) }
         ensures others { OthersStay cgroups (machine self.now) }
         ensures busy { IsBusyExactly self.now.opening (machine self.now) }
+        ensures commits { AreCommits cgroups self.now.opening self.now.history }
     {
         // All of it follows from the invariant, which is known where a part is looked at.
         let _ = &self.limit;

@@ -18,7 +18,8 @@ use crate::answers::Answers;
 use crate::doing::carry_out;
 use crate::machine::Core;
 use cg_command::Command;
-use cg_history::{Answer, History, Record, Request, SessionId};
+use cg_commits::CommitHistory;
+use cg_history::{Answer, Record, Request, SessionId};
 use cg_locks::{Footprint, LockTable};
 use cg_name::{Refusal, TxnNumber};
 use cg_tree::Tree;
@@ -82,7 +83,7 @@ fn settle(
     tree: &mut Tree,
     locks: &mut LockTable,
     txn: &mut Txn,
-    history: &mut History,
+    history: &mut CommitHistory,
     full: bool,
     command: &Command,
 ) -> Result<Answers, Refusal>

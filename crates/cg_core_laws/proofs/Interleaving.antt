@@ -57,6 +57,10 @@ mod GoingBack
 pub mod Theorem
 -- what was committed, script by script
 pub mod CommittedScripts
+-- where the commands of committed scripts have their records
+pub mod CommittedPlaces
+-- each record is of one script at most, and the trees of the commits go on by its commands
+pub mod CommitsByCommands
 -- a session has one open transaction at most
 mod OneTransactionEach
 -- the aborts at the end of a schedule

@@ -7,6 +7,7 @@ pub mod Reordered
 pub mod Room
 pub mod LettingGo
 pub mod Scripts
+pub mod CommittedCommands
 pub mod Ends
 pub mod Laws
 pub mod Restored

@@ -2,6 +2,7 @@
 //! any way.
 #![tactic(auto)]
 
+ghost use Rattle.cg_core_laws.specs.CommittedCommands.{CommitsByCommands, PlacesOfCommands, ScriptsStay};
 ghost use Rattle.cg_core_laws.specs.Scripts.{CommittedScripts, CommitTrees, TreesOfScripts};
 ghost use Rattle.cg_core_laws.specs.MachineOf.{StepsByHistory};
 ghost use Rattle.cg_core_laws.specs.Refusals.{RefusalsLeaveAll};
@@ -97,6 +98,19 @@ pub fn commits_are_scripts()
 pub fn commit_trees_are_those_of_scripts()
     ensures later { CommitTrees }
     ensures scripts { TreesOfScripts }
+{}
+
+/// Each committed script has the places of its commands: the indices, ascending, of the records that asked for them. A script
+/// that has committed stays as it is, whatever comes after.
+pub fn places_are_those_of_commands()
+    ensures places { PlacesOfCommands }
+    ensures stay { ScriptsStay }
+{}
+
+/// A record is a command of one committed script at most. And the tree of the first k + 1 commits is that of the first k,
+/// changed by the commands of the next script, which are accepted in it one after another.
+pub fn commits_go_on_by_commands()
+    ensures { CommitsByCommands }
 {}
 
 /// At the end of a schedule the aborts of what is still open are accepted, nothing is open after them, and the tree is what

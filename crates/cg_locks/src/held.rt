@@ -21,8 +21,8 @@ pub(crate) enum Kind {
     Descendants,
 }
 
-// The holders that are kept at a path: those of the marks of one kind at it, or at it or below it (an intention to lock,
-// in the terms of multigranularity locking).
+// The holders that are kept at a path: those of the marks of one kind at it; or of these and of its branches, one for each child
+// at or below which a transaction holds such a mark (an intention to lock, in the terms of multigranularity locking).
 #[derive(Clone, Copy)]
 pub(crate) enum Part {
     ChangedAt,
@@ -47,7 +47,7 @@ impl Kind {
         }
     }
 
-    // And of those at it or below it, if these are counted: they are where a mark of a subtree may clash with this kind.
+    // And of those at it and of its branches, if these are counted: they are where a mark of a subtree may clash with this kind.
     pub(crate) fn at_or_below(self) -> Option<Part>
         ensures { result ≡ at_or_below self }
     {
@@ -60,7 +60,7 @@ impl Kind {
     }
 }
 
-// Who holds what at one path, and at it or below it.
+// Who holds what at one path, and at or below its children.
 #[derive(Drop)]
 pub(crate) struct Held {
     changed: Holders,

@@ -5,3 +5,4 @@ pub mod LettingGo
 pub mod Stack
 pub mod Steps
 pub mod TakingOff
+pub mod Places

@@ -1,6 +1,7 @@
 //! What stands on a stack.
 ghost use Rattle.std.specs.Prelude.{◌≡◌};
 ghost use Rattle.cg_txn.specs.Items as model;
+ghost use Rattle.cg_txn.specs.Places.{place_of};
 
 use cg_inverse::Inverse;
 use cg_locks::Footprint;
@@ -30,5 +31,15 @@ impl Item {
         ensures { result ≡ model.is_command self.now }
     {
         matches!(self, Item::Command(_))
+    }
+
+    // The place of its record, where it is a command.
+    pub(crate) fn place(&self) -> Option<u32>
+        ensures { result ≡ place_of self.now }
+    {
+        match self {
+            Item::Command(entry) => Some(entry.place),
+            Item::Savepoint(_) => None,
+        }
     }
 }

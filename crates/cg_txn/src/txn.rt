@@ -1,7 +1,9 @@
 //! The stack of one transaction.
-ghost use Rattle.std.specs.Prelude.{◌≡◌, ◌↔◌, ◌∷◌, ◌++◌, ◌⊎◌, [], IfErr, IfOk, IsOk, IsTrue, OnErr, OnOk, None, false, length, true};
+ghost use Rattle.std.specs.Prelude.{◌≡◌, ◌≤◌, ◌+◌, ◌↔◌, ◌∷◌, ◌++◌, ◌⊎◌, [], vec_len, IfErr, IfOk, IsOk, IsTrue, OnErr, OnOk, None, false, length, true};
 ghost use Rattle.std.specs.Result.{IsErrOf};
+ghost use Rattle.std.specs.Vec.{vec_capacity};
 ghost use Rattle.cg_txn.specs.Items.{command_item, taken_item, taken_items};
+ghost use Rattle.cg_txn.specs.Places.{places_on};
 ghost use Rattle.cg_txn.specs.Stack.{commands, ends_in_command, has_savepoint, next_back, next_newest, Savepoint};
 
 use crate::entry::{Entry, Item};
@@ -83,6 +85,21 @@ impl Txn {
         ensures { result ≡ has_savepoint name self.now.items }
     {
         self.names.contains(&name)
+    }
+
+    /// Writes the places of its commands behind the numbers that are there, the oldest first, in the room that they have for as
+    /// many as items stand. Takes no memory.
+    pub fn write_places(&self, numbers: &mut Vec<u32>)
+        requires { vec_len numbers.old + length self.now.items ≤ vec_capacity numbers.old }
+        ensures items { numbers.new.items ≡ numbers.old.items ++ places_on self.now.items }
+        ensures capacity { vec_capacity numbers.new ≡ vec_capacity numbers.old }
+    {
+        let items = &self.items;
+        for index in 0..items.len() {
+            if let Some(place) = items[index].place() {
+                numbers.push_reserved(place);
+            }
+        }
     }
 
     /// Reserves room for one more item, so that a command can be put on the stack whatever comes between. An error, where

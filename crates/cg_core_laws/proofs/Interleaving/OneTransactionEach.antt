@@ -43,7 +43,7 @@ module _ (y : System) (o : y.State) (bound : ℕ) where
   begun_in h t Commit = refl
   begun_in h t Abort = refl
 
-  begun_alone : (h : History y) (r : Request y) (u : ℕ) (found : Option ℕ) → reply_at y o bound h found r ≡ Begun u → found ≡ None
+  pub begun_alone : (h : History y) (r : Request y) (u : ℕ) (found : Option ℕ) → reply_at y o bound h found r ≡ Begun u → found ≡ None
   begun_alone h r u None e = refl
   begun_alone h r u (Some t) e = absurd (true≢false (sym (ap is_begun e) ∙ begun_in h t r))
 

@@ -3,13 +3,14 @@ use Rattle.cg_model.specs.Cgroups.{cgroups}
 use Rattle.cg_model.specs.Reply.{slots}
 use Rattle.cg_model.specs.Run.{tree_of}
 use Rattle.cg_model.specs.Sound.{Sound}
+use Rattle.cg_core_laws.specs.CommittedCommands.{AreCommits}
 use Rattle.cg_core_laws.specs.MachineOf.{Reached}
 use Rattle.cg_core_laws.specs.Room.{RoomKept}
 use Rattle.cg_core_laws.specs.Laws.{GoBack, IsBusyExactly}
 use Rattle.cg_core_laws.specs.Serial.{IsFaithful, IsSerial, OthersStay}
 use Rattle.cg_core.specs.State.{CoreState, machine}
 use Rattle.cg_core.proofs.AtHistory.{at_history, serial_at, within}
-use Rattle.cg_core.proofs.TheLaws.{busy_law, faithful_law, going_law, others_law, room_law, serial_law}
+use Rattle.cg_core.proofs.TheLaws.{busy_law, commits_law, faithful_law, going_law, others_law, room_law, serial_law}
 use Rattle.cg_core.proofs.machine.Core.laws.Goals as goal
 
 pub returns-clause-opening : goal.returns-clause-opening
@@ -47,3 +48,6 @@ returns-clause-others c = subst (λ (v : CoreState). OthersStay cgroups (machine
 
 pub returns-clause-busy : goal.returns-clause-busy
 returns-clause-busy c = subst (λ (v : CoreState). IsBusyExactly v.opening (machine v)) c.self.view_is (at_history IsBusyExactly busy_law _ _ _ c.self.invariant.sound c.self.invariant.reached)
+
+pub returns-clause-commits : goal.returns-clause-commits
+returns-clause-commits c = subst (λ (v : CoreState). AreCommits cgroups v.opening v.history) c.self.view_is (at_history (λ O m. AreCommits cgroups O m.history) commits_law _ _ _ c.self.invariant.sound c.self.invariant.reached)

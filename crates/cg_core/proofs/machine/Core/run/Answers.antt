@@ -15,6 +15,8 @@ use Rattle.cg_core.specs.Answers.{is_memory}
 use Rattle.cg_core.specs.Parts.{IsCoreOf}
 use Rattle.cg_core.specs.Settled.{IsUnheard}
 use Rattle.cg_core.specs.State.{has_record}
+use Rattle.cg_core.proofs.CommitPlaces.{settled_other}
+use Rattle.cg_commits.specs.Answers.{is_commit}
 use Rattle.cg_core.proofs.ReturningParts.{answer_told, state_told, full_told, noted_is, where_lent, out_refused, history_out, few}
 use Rattle.cg_core.proofs.RunCommands.{command_noted, same_core, run_full}
 use Rattle.cg_core.proofs.Settling.{no_memory, settled_reply, settled_noted, settled_history, settled_core}
@@ -85,6 +87,9 @@ returns-in-Err-clause-unrecorded c =
     ∙ command_noted c.self.invariant c.args.session.0 c.in-Some.txn.now (sym c.in-Some.ensures.value) (command_of c.args.command) (full_told c.self.view_is c.is_full-full.ensures room))
 
 -- ---- it is settled
+
+pub push-requires-clause-other : goal.push-requires-clause-other
+push-requires-clause-other c = ap is_commit c.in-Ok.ensures.alike.recorded ∙ settled_other c.in-Ok.ensures.settled
 
 pub invariant_of-self-in-Ok : goal.invariant_of-self-in-Ok
 invariant_of-self-in-Ok c =
