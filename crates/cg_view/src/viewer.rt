@@ -1,0 +1,102 @@
+//! Readers of what is published.
+ghost use Rattle.std.specs.Prelude.{◌≡◌, ◌≢◌, ◌≤◌, [], ◌∷◌, Ok, Err, IfOk, IfErr, OnOk, length, max};
+ghost use Rattle.cg_model.specs.File.{file};
+ghost use Rattle.cg_name.specs.declared.refusal.Refusal.TheVariants.{Full, Memory};
+ghost use Rattle.cg_view.specs.Operations.{tree_after, StartsWith};
+ghost use Rattle.cg_view.specs.Views.{IsFileOf, IsRefusalOf};
+ghost use Rattle.left_right.specs.Sides.{view};
+
+use crate::rule::{Sees, ShownReader};
+use crate::shown::Shown;
+use cg_name::{Path, Refusal};
+use cg_text::FileName;
+use core::mem::replace_with;
+use std::alloc::Global;
+
+/// How many operations a Publisher had published by then.
+#[derive(Clone, Copy)]
+pub struct Told {
+    pub(crate) count: usize,
+}
+
+/// A reader of a Publisher's tree. It takes no lock and never waits.
+#[derive(Drop)]
+pub struct Viewer {
+    pub(crate) reader: ShownReader,
+    // It was told of so many operations.
+    pub(crate) told: usize,
+}
+
+impl Viewer {
+    /// The text of the file of the group at the path, in the tree after a published list of operations. That list begins with
+    /// what this Viewer has seen before, and is no shorter than what it was told of; afterwards the Viewer has seen it.
+    /// `NoGroup` and `NoFile` as of that tree; `Full` where the entering is refused, or what is shown is shorter than what it
+    /// was told of, which is so only of another Publisher's `Told`; `Memory` where there is none for the text.
+    pub fn read(&mut self, alloc: Global, path: &Path, name: FileName) -> Result<Vec<u8>, Refusal>
+        ensures value { IfOk result (λ text. IsFileOf (view self.new.reader.place) path.now name (Ok text.items)) }
+        ensures refused { IfErr result (λ e. IsRefusalOf (view self.new.reader.place) path.now name e) }
+        ensures later { StartsWith (view self.new.reader.place).seen (view self.old.reader.place).seen }
+        ensures opening { StartsWith (view self.new.reader.place).opening (view self.old.reader.place).opening }
+        ensures told { OnOk result (self.old.told ≤ length (view self.new.reader.place).seen) }
+        ensures kept { self.new.told ≡ self.old.told }
+    {
+        let asked = Asked {
+            alloc,
+            path,
+            name,
+            told: self.told,
+        };
+        replace_with(
+            &mut self.reader,
+            &asked,
+            |reader, asked| look(reader, asked),
+        )
+    }
+
+    /// Takes in what its Publisher told: what is read from then on is no older.
+    pub fn learn(&mut self, told: Told)
+        ensures told { self.new.told ≡ max self.old.told told.count }
+        ensures seen { self.new.reader ≡ self.old.reader }
+    {
+        self.told = self.told.max(told.count);
+    }
+}
+
+// What a read is asked for.
+#[derive(Drop)]
+struct Asked<'a> {
+    alloc: Global,
+    path: &'a Path,
+    name: FileName,
+    // So many operations have to be shown.
+    told: usize,
+}
+
+// Enters, looks and leaves.
+fn look(reader: ShownReader, asked: &Asked<'_>) -> (ShownReader, Result<Vec<u8>, Refusal>)
+    ensures value { IfOk result.1 (λ text. IsFileOf (view result.0.place) asked.now.path.now asked.now.name (Ok text.items)) }
+    ensures refused { IfErr result.1 (λ e. IsRefusalOf (view result.0.place) asked.now.path.now asked.now.name e) }
+    ensures later { StartsWith (view result.0.place).seen (view reader.place).seen }
+    ensures opening { StartsWith (view result.0.place).opening (view reader.place).opening }
+    ensures told { OnOk result.1 (asked.now.told ≤ length (view result.0.place).seen) }
+{
+    match reader.enter_as::<Sees>() {
+        Ok(reading) => {
+            let text = text_of(reading.get(), asked);
+            (reading.leave(), text)
+        }
+        Err(reader) => (reader, Err(Refusal::Full)),
+    }
+}
+
+// The text of the file, where no less is shown than was told of.
+fn text_of(shown: &Shown, asked: &Asked<'_>) -> Result<Vec<u8>, Refusal>
+    ensures value { IfOk result (λ text. file (tree_after shown.now.opening shown.now.operations.items) asked.now.path.now asked.now.name ≡ Ok text.items) }
+    ensures refused { IfErr result (λ e. e ≢ Memory → e ≢ Full → file (tree_after shown.now.opening shown.now.operations.items) asked.now.path.now asked.now.name ≡ Err e) }
+    ensures told { OnOk result (asked.now.told ≤ length shown.now.operations.items) }
+{
+    if shown.operations.len() < asked.told {
+        return Err(Refusal::Full);
+    }
+    cg_derive::file(asked.alloc, &shown.tree, asked.path, asked.name)
+}
