@@ -91,6 +91,7 @@ uint32_t cgtx_raw_history(cgtx *handle);
 size_t cgtx_raw_text_length(cgtx *handle);
 size_t cgtx_raw_text(cgtx *handle, size_t from, void *buffer, size_t room);
 uint32_t cgtx_raw_open_count(cgtx *handle);
+uint32_t cgtx_raw_commit_count(cgtx *handle);
 size_t cgtx_raw_refusal_word(uint32_t number, void *buffer, size_t room);
 
 /* The functions that a program calls, which test each pointer. Where they are to be made into a shared library,
@@ -187,6 +188,14 @@ CGTX_API uint32_t cgtx_open_count(cgtx *handle)
     if (!handle)
         return 0;
     return cgtx_raw_open_count(handle);
+}
+
+/* How many transactions committed. */
+CGTX_API uint32_t cgtx_commit_count(cgtx *handle)
+{
+    if (!handle)
+        return 0;
+    return cgtx_raw_commit_count(handle);
 }
 
 /* Copies the word of a refusal, as `busy`, as far as there is room, and gives how many bytes these are: none for a

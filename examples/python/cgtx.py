@@ -42,6 +42,9 @@ class Machine:
     def open_count(self):
         return self.library.cgtx_open_count(ctypes.byref(self.handle))
 
+    def commit_count(self):
+        return self.library.cgtx_commit_count(ctypes.byref(self.handle))
+
     def aborts(self):
         """Aborts all that is open, the least number first, and gives each answer."""
         while (told := self.told("abort_oldest", fine=(0, NONE_OPEN)))[0] != NONE_OPEN:

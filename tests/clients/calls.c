@@ -41,6 +41,7 @@ static void not_open(cgtx *handle, uint32_t status)
     EXPECT(cgtx_text_length(handle) == 0);
     EXPECT(cgtx_text(handle, 0, buffer, sizeof buffer) == 0);
     EXPECT(cgtx_open_count(handle) == 0);
+    EXPECT(cgtx_commit_count(handle) == 0);
     EXPECT(!memcmp(buffer, "abc", sizeof buffer));
 }
 
@@ -101,10 +102,13 @@ static void texts(void)
     EXPECT(cgtx_file(&machine, TEXT("/"), TEXT("cgroup")) == CGTX_SYNTAX && told(&machine, ""));
     EXPECT(cgtx_file(&machine, TEXT("/\xff"), TEXT("cgroup.procs")) == CGTX_SYNTAX && told(&machine, ""));
     EXPECT(cgtx_answer(&machine) == CGTX_DONE && told(&machine, "text \"10\\n\""));
+    EXPECT(cgtx_commit_count(&machine) == 0);
     EXPECT(cgtx_step(&machine, TEXT("b commit")) == CGTX_DONE && told(&machine, "committed 1"));
     EXPECT(cgtx_open_count(&machine) == 1);
+    EXPECT(cgtx_commit_count(&machine) == 1);
     EXPECT(cgtx_abort_oldest(&machine) == CGTX_DONE && told(&machine, "aborted 1"));
     EXPECT(cgtx_abort_oldest(&machine) == CGTX_NONE_OPEN && told(&machine, ""));
+    EXPECT(cgtx_commit_count(&machine) == 1);
     EXPECT(cgtx_world(&machine) == CGTX_DONE && told(&machine, WORLD));
     EXPECT(cgtx_history(&machine) == CGTX_DONE && told(&machine,
         "s1 begin\n# begun 1\ns2 begin\n# begun 2\ns1 create /x\n# done\n"

@@ -6,7 +6,7 @@ use Rattle.cg_line_machine.specs.Status.{IsWordOf, status_number}
 use Rattle.cg_line_machine.specs.Teller.{Told, told_first}
 use Rattle.cg_line_machine.specs.declared.status.Status.{Status}
 use Rattle.cg_line_machine.specs.declared.status.Status.TheVariants.{BadLimit, Closed, Done, InUse, Refused}
-use Rattle.cg_model.specs.Opens.{opens}
+use Rattle.cg_model.specs.Opens.{commits, opens}
 use Rattle.cg_model.specs.Tree.{Tree}
 use Rattle.cg_name.specs.declared.refusal.Refusal.TheVariants.{Memory, Syntax}
 use Rattle.cg_world_text.specs.World.{SpellsWorld}
@@ -48,6 +48,11 @@ text_held (Some s) = s.text
 abbrev pub open_held : Option Told → ℕ
 open_held None = 0
 open_held (Some s) = length (opens s.machine.core.history)
+
+-- how many transactions committed
+abbrev pub committed_held : Option Told → ℕ
+committed_held None = 0
+committed_held (Some s) = commits s.machine.core.history
 
 -- the word of the refusals with a number is copied, as far as there is room
 abbrev pub CopiesWord : ℕ → List ℕ → List ℕ → ℕ → Type 0

@@ -2,7 +2,7 @@
 #![tactic(auto)]
 
 ghost use Rattle.std.specs.Prelude.{◌≡◌, drop, length};
-ghost use Rattle.cg_capi.specs.Calls.{Closes, CopiesWord, OnHeld, OpensHeld, holds, open_held, text_held};
+ghost use Rattle.cg_capi.specs.Calls.{Closes, CopiesWord, OnHeld, OpensHeld, committed_held, holds, open_held, text_held};
 ghost use Rattle.cg_line_machine.specs.Copies.{Copies};
 ghost use Rattle.cg_line_machine.specs.Teller.{AbortsTold, AnswerTold, FileTold, StepsTold, TextTold};
 ghost use Rattle.cg_replay.specs.Replay.{tree_now};
@@ -175,6 +175,20 @@ pub extern "C" fn cgtx_raw_open_count(alloc: Global, handle: &mut Handle) -> u32
         return 0;
     };
     let count = teller.open_count();
+    handle.put(teller);
+    count
+}
+
+/// How many transactions committed: none behind a closed handle.
+#[unsafe(no_mangle)]
+pub extern "C" fn cgtx_raw_commit_count(alloc: Global, handle: &mut Handle) -> u32
+    ensures same { holds handle.new ≡ holds handle.old }
+    ensures count { result ≡ committed_held (holds handle.old) }
+{
+    let Some(teller) = handle.take(alloc) else {
+        return 0;
+    };
+    let count = teller.commit_count();
     handle.put(teller);
     count
 }

@@ -4,6 +4,7 @@ ghost use Rattle.std.specs.List.{AllByRecursion};
 ghost use Rattle.std.specs.Option.{option_map};
 ghost use Rattle.std.specs.Result.{IsErrOf};
 ghost use Rattle.cg_core.specs.State.{machine};
+ghost use Rattle.cg_core_laws.specs.CommittedCommands.{AreCommits};
 ghost use Rattle.cg_core_laws.specs.Laws.{GoBack, IsBusyExactly};
 ghost use Rattle.cg_core_laws.specs.MachineOf.{Reached};
 ghost use Rattle.cg_core_laws.specs.Room.{RoomKept};
@@ -12,7 +13,7 @@ ghost use Rattle.cg_history.specs.Meaning.{answer_of, request_of};
 ghost use Rattle.cg_line_machine.specs.Files.{IsFileAsked, NamesNoFile, SpellsNoPath};
 ghost use Rattle.cg_line_machine.specs.Steps.{Asked, Steps, AbortsOldest, line_of};
 ghost use Rattle.cg_model.specs.Cgroups.{cgroups};
-ghost use Rattle.cg_model.specs.Opens.{opens};
+ghost use Rattle.cg_model.specs.Opens.{commits, opens};
 ghost use Rattle.cg_model.specs.Sound.{Sound};
 ghost use Rattle.cg_model.specs.Tree.{Tree};
 ghost use Rattle.cg_name.specs.FileName.{file_word};
@@ -163,6 +164,13 @@ impl LineMachine {
         self.core.open_count()
     }
 
+    /// How many transactions committed.
+    pub fn commit_count(&self) -> u32
+        ensures { result ≡ commits self.now.core.history }
+    {
+        self.core.commit_count()
+    }
+
     /// Appends the tree as it stands, as the text of a world. An error, where there is no memory, leaves `out` as it was.
     pub fn write_world(&self, out: &mut Vec<u8>) -> Result<(), AllocError>
         ensures ok { OnOk result (out.new.items ≡ out.old.items ++ world_text (tree_now self.now.core)) }
@@ -207,6 +215,7 @@ impl LineMachine {
         ensures going_back { GoBack (machine self.now.core) }
         ensures others { OthersStay cgroups (machine self.now.core) }
         ensures busy { IsBusyExactly self.now.core.opening (machine self.now.core) }
+        ensures commits { AreCommits cgroups self.now.core.opening self.now.core.history }
     {
         self.core.laws();
     }

@@ -7,7 +7,7 @@ ghost use Rattle.cg_line_machine.specs.Copies.{Copies};
 ghost use Rattle.cg_line_machine.specs.Teller.{AbortsTold, AnswerTold, FileTold, HasNoMemory, StepsTold, TellsAnswer, TextTold, text_of, told_first};
 ghost use Rattle.cg_line_machine.specs.declared.status.Status.TheVariants as statuses;
 ghost use Rattle.cg_history.specs.Meaning.{answer_of};
-ghost use Rattle.cg_model.specs.Opens.{opens};
+ghost use Rattle.cg_model.specs.Opens.{commits, opens};
 ghost use Rattle.cg_model.specs.Tree.{Tree};
 ghost use Rattle.cg_name.specs.Refusal.{IsSyntaxOrMemory};
 ghost use Rattle.cg_name.specs.declared.refusal.Refusal.TheVariants as refusals;
@@ -86,6 +86,13 @@ impl Teller {
         ensures { result ≡ length (opens self.now.machine.core.history) }
     {
         self.machine.open_count()
+    }
+
+    /// How many transactions committed.
+    pub fn commit_count(&self) -> u32
+        ensures { result ≡ commits self.now.machine.core.history }
+    {
+        self.machine.commit_count()
     }
 
     /// Answers a line of a schedule, and tells the answer's line, without its newline: nothing for a line that says nothing. The
