@@ -16,6 +16,8 @@ check:
 
 install: all
 	install -D -m 755 $(PROGRAM) $(DESTDIR)$(PREFIX)/bin/cgtx
+	install -D -m 644 manual/cgtx.1 $(DESTDIR)$(PREFIX)/share/man/man1/cgtx.1
+	install -D -m 644 manual/cgtx.bash $(DESTDIR)$(PREFIX)/share/bash-completion/completions/cgtx
 	install -D -m 644 include/cgtx.h $(DESTDIR)$(PREFIX)/include/cgtx.h
 	tests/c_library --archive $(DESTDIR)$(PREFIX)/lib/libcgtx.a
 	mkdir -p $(DESTDIR)$(PREFIX)/lib/pkgconfig

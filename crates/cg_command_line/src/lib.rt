@@ -20,6 +20,36 @@ const STANDARD_INPUT: &str = "-";
 
 const WORLD_HELP: &str = "The file of the world, or - for standard input";
 
+// What stands behind the help of a command: examples, and what its status says.
+const REPLAY_MORE: &str = "\
+Examples:
+  cgtx replay world schedule
+  cat world schedule | cgtx replay - -
+
+Status:
+  0  The schedule was played, whatever single requests were answered
+  2  The words aren't right, or there is no world
+  3  Memory, an input or an output failed";
+
+const SHOW_MORE: &str = "\
+Example:
+  cgtx show world /batch/job-1 cgroup.procs
+
+Status:
+  0  The file was printed
+  2  The words aren't right, or there is no world, or no such group or file
+  3  Memory, an input or an output failed";
+
+const RUN_MORE: &str = "\
+Examples:
+  cgtx run world script-1 script-2
+  cgtx run --workers 1 --history history world script
+
+Status:
+  0  The scripts ran, however each ended
+  2  The words aren't right, or there is no world, or a script isn't one
+  3  Memory, an input or an output failed, or the results disagree";
+
 /// What the words of a command line ask for.
 #[derive(Debug, Drop)]
 pub enum Asked<'a> {
@@ -152,6 +182,7 @@ fn command<'a>(alloc: Global) -> Result<Command<'a>, AllocError> {
 fn replay<'a>(alloc: Global) -> Result<Command<'a>, AllocError> {
     Command::new(alloc, "replay")
         .about("Replays a schedule over a world, and writes the answers and the world that results")
+        .after_help(REPLAY_MORE)
         .arg(word(alloc, "WORLD", WORLD_HELP))?
         .arg(word(
             alloc,
@@ -163,6 +194,7 @@ fn replay<'a>(alloc: Global) -> Result<Command<'a>, AllocError> {
 fn show<'a>(alloc: Global) -> Result<Command<'a>, AllocError> {
     Command::new(alloc, "show")
         .about("Shows an interface file of a group of a world")
+        .after_help(SHOW_MORE)
         .arg(word(alloc, "WORLD", WORLD_HELP))?
         .arg(word(alloc, "PATH", "The path of the group, as in a world"))?
         .arg(word(alloc, "FILE", "The name of the file, such as cgroup.procs"))
@@ -173,6 +205,7 @@ fn run<'a>(alloc: Global) -> Result<Command<'a>, AllocError> {
         .about(
             "Runs scripts on worker threads over a world, and writes how each ended and the world that results",
         )
+        .after_help(RUN_MORE)
         .arg(
             number_of(alloc, "workers", "N", MOST_WORKERS)
                 .default_value("2")
