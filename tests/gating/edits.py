@@ -1,10 +1,11 @@
 """Wrong bodies, tried together: what each edit changes, which of them go into one check, and which of them it refuses.
 
 Contracts are modular: what is proved of a function rests on the contracts of those that it calls, and never on their bodies.
-So one check of a crate in which many functions are wrong tells of each one by itself. An edit counts as refused where the
-check names a goal of the very function that it changes; that a function calls another one that isn't proved says nothing. Where
-a callee isn't proved, not each goal of its caller is tried: what a check doesn't name is tried once more without those that it
-named, and what no check names is tried alone, as the kit does."""
+So one check of a crate in which many functions are wrong tells of each one by itself; it is asked for these alone, since nothing
+is to be learned of their callers. An edit counts as refused where the check names a goal of the very function that it changes;
+that a function calls another one that isn't proved says nothing. Where a callee isn't proved, not each goal of its caller is
+tried: what a check doesn't name is tried once more without those that it named, and what no check names is tried alone, as the
+kit does."""
 import os
 import re
 import shutil
@@ -13,10 +14,10 @@ from dataclasses import dataclass
 
 from .kit import KEPT, rt
 
-HEAD = re.compile(r"( *)(?:pub(?:\([^)]*\))? )?(?:const |unsafe )*fn (\w+)")
+HEAD = re.compile(r"( *)(?:pub(?:\([^)]*\))? )?(?:const |unsafe |extern \"C\" )*fn (\w+)")
 # An error of a proof file that names what an edit took away, or that rests on another one, says little of a contract.
 NAMES = r"has no field|is not in scope|has no `|was not admitted|which (was|were) rejected"
-VERDICT = r"\nlogic=not-proved.*\n?\Z"
+VERDICT = r"\n(logic=not-proved|only=\d+ proved=\d+).*\n?\Z"
 CALLS = r"(?:no proof: |not proved; )(?:it [^;\n]*, which (?:is|are) not proved(?:; )?)+"
 
 
@@ -31,6 +32,11 @@ class Function:
     start: int
     end: int
     ensures: bool
+
+    def ending(self):
+        """The name by which a check may be asked for it: the end of the one that it prints, or that one without the crate's."""
+        owner = f"{self.type}{self.trait}"
+        return "::".join([*([owner] if owner else self.module), self.name])
 
     def is_named(self, printed):
         """Whether the check prints this name for the function, or for a closure in it. A method stands under the module of its type,
@@ -164,12 +170,18 @@ def texts_of(crate, together):
     return texts
 
 
-def check(crate, texts, jobs):
-    """Checks the crate with these texts over a copy of the work that its own proof kept."""
+def check(crate, texts, jobs, asked=()):
+    """Checks the crate with these texts over a copy of the work that its own proof kept: what is asked for alone, if anything is."""
     with tempfile.TemporaryDirectory(prefix="rt-kept-") as room:
         kept = f"{room}/kept"
         shutil.copytree(f"{crate.folder}/{KEPT}", kept)
-        return rt.checked(crate, texts, ["--jobs", str(jobs)], kept)
+        return rt.checked(crate, texts, ["--jobs", str(jobs), *(word for it in asked for word in ("--only", it))], kept)
+
+
+def check_functions(crate, together, texts, jobs):
+    """Checks the functions that these edits change, or the whole crate where one of their names fits none or several."""
+    ran = check(crate, texts, jobs, [it.function.ending() for it in together])
+    return ran if ran.returncode != 2 else check(crate, texts, jobs)
 
 
 def goals_of(said):
@@ -218,7 +230,7 @@ def unread_in(said, texts, together):
 def try_round(crate, together, jobs):
     """Checks the crate with these edits, of one function each."""
     texts = texts_of(crate, together)
-    ran = check(crate, texts, jobs)
+    ran = check_functions(crate, together, texts, jobs)
     goals = goals_of(ran.stdout)
     if ran.returncode != 1 or not is_explained(ran.stdout, goals, together):
         return Round(False, {it.name: "" for it in together}, unread_in(ran.stdout, texts, together))
