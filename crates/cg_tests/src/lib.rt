@@ -18,3 +18,5 @@ mod replaying;
 mod runner;
 #[cfg(test)]
 mod telling;
+#[cfg(test)]
+mod views;

@@ -1,6 +1,7 @@
 //! The machine, and schedules, scripts and histories as text.
 mod answers;
 mod asking;
+mod commits;
 mod histories;
 mod requests;
 mod scripts;

@@ -97,6 +97,7 @@ fn lines_are_answered_and_told(rt: HostRuntime) -> Result<(), Fail> {
         ),
     );
     assert_eq!(rt; teller.open_count(), 1);
+    assert_eq!(rt; teller.commit_count(), 1);
     let told = teller.abort_oldest(alloc);
     assert_told(&rt, &teller, told, (Status::Done, "aborted 2"));
     let told = teller.abort_oldest(alloc);

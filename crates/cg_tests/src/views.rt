@@ -1,0 +1,4 @@
+//! Views of what is published.
+mod beside;
+mod publishing;
+mod reading;
