@@ -1,5 +1,5 @@
 -- The changes of a write to cgroup.subtree_control, and the edits that make them.
-use Rattle.std.proofs.Common.{◌≡◌, Bool, true, false, cond, not, ◌&&◌, List, [], ◌∷◌, ◌++◌, map, Option, Some, None, Ok, Err, refl, ap, subst, ◌∙◌}
+use Rattle.std.proofs.Common.{◌≡◌, Bool, true, false, cond, not, ◌&&◌, List, [], ◌∷◌, ◌++◌, map, filter, Option, Some, None, Ok, Err, refl, ap, subst, ◌∙◌}
 use Rattle.std.specs.List.{AllByRecursion}
 use Rattle.cg_maps.specs.FiniteMap.{empty}
 use Rattle.cg_maps.specs.FiniteSet.{is_empty_set}
@@ -23,6 +23,7 @@ use Rattle.cg_model.specs.Room.{RoomFor, room_for}
 use Rattle.cg_model.specs.System.{Done, Accept}
 use Rattle.cg_model.specs.Tree.{Tree, group}
 use Rattle.cg_tree.specs.Edit.{RoomForEdit}
+use Rattle.cg_tree.specs.Listing.{asks_for_cpus}
 use Rattle.cg_tree.specs.Room.{TreeWithRoom}
 use Rattle.cg_command.specs.Subtree.{all_edited, NeedNoEntry}
 use Rattle.cg_command.proofs.Changing.{edit_puts_left}
@@ -79,6 +80,19 @@ then_last false c cs ds last h = ap (λ z. c ∷ z) h
 pub emptied_then : (es : List (Path × Settings)) (last : List Change) → emptied es last ≡ emptied es [] ++ last
 emptied_then [] last = refl
 emptied_then (e ∷ es) last = then_last (is_empty_set e.1.cpus) (change (Part e.0 Cpus) (Some e.1.cpus) (Some empty)) (emptied es []) (emptied es last) last (emptied_then es last)
+
+-- each of these children's CPUs are emptied
+abbrev pub each_emptied : List (Path × Settings) → List Change
+each_emptied es = map (λ e. change (Part e.0 Cpus) (Some e.1.cpus) (Some empty)) es
+
+-- those are emptied that ask for some
+pub asking_emptied : (es : List (Path × Settings)) → each_emptied (filter asks_for_cpus es) ≡ emptied es []
+asking_emptied [] = refl
+asking_emptied (e ∷ es) = by (is_empty_set e.1.cpus) (asking_emptied es)
+  where
+    by : (b : Bool) → each_emptied (filter asks_for_cpus es) ≡ emptied es [] → each_emptied (cond (not b) (e ∷ filter asks_for_cpus es) (filter asks_for_cpus es)) ≡ cond b (emptied es []) (change (Part e.0 Cpus) (Some e.1.cpus) (Some empty) ∷ emptied es [])
+    by true rest = rest
+    by false rest = ap (λ cs. change (Part e.0 Cpus) (Some e.1.cpus) (Some empty) ∷ cs) rest
 
 -- room for undoing changes of settings
 pub parts_have_room : (E : Path → Bool) (cs : List Change) → AreParts cs → RoomFor E cs

@@ -68,6 +68,7 @@ fn loses_cpuset(before: Controllers, left: Controllers) -> bool
 }
 
 // Where the `cpuset` controller goes, adds the change of each child of the group that asks for CPUs: it asks for none.
+#[tactic(auto, using(crate::proofs::Emptying::asking_emptied))]
 fn add_emptied(
     goes: bool,
     path: &Path,
@@ -80,14 +81,12 @@ fn add_emptied(
     if !goes {
         return Ok(());
     }
-    for (child, settings) in tree.children(alloc, path)? {
-        if !settings.cpus.is_empty() {
-            inverse.push(Change::Cpus {
-                path: child.to_path(alloc)?,
-                before: settings.cpus,
-                left: CpuSet::empty(),
-            })?;
-        }
+    for (child, settings) in tree.children_with_cpus(alloc, path)? {
+        inverse.push(Change::Cpus {
+            path: child.to_path(alloc)?,
+            before: settings.cpus,
+            left: CpuSet::empty(),
+        })?;
     }
     Ok(())
 }

@@ -12,7 +12,7 @@ use Rattle.cg_path_tree.proofs.ListChanges.{same_some, some_not_none}
 use Rattle.cg_path_tree.proofs.Finding.{find-push}
 use Rattle.cg_path_tree.proofs.Indexed.{length-by_paths}
 use Rattle.cg_path_tree.proofs.Parents.{parent_is, not_root, no_child, root_no_child, below_parent, length-parent, count-push, count_none}
-use Rattle.cg_path_tree.proofs.Linking.{has_nodes, node_found, node_there, still_found, tree-push, tree-write, tree-recount, values-write, keys-changed, values-changed}
+use Rattle.cg_path_tree.proofs.Linking.{has_nodes, node_found, still_found, tree-push, tree-write, tree-recount, values-write, keys-changed, values-changed}
 use Rattle.cg_path_tree.proofs.Kinship.{kin-root, kin-below}
 use Rattle.cg_path_tree.proofs.Seen.{found_is}
 

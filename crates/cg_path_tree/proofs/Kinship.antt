@@ -1,14 +1,13 @@
 -- Parents' lists and their children's places, as nodes come and go.
-use Rattle.std.proofs.Common.{◌≡◌, ◌≢◌, ◌⊎◌, ℕ, suc, ◌+◌, ◌<◌, ◌≤◌, List, [], ◌∷◌, ◌++◌, length, cond, Option, None, Some, refl, sym, ap, subst, ◌∙◌, inl, inr, arith, length-append}
+use Rattle.std.proofs.Common.{◌≡◌, ◌≢◌, ◌⊎◌, ℕ, suc, ◌<◌, List, [], ◌∷◌, ◌++◌, length, cond, Option, None, Some, refl, sym, ap, subst, ◌∙◌, inl, inr, arith, length-append}
 use Rattle.std.specs.List.{slice_get, swap_remove}
-use Rattle.std.specs.Ordering.{eq_by_cmp}
 use Rattle.std.specs.FinMap.Entries.{find}
 use Rattle.std.proofs.lemmas.Bool.{cases_eq}
 use Rattle.std.proofs.lemmas.Option.{slice_get_within}
 use Rattle.cg_name.specs.Path.{Path, path_cmp}
 use Rattle.cg_path_tree.specs.declared.node.NodeKey.{NodeKey}
 use Rattle.cg_path_tree.specs.Linked.{Kin, IsChildAt, AreKin}
-use Rattle.cg_path_tree.proofs.ListChanges.{same_some, some_not_none, at_push, at_end, pushed_cases, LosesAt, loses-swap_remove, left_cases, still_there}
+use Rattle.cg_path_tree.proofs.ListChanges.{same_some, some_not_none, at_push, at_end, pushed_cases, LosesAt, loses-swap_remove, left_cases}
 use Rattle.cg_path_tree.proofs.Finding.{itself, differs, find-push}
 use Rattle.cg_path_tree.proofs.Linking.{cases_key}
 

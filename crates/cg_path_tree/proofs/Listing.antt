@@ -1,34 +1,32 @@
 -- Keys by ascending texts are the keys by ascending paths.
-use Rattle.std.proofs.Common.{◌≡◌, ◌≢◌, ◌↔◌, ℕ, zero, suc, ◌+◌, ◌<◌, ◌≤◌, ◌==◌, Bool, true, false, cond, List, [], ◌∷◌, ◌++◌, map, length, get_or, take, Option, None, Some, Contains, option_map, String, string_bytes, refl, sym, ap, subst, ◌∙◌, inl, inr, arith, true≢false, eq-eqb}
-use Rattle.std.specs.List.{All, AllByRecursion, IsDistinct, slice_get}
+use Rattle.std.proofs.Common.{◌≡◌, ◌≢◌, ℕ, zero, suc, ◌+◌, ◌<◌, ◌≤◌, ◌==◌, Bool, true, false, cond, List, [], ◌∷◌, ◌++◌, map, length, get_or, take, Option, None, Some, Contains, option_map, String, string_bytes, refl, sym, ap, subst, ◌∙◌, arith, true≢false, eq-eqb}
+use Rattle.std.specs.List.{AllByRecursion, IsDistinct, slice_get}
 use Rattle.std.specs.List.Sorted.{IsPermutation, IsStrictlySortedBy}
 use Rattle.std.specs.declared.cmp.Ordering.{Ordering}
 use Rattle.std.specs.declared.cmp.Ordering.TheVariants.{Less, Equal, Greater}
 use Rattle.std.specs.Ordering.{nat_cmp, is_lt, eq_by_cmp, ordering_reverse}
-use Rattle.std.specs.Cmp.{IsTotalOrder}
 use Rattle.std.specs.Cmp.Lexicographic.{slice_cmp, nat_list_cmp_total}
 use Rattle.std.specs.FinMap.{slice_cmp-IsAntisymmetric, nat_cmp-IsAntisymmetric}
 use Rattle.std.specs.FinMap.Entries.{find}
 use Rattle.std.specs.Map.{keys_of}
-use Rattle.std.proofs.lemmas.Bool.{eqb-true, cases_eq}
 use Rattle.std.proofs.lemmas.List.{map-append, length-map, take_more}
 use Rattle.std.proofs.lemmas.List.Elements.{All-from_recursion, recursion_from_All}
-use Rattle.std.proofs.lemmas.List.Sorted.{IsPermutation-map, All-permutation, Contains-permutation, IsPermutation-sym, length_permutation}
+use Rattle.std.proofs.lemmas.List.Sorted.{IsPermutation-map, All-permutation, Contains-permutation, IsPermutation-sym}
 use Rattle.std.proofs.lemmas.Map.Keys.{IsDistinct-from_apart, apart_from_distinct, IsDistinct-IsPermutation, sorted_from_all_adjacent}
 use Rattle.std.proofs.lemmas.Option.{slice_get_within, slice_get-get_or, get_or_from_slice_get}
 use borrow.Author.Tests.{ne_eqb}
 use Rattle.cg_maps.specs.FiniteMap.{FiniteMap, from_entries, get, entries, retain}
 use Rattle.cg_maps.proofs.Maps.{same_map, get-retain}
 use Rattle.cg_name.specs.Order.{path_cmp_total, path_cmp_exact}
-use Rattle.cg_name.specs.Path.{Path, path_cmp, is_parent}
-use Rattle.cg_name.specs.Packed.{names_in, IsPacked}
+use Rattle.cg_name.specs.Path.{Path, path_cmp}
+use Rattle.cg_name.specs.Packed.{names_in}
 use Rattle.cg_path_tree.specs.PathEntries.{by_paths, ArePacked}
 use Rattle.cg_path_tree.proofs.PathEntries.{path_entries, entries-by_paths}
 use Rattle.slab.specs.Slab as slab
 use Rattle.cg_path_tree.specs.declared.node.Node.{Node}
 use Rattle.cg_path_tree.specs.declared.node.NodeKey.{NodeKey}
 use Rattle.cg_path_tree.specs.Linked.{paths_of, children_in, node_in, IsLinked, seen}
-use Rattle.cg_path_tree.specs.Nodes.{Nodes, path_of, with_paths, IsRightBelow, HaveOnePath}
+use Rattle.cg_path_tree.specs.Nodes.{Nodes, with_paths, ArePassing, HaveOnePath}
 use Rattle.cg_path_tree.specs.Listing.{bytes_of, keys_in, IsText, AreTexts, AreInOrder}
 use Rattle.cg_path_tree.proofs.ListChanges.{same_some, some_not_none, contains_at, at_contained, at_mapped, mapped_at}
 use Rattle.cg_path_tree.proofs.Finding.{found_at, standing_of, absent_by, itself}
@@ -202,26 +200,23 @@ module _ (keys m : FiniteMap path_cmp NodeKey) (one : HaveOnePath keys) (es : Li
       ∙ sym (entries-by_paths (λ t. t) ss (path_entries (λ t. t) ss (packed_all ss all_texts) ascending))
       ∙ ap entries (same_map path_cmp_total path_cmp_exact (from_entries path_cmp bs) m (λ q. get_by_find bs q ∙ sym (same_found q (find path_cmp q bs) refl)))
 
--- ---- all nodes, and those right below one
+-- ---- all nodes, and those that pass a test
 
 pub all_in_order : (keys : FiniteMap path_cmp NodeKey) (es : List (List ℕ × NodeKey)) (ks : List NodeKey) → HaveOnePath keys → AreTexts keys es → StandOnce (keys_in es) → AreInOrder es ks
     → ((q : Path) (k : NodeKey) → get keys q ≡ Some k → Contains (keys_in es) k) → with_paths keys ks ≡ entries keys
 all_in_order keys es ks one texts once order each = in_order keys keys one es ks texts once order (λ q k h. h) each (λ q k has h. h)
 
-pub below_in_order : (keys : FiniteMap path_cmp NodeKey) (p : Path) (es : List (List ℕ × NodeKey)) (ks : List NodeKey) → HaveOnePath keys → AreTexts keys es → StandOnce (keys_in es) → AreInOrder es ks
-    → ((k : NodeKey) → Contains (keys_in es) k ↔ IsRightBelow keys p k) → with_paths keys ks ≡ entries (retain keys (is_parent p))
-below_in_order keys p es ks one texts once order below =
-    in_order keys (retain keys (is_parent p)) one es ks texts once order
-    (λ q k h. (kept q k (is_parent p q) refl h).1)
-    (λ q k h. let x = kept q k (is_parent p q) refl h in (below k).1 (q, x.1, x.0))
-    (λ q k has h.
-    let x = (below k).0 has in
-    let path : x.0 ≡ q = one x.0 q k x.1 h in
-    get-retain path_cmp_total path_cmp_exact keys (is_parent p) q ∙ ap (λ b. cond b (get keys q) None) (ap (is_parent p) (sym path) ∙ x.2) ∙ h)
+pub passing_in_order : (keys : FiniteMap path_cmp NodeKey) (test : Path → Bool) (es : List (List ℕ × NodeKey)) (ks : List NodeKey) → HaveOnePath keys → AreTexts keys es → StandOnce (keys_in es) → AreInOrder es ks
+    → ArePassing keys test (keys_in es) → with_paths keys ks ≡ entries (retain keys test)
+passing_in_order keys test es ks one texts once order passing =
+    in_order keys (retain keys test) one es ks texts once order
+    (λ q k h. (kept q k (test q) refl h).1)
+    (λ q k h. let x = kept q k (test q) refl h in (passing q k x.1).0 x.0)
+    (λ q k has h. get-retain path_cmp_total path_cmp_exact keys test q ∙ ap (λ b. cond b (get keys q) None) ((passing q k h).1 has) ∙ h)
   where
-    kept : (q : Path) (k : NodeKey) (b : Bool) → is_parent p q ≡ b → get (retain keys (is_parent p)) q ≡ Some k → (is_parent p q ≡ true) × (get keys q ≡ Some k)
-    kept q k true t h = (t, sym (get-retain path_cmp_total path_cmp_exact keys (is_parent p) q ∙ ap (λ b. cond b (get keys q) None) t) ∙ h)
-    kept q k false t h = absurd (some_not_none k (get (retain keys (is_parent p)) q) h (get-retain path_cmp_total path_cmp_exact keys (is_parent p) q ∙ ap (λ b. cond b (get keys q) None) t))
+    kept : (q : Path) (k : NodeKey) (b : Bool) → test q ≡ b → get (retain keys test) q ≡ Some k → (test q ≡ true) × (get keys q ≡ Some k)
+    kept q k true t h = (t, sym (get-retain path_cmp_total path_cmp_exact keys test q ∙ ap (λ b. cond b (get keys q) None) t) ∙ h)
+    kept q k false t h = absurd (some_not_none k (get (retain keys test) q) h (get-retain path_cmp_total path_cmp_exact keys test q ∙ ap (λ b. cond b (get keys q) None) t))
 
 -- ---- the entries of a tree
 

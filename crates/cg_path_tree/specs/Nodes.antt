@@ -1,5 +1,5 @@
 -- What a contract sees of a tree: the value and the key at each path.
-use Rattle.std.specs.Prelude.{◌≡◌, ◌-◌, ◌==◌, ℕ, true, false, cond, List, [], ◌∷◌, map, length, take, None, Some, IsSome, refl}
+use Rattle.std.specs.Prelude.{◌≡◌, ◌↔◌, ◌-◌, ◌==◌, ℕ, Bool, true, false, cond, Contains, List, [], ◌∷◌, map, length, take, None, Some, IsSome, refl}
 use Rattle.std.specs.Coded.{Coded, code_by, coded×, coded_ℕ, coded_list}
 use Rattle.cg_maps.specs.FiniteMap.{FiniteMap, get, set_at, entries}
 use Rattle.cg_maps.specs.Code.{map_code}
@@ -57,6 +57,10 @@ with_paths keys ks = map (λ k. (path_of keys k, k)) ks
 -- the key is that of a node right below the path
 abbrev pub IsRightBelow : FiniteMap path_cmp NodeKey → Path → NodeKey → Type 0
 IsRightBelow keys p key = (q : Path) × (get keys q ≡ Some key) × (is_parent p q ≡ true)
+
+-- a node is one of these keys exactly where its path passes the test
+abbrev pub ArePassing : FiniteMap path_cmp NodeKey → (Path → Bool) → List NodeKey → Type 0
+ArePassing keys test ks = (p : Path) (k : NodeKey) → get keys p ≡ Some k → (test p ≡ true) ↔ Contains ks k
 
 -- these nodes, with this value at the path
 abbrev pub with_value : {V : Type 0} → Nodes V → Path → V → Nodes V

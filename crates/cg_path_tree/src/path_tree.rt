@@ -1,10 +1,10 @@
 //! Trees of paths.
-ghost use Rattle.std.specs.Prelude.{◌≡◌, ◌↔◌, ◌==◌, false, true, ◌<◌, ◌≤◌, ℕ, List, Contains, length, take, slice_get, not, is_some, IsTrue, IfOk, IfErr, IfNone, IfSome, OnOk, OnErr, None, Some};
+ghost use Rattle.std.specs.Prelude.{◌≡◌, ◌↔◌, ◌==◌, Bool, false, true, ◌<◌, ◌≤◌, ℕ, List, Contains, length, take, slice_get, not, is_some, IsTrue, IfOk, IfErr, IfNone, IfSome, OnOk, OnErr, None, Some};
 ghost use Rattle.std.specs.Borrow.{sem};
 ghost use Rattle.cg_maps.specs.FiniteMap.{empty, entries, get, len, retain, set_at};
 ghost use Rattle.cg_name.specs.Packed.{names_in, IsPacked};
 ghost use Rattle.cg_name.specs.Path.{is_parent, is_root};
-ghost use Rattle.cg_path_tree.specs.Nodes.{parent_path, path_of, with_paths, AreClosed, HaveOnePath, HasParent, IsKey, IsLeaf, IsRightBelow};
+ghost use Rattle.cg_path_tree.specs.Nodes.{parent_path, path_of, with_paths, AreClosed, ArePassing, HaveOnePath, HasParent, IsKey, IsLeaf, IsRightBelow};
 
 use crate::entering::{enter, leave};
 use crate::node::{Node, NodeKey, add_child, make_room, remove_child};
@@ -219,16 +219,16 @@ impl<V: Drop> PathTree<V> {
         &self.nodes[key.number() as usize].children
     }
 
-    /// The nodes right below the one with that key, in the order of their paths.
-    pub fn sorted_children(&self, alloc: Global, key: NodeKey) -> Result<Vec<NodeKey>, AllocError>
-        requires { IsKey self.now.keys key }
-        ensures { IfOk result (λ found. (p : List (List ℕ)) → get self.now.keys p ≡ Some key → with_paths self.now.keys found.items ≡ entries (retain self.now.keys (is_parent p))) }
+    /// These nodes, in the order of their paths: all that pass a test which the paths of these pass, and of no other node.
+    pub fn sort(&self, alloc: Global, nodes: &[NodeKey]) -> Result<Vec<NodeKey>, AllocError>
+        requires live { (i : ℕ) (k : NodeKey) → slice_get nodes.now i ≡ Some k → IsKey self.now.keys k }
+        requires once { (i j : ℕ) (k : NodeKey) → slice_get nodes.now i ≡ Some k → slice_get nodes.now j ≡ Some k → i ≡ j }
+        ensures { IfOk result (λ found. (test : List (List ℕ) → Bool) → ArePassing self.now.keys test nodes.now → with_paths self.now.keys found.items ≡ entries (retain self.now.keys test)) }
     {
         self.laws();
-        let children = self.children(key);
-        let mut found = Vec::with_capacity(alloc, children.len())?;
-        for child in children {
-            found.push((self.text_of(*child), *child))?;
+        let mut found = Vec::with_capacity(alloc, nodes.len())?;
+        for node in nodes {
+            found.push((self.text_of(*node), *node))?;
         }
         in_order(alloc, found)
     }

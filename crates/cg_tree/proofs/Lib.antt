@@ -1,3 +1,4 @@
+mod Asking
 mod Carrying
 mod Climbing
 mod Counts

@@ -52,7 +52,7 @@ still_all P test (x ∷ xs) h =
       | false ↦ rest
     ]
 
-kept_here : {X : Type 0} (m : FiniteMap path_cmp X) (test : Path → Bool) → filter (λ e. test e.0) (entries m) ≡ entries (retain m test)
+pub kept_here : {X : Type 0} (m : FiniteMap path_cmp X) (test : Path → Bool) → filter (λ e. test e.0) (entries m) ≡ entries (retain m test)
 unfolding entries retain
 kept_here m test = refl
 

@@ -1,6 +1,7 @@
 -- Groups as they are listed of nodes.
-use Rattle.std.specs.Prelude.{◌≡◌, ℕ, List, [], ◌∷◌, Option, Some, option_map, slice_get}
+use Rattle.std.specs.Prelude.{◌≡◌, ℕ, Bool, false, not, List, [], ◌∷◌, Option, None, Some, option_map, slice_get}
 use Rattle.std.specs.Option.{option_flatten}
+use Rattle.cg_maps.specs.FiniteSet.{is_empty_set}
 use Rattle.cg_name.specs.Path.{Path}
 use Rattle.cg_path_tree.specs.declared.node.NodeKey.{NodeKey}
 use Rattle.cg_path_tree.specs.Nodes.{Nodes, IsKey}
@@ -16,6 +17,19 @@ AreKeys nodes ks = (i : ℕ) (k : NodeKey) → slice_get ks i ≡ Some k → IsK
 -- the settings of a node's group, none at a dead path
 abbrev pub settings_at : Nodes Entry → NodeKey → Option Settings
 settings_at nodes k = option_flatten (option_map settings_of (entry_at nodes k))
+
+-- the group asks for CPUs
+abbrev pub asks_for_cpus : Path × Settings → Bool
+asks_for_cpus e = not (is_empty_set e.1.cpus)
+
+-- the settings are those of a group that does
+abbrev pub asks : Option Settings → Bool
+asks None = false
+asks (Some s) = not (is_empty_set s.cpus)
+
+-- the node is that of a group that does
+abbrev pub asks_at : Nodes Entry → NodeKey → Bool
+asks_at nodes k = asks (settings_at nodes k)
 
 -- the groups among the nodes
 abbrev pub listed : Nodes Entry → List NodeKey → List (Path × Settings)

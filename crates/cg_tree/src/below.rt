@@ -1,8 +1,9 @@
 //! All groups, the groups below a path, and the children of a group.
-ghost use Rattle.std.specs.Prelude.{◌≡◌, take, IfOk};
+ghost use Rattle.std.specs.Prelude.{◌≡◌, filter, take, IfOk};
 ghost use Rattle.cg_maps.specs.FiniteMap.{entries, is_nonempty};
 ghost use Rattle.cg_model.specs.Control.{used_below};
 ghost use Rattle.cg_model.specs.Derived.{children, descendants};
+ghost use Rattle.cg_tree.specs.Listing.{asks_for_cpus};
 
 use crate::listed::Listed;
 use crate::tree::Tree;
@@ -18,12 +19,12 @@ impl Tree {
         self.groups().present_groups(alloc)
     }
 
-    /// The children of the group at the path with their settings, in the order of their names; an error where there is no
-    /// memory for the list.
-    pub fn children(&self, alloc: Global, path: &Path) -> Result<Listed<'_>, AllocError>
-        ensures { IfOk result (λ l. l ≡ children self.now.tree path.now) }
+    /// The children of the group at the path that ask for CPUs, with their settings, in the order of their names; an error
+    /// where there is no memory for the list. Goes over all children, and puts these alone in order.
+    pub fn children_with_cpus(&self, alloc: Global, path: &Path) -> Result<Listed<'_>, AllocError>
+        ensures { IfOk result (λ l. l ≡ filter asks_for_cpus (children self.now.tree path.now)) }
     {
-        self.groups().children(alloc, path)
+        self.groups().children_with_cpus(alloc, path)
     }
 
     /// The controllers that a child of the group at the path passes on. Goes over the children in no order, and takes no

@@ -1,6 +1,6 @@
 // The groups of a tree and its dead paths, each found by one look-up, with how many groups and processes are below, and the
 // processes in them.
-ghost use Rattle.std.specs.Prelude.{◌≡◌, ◌≢◌, ◌≤◌, ◌<◌, ℕ, false, is_some, length, suc, true, take, IsSome, IfOk, OnErr, OnOk, Some, None};
+ghost use Rattle.std.specs.Prelude.{◌≡◌, ◌≢◌, ◌≤◌, ◌<◌, ℕ, false, filter, is_some, length, suc, true, take, IsSome, IfOk, OnErr, OnOk, Some, None};
 ghost use Rattle.std.specs.Option.{option_flatten};
 ghost use Rattle.cg_maps.specs.FiniteMap.{empty, entries, get, is_nonempty, keys, retain, set_at};
 ghost use Rattle.cg_model.specs.Control.{used_below};
@@ -10,12 +10,13 @@ ghost use Rattle.cg_name.specs.Path.{is_above, is_parent, is_root};
 ghost use Rattle.cg_path_tree.specs.Nodes.{number_of, parent_path};
 ghost use Rattle.cg_tree.specs.Ancestors.{ancestor_in, downward};
 ghost use Rattle.cg_tree.specs.Entries.{group_count};
+ghost use Rattle.cg_tree.specs.Listing.{asks_for_cpus};
 ghost use Rattle.cg_tree.specs.Present.{present};
 
 use crate::ancestors::{Ancestors, deepest, deepest_above};
 use crate::counting::{add_dead, count_process, put};
 use crate::entry::Entry;
-use crate::listed::{Listed, passed_on};
+use crate::listed::{Listed, asking_for_cpus, passed_on};
 use crate::looking::{entry, prefix_entry};
 use cg_name::{Path, PathRef};
 use cg_path_tree::{NodeKey, PathTree};
@@ -188,15 +189,20 @@ impl Groups {
         Ok(Listed::new(&self.nodes, keys))
     }
 
-    // The groups right below the path, in the order of their paths.
-    pub(crate) fn children(&self, alloc: Global, path: &Path) -> Result<Listed<'_>, AllocError>
-        ensures { IfOk result (λ l. l ≡ entries (retain (present self.now.groups) (is_parent path.now))) }
+    // The groups right below the path that ask for CPUs, in the order of their paths. Only these are put in order.
+    pub(crate) fn children_with_cpus(
+        &self,
+        alloc: Global,
+        path: &Path,
+    ) -> Result<Listed<'_>, AllocError>
+        ensures { IfOk result (λ l. l ≡ filter asks_for_cpus (entries (retain (present self.now.groups) (is_parent path.now)))) }
     {
         self.nodes.laws();
         let Some(key) = self.nodes.find(path) else {
             return Ok(Listed::new(&self.nodes, Vec::new(alloc)));
         };
-        let keys = self.nodes.sorted_children(alloc, key)?;
+        let asking = asking_for_cpus(alloc, &self.nodes, self.nodes.children(key))?;
+        let keys = self.nodes.sort(alloc, &asking)?;
         Ok(Listed::new(&self.nodes, keys))
     }
 

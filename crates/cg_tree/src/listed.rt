@@ -1,13 +1,14 @@
 //! Groups of a tree, one by one.
-ghost use Rattle.std.specs.Prelude.{◌≡◌, ◌∷◌, [], MatchOption, drop, slice_get};
+ghost use Rattle.std.specs.Prelude.{◌≡◌, ◌∷◌, [], filter, MatchOption, IfOk, drop, slice_get};
 ghost use Rattle.std.specs.Iterator.{item_count, YieldsFirstBy};
 ghost use Rattle.cg_model.specs.Control.{used_below};
-ghost use Rattle.cg_tree.specs.Listing.{listed, AreKeys};
+ghost use Rattle.cg_tree.specs.Listing.{asks, asks_at, listed, AreKeys};
 
 use crate::entry::Entry;
 use cg_name::PathRef;
 use cg_path_tree::{NodeKey, PathTree};
 use cg_text::{Controllers, Settings};
+use std::alloc::{AllocError, Global};
 use std::marker::Model;
 
 /// Groups that are still to come, with their settings. The list was made when the groups were asked for: to go on in it takes
@@ -98,4 +99,33 @@ pub(crate) fn passed_on(nodes: &PathTree<Entry>, keys: &[NodeKey]) -> Controller
         }
     }
     used
+}
+
+// Those of the nodes that are groups which ask for CPUs.
+pub(crate) fn asking_for_cpus(
+    alloc: Global,
+    nodes: &PathTree<Entry>,
+    keys: &[NodeKey],
+) -> Result<Vec<NodeKey>, AllocError>
+    requires { AreKeys nodes.now keys.now }
+    ensures { IfOk result (λ found. found.items ≡ filter (asks_at nodes.now) keys.now) }
+{
+    nodes.laws();
+    let mut found = Vec::new(alloc);
+    for key in keys {
+        if asks_for_cpus(&nodes.get(*key).settings) {
+            found.push(*key)?;
+        }
+    }
+    Ok(found)
+}
+
+// Whether they are those of a group that asks for CPUs.
+fn asks_for_cpus(settings: &Option<Settings>) -> bool
+    ensures { result ≡ asks settings.now }
+{
+    match settings {
+        Some(settings) => !settings.cpus.is_empty(),
+        None => false,
+    }
 }

@@ -101,7 +101,7 @@ fn write_children(
     if tree.children(key).len() != tree.child_count(key) as usize {
         return Err(Refusal::Lost);
     }
-    let keys = tree.sorted_children(alloc, key)?;
+    let keys = tree.sort(alloc, tree.children(key))?;
     write_paths(tree, &keys, out)
 }
 

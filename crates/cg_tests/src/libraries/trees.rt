@@ -1,5 +1,6 @@
 //! The tree that commands change: made of a world, given back as one, and edited.
 use crate::opening::{LARGER, tree};
+use cg_cpus::CpuSet;
 use cg_derive::parent_settings;
 use cg_name::{Path, Refusal};
 use cg_text::{Settings, write_procs};
@@ -44,10 +45,20 @@ fn move_process(alloc: Global, tree: &mut Tree, pid: u32, word: &str) -> Result<
     Ok(())
 }
 
-// Two groups, one in the other, and a process in the lower one.
+// Has the group at the path that a word spells ask for the first CPU.
+fn ask_for_a_cpu(alloc: Global, tree: &mut Tree, word: &str) -> Result<(), Refusal> {
+    let path = Path::read(alloc, word)?;
+    let value = CpuSet::read("0")?;
+    tree.put_edit(Edit::Cpus { path, value });
+    Ok(())
+}
+
+// Three groups, one in another, which asks for a CPU, and a process in the lower one.
 fn edit_tree(alloc: Global, tree: &mut Tree) -> Result<(), Refusal> {
     make_group(alloc, tree, "/a")?;
     make_group(alloc, tree, "/a/b")?;
+    make_group(alloc, tree, "/b")?;
+    ask_for_a_cpu(alloc, tree, "/a")?;
     move_process(alloc, tree, 11, "/a/b")
 }
 
@@ -65,14 +76,14 @@ fn write_location(
     Ok(())
 }
 
-// Appends the paths of the children of the group at the path.
+// Appends the paths of the children that ask for CPUs of the group at the path.
 fn write_children(
     alloc: Global,
     tree: &Tree,
     path: &Path,
     out: &mut Vec<u8>,
 ) -> Result<(), AllocError> {
-    for (child, _) in tree.children(alloc, path)? {
+    for (child, _) in tree.children_with_cpus(alloc, path)? {
         child.write(out)?;
     }
     Ok(())
@@ -86,7 +97,7 @@ fn write_groups(alloc: Global, tree: &Tree, out: &mut Vec<u8>) -> Result<(), All
     Ok(())
 }
 
-// Appends both, a `2` where two groups are below that one, a `c` where it has a child, and a newline.
+// Appends both, a `3` where three groups are below that one, a `c` where it has a child, and a newline.
 fn write_below(
     alloc: Global,
     tree: &Tree,
@@ -95,8 +106,8 @@ fn write_below(
 ) -> Result<(), AllocError> {
     write_children(alloc, tree, path, out)?;
     write_groups(alloc, tree, out)?;
-    if tree.descendants(path, 0) == 2 {
-        out.push(b'2')?;
+    if tree.descendants(path, 0) == 3 {
+        out.push(b'3')?;
     }
     if tree.has_children(path) {
         out.push(b'c')?;
@@ -179,7 +190,7 @@ const SHOWN: &str = "/
 /
 /a/b
 
-/a//a/a/b2c
+/a//a/a/b/b3c
 10
 11
 10

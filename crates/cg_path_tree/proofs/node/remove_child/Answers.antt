@@ -1,5 +1,5 @@
 -- The child that got the place is another node than the parent, and is there.
-use Rattle.std.proofs.Common.{◌≡◌, List, Some, IsSome, length, get_or, swap_remove, sym, ap, subst, ◌∙◌}
+use Rattle.std.proofs.Common.{◌≡◌, Some, IsSome, get_or, swap_remove, sym, ap, subst, ◌∙◌}
 use Rattle.std.proofs.lemmas.Option.{slice_get-get_or}
 use Rattle.cg_path_tree.specs.Linked.{node_in, Writes}
 use Rattle.cg_path_tree.proofs.ListChanges.{same_some}

@@ -1,4 +1,3 @@
-use Rattle.std.proofs.Common.{ℕ}
 use Rattle.cg_tree.proofs.Unlimited.{AllUnlimited}
 use Rattle.cg_tree.proofs.limits.have_limit.Given as goal
 

@@ -5,7 +5,7 @@ use Rattle.cg_path_tree.specs.declared.node.Node.{Node}
 use Rattle.cg_path_tree.specs.declared.node.NodeKey.{NodeKey}
 use Rattle.cg_path_tree.specs.Linked.{NodeView, node_view, node_in, HasRoom, Writes}
 use Rattle.cg_path_tree.proofs.Seen.{found_is, parent_key_there}
-use Rattle.cg_path_tree.proofs.Adding.{linked-added, keys-added, values-added, fresh, is_new, parent_node, linked-same, seen-same}
+use Rattle.cg_path_tree.proofs.Adding.{linked-added, keys-added, values-added, fresh, is_new, parent_node, linked-same}
 use Rattle.cg_path_tree.proofs.Views.{other_number, writes-updates}
 use Rattle.cg_path_tree.proofs.path_tree.PathTree.add.Goals as goal
 
