@@ -33,6 +33,13 @@ pub struct Transaction<'s, L = Log> {
 }
 
 impl<'s> Transaction<'s> {
+    /// Its number.
+    pub fn number(&self) -> TxnNumber
+        ensures { result.0 ≡ txn_number self.now }
+    {
+        self.number
+    }
+
     /// Runs a command.
     pub fn run(&mut self, rt: &impl Wait, alloc: Global, command: Command) -> Answer
         ensures answers { MayAnswer (txn_number self.old) (model.Do (command_of command)) (answer_of result) }

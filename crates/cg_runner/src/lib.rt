@@ -10,6 +10,7 @@ mod passage;
 mod runner;
 mod running;
 mod trying;
+mod turns;
 mod worker;
 mod workers;
 

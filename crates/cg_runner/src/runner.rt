@@ -85,12 +85,13 @@ fn hire(rt: &impl Wait, alloc: Global, desk: &Desk, workers: u32) -> Result<Vec<
     ensures new { IfOk result (λ hired. AllByRecursion IsNew hired.items) }
 {
     let mut hired = Vec::with_capacity(alloc, workers as usize)?;
-    for _ in 0..workers {
+    for seat in 0..workers {
         // A desk that was just opened has as many.
         let Ok(session) = desk.session(rt, alloc) else {
             return Err(RunFault::Disagree);
         };
         hired.push(Worker {
+            seat: seat as usize,
             session,
             finished: Vec::new(alloc),
             fault: None,

@@ -28,6 +28,7 @@ pub(crate) fn run_script<G: Gate>(
     ensures ran { IfOk result (Ran script.now session.old session.new) }
 {
     for tried in 0..tries {
+        passage.wait(rt);
         let ended = try_script(rt, alloc, &mut passage, desk, session, script, tried + 1)?;
         if let Some(end) = ended {
             return Ok(end);

@@ -56,6 +56,7 @@ pub(crate) fn try_script<G: Gate>(
             }));
         }
     };
+    passage.begun(rt, transaction.number());
     let asked = ask_all(
         rt,
         alloc,
@@ -132,7 +133,10 @@ fn ask<G: Gate>(
     let answer = answer_to(rt, alloc, transaction, copy);
     passage.leave();
     match answer {
-        Answer::Refused(refusal) => Some(refusal),
+        Answer::Refused(refusal) => {
+            passage.refused(refusal);
+            Some(refusal)
+        }
         _ => None,
     }
 }
@@ -200,6 +204,7 @@ fn end<G: Gate>(
     } else {
         transaction.commit(rt, alloc)
     };
+    passage.ended(rt);
     passage.leave();
     answer
 }

@@ -14,6 +14,8 @@ pub(crate) struct Finished {
 /// A session, and what was run on it.
 #[derive(Drop)]
 pub(crate) struct Worker {
+    // Its place among the workers, from 0.
+    pub(crate) seat: usize,
     pub(crate) session: Session,
     // The scripts that it ran, in their order.
     pub(crate) finished: Vec<Finished>,

@@ -7,6 +7,7 @@ use crate::fault::RunFault;
 use crate::gate::Gate;
 use crate::passage::Passage;
 use crate::running::run_script;
+use crate::turns::Turns;
 use crate::worker::{Finished, Worker};
 use cg_desk::Desk;
 use cg_script::Script;
@@ -15,6 +16,14 @@ use std::alloc::{AllocError, Global};
 use std::sync::Wait;
 use std::thread;
 use std::thread::Threads;
+
+/// What all workers share.
+#[derive(Drop)]
+struct Shared {
+    // The places of the scripts that are still to be run.
+    jobs: Receiver<usize>,
+    turns: Turns,
+}
 
 /// How many workers a run has at most.
 pub(crate) const MOST_WORKERS: usize = 64;
@@ -33,13 +42,16 @@ pub(crate) fn work_all<G: Gate + Sync, R: Threads + Wait + Sync>(
     requires a_try { 1 ≤ tries }
     ensures { OnOk result (AllZip (KeepsTelling tries scripts.now) workers.old workers.new) }
 {
-    let jobs = jobs_of(rt, alloc, scripts.len())?;
-    let jobs = &jobs;
+    let shared = Shared {
+        jobs: jobs_of(rt, alloc, scripts.len())?,
+        turns: Turns::new(),
+    };
+    let shared = &shared;
     thread::for_each_mut(
         rt,
         workers,
         MOST_WORKERS,
-        &|_, worker: &mut Worker| { work(rt, alloc, gate, desk, worker, jobs, scripts, tries) },
+        &|_, worker: &mut Worker| { work(rt, alloc, gate, desk, worker, shared, scripts, tries) },
     );
     Ok(())
 }
@@ -63,7 +75,7 @@ fn work<G: Gate>(
     gate: &G,
     desk: &Desk,
     worker: &mut Worker,
-    jobs: &Receiver<usize>,
+    shared: &Shared,
     scripts: &[Script],
     tries: u32,
 )
@@ -71,8 +83,10 @@ fn work<G: Gate>(
     requires a_try { 1 ≤ tries }
     ensures { KeepsTelling tries scripts.now worker.old worker.new }
 {
-    for place in jobs.iter(rt) {
-        if let Err(fault) = run_next(rt, alloc, gate, desk, worker, place, scripts, tries) {
+    for place in shared.jobs.iter(rt) {
+        let turns = &shared.turns;
+        if let Err(fault) = run_next(rt, alloc, gate, desk, worker, turns, place, scripts, tries) {
+            turns.end(rt, worker.seat);
             worker.fault = Some(fault);
             return;
         }
@@ -86,6 +100,7 @@ fn run_next<G: Gate>(
     gate: &G,
     desk: &Desk,
     worker: &mut Worker,
+    turns: &Turns,
     place: usize,
     scripts: &[Script],
     tries: u32,
@@ -99,7 +114,7 @@ fn run_next<G: Gate>(
     };
     worker.finished.reserve(1)?;
     let number = place as u32 + 1;
-    let passage = Passage::new(gate, number);
+    let passage = Passage::new(gate, number, turns, worker.seat);
     let session = &mut worker.session;
     let end = run_script(rt, alloc, passage, desk, session, script, tries)?;
     gate.ended(number, end.tries());

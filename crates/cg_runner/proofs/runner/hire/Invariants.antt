@@ -3,5 +3,5 @@ use Rattle.std.specs.List.{AllByRecursion}
 use Rattle.cg_runner.specs.Workers.{IsNew}
 use Rattle.cg_runner.proofs.runner.hire.Given as goal
 
-abbrev pub invariant-loop : goal.invariant-loop
-invariant-loop g l = (vec_len l.hired ≡ l.counter) × AllByRecursion IsNew l.hired.items
+abbrev pub invariant-loop-seat : goal.invariant-loop-seat
+invariant-loop-seat g l = (vec_len l.hired ≡ l.seat) × AllByRecursion IsNew l.hired.items
