@@ -9,7 +9,7 @@ use Rattle.cg_command.specs.Meaning.{command_of}
 use Rattle.cg_command.specs.contracts.command.Command.{enum}
 use Rattle.cg_command.specs.contracts.command.CommandPartialEq.TheImpl as eq
 use Rattle.cg_command.specs.declared.command.Command.{Command}
-use Rattle.cg_cpus.specs.contracts.cpu_set.CpuSetPartialEq.TheImpl as set_eq
+use Rattle.cg_boxed.specs.contracts.cpus.BoxedCpusPartialEq.TheImpl as set_eq
 use Rattle.cg_maps.specs.FiniteSet.{FiniteSet, members, set_of}
 use Rattle.cg_maps.proofs.Sets.{set_of-members}
 use Rattle.cg_model.specs.Command as model

@@ -11,7 +11,7 @@ ghost use Rattle.cg_tree.specs.Edit.{RoomForEdit};
 ghost use Rattle.cg_tree.specs.Room.{has_entry};
 
 use crate::command::Outcome;
-use cg_cpus::CpuSet;
+use cg_boxed::{BoxedCpus, BoxedSettings};
 use cg_inverse::{Change, Inverse};
 use cg_name::Path;
 use cg_text::{FileName, Limit, Settings};
@@ -37,7 +37,7 @@ pub(crate) fn create(
         Change::Group {
             path: path.copy(alloc)?,
             before: None,
-            left: Some(Settings::fresh()),
+            left: Some(BoxedSettings::fresh()),
         },
     )?;
     tree.make_room(alloc, &edit)?;
@@ -55,12 +55,15 @@ pub(crate) fn remove(
     requires { IsAccepted (effect (model.Remove path.now) tree.old.tree) }
     ensures { IsCarriedOut (model.Remove path.now) tree.old result tree.new }
 {
-    let before = tree.settings(path);
+    let Some(settings) = tree.settings(path) else {
+        // The group of an accepted command is there.
+        unreachable!()
+    };
     // A tree tells what holds of it when it is asked for a group.
     let _ = tree.find(path);
     let change = Change::Group {
         path: path.copy(alloc)?,
-        before,
+        before: Some(BoxedSettings::new(alloc, settings)?),
         left: None,
     };
     Ok((Outcome::Done, change_one(alloc, change, tree)?))
@@ -143,12 +146,12 @@ fn change_one(alloc: Global, change: Change, tree: &mut Tree) -> Result<Inverse,
 #[tactic(auto, unfolding(cg_model::specs::Effect::effect))]
 pub(crate) fn cpus(
     path: &Path,
-    value: CpuSet,
+    value: &BoxedCpus,
     alloc: Global,
     tree: &mut Tree,
 ) -> Result<(Outcome, Inverse), AllocError>
-    requires { IsAccepted (effect (model.Cpus path.now value) tree.old.tree) }
-    ensures { IsCarriedOut (model.Cpus path.now value) tree.old result tree.new }
+    requires { IsAccepted (effect (model.Cpus path.now value.now) tree.old.tree) }
+    ensures { IsCarriedOut (model.Cpus path.now value.now) tree.old result tree.new }
 {
     let Some(settings) = tree.settings(path) else {
         // As above.
@@ -156,8 +159,8 @@ pub(crate) fn cpus(
     };
     let change = Change::Cpus {
         path: path.copy(alloc)?,
-        before: settings.cpus,
-        left: value,
+        before: BoxedCpus::new(alloc, settings.cpus)?,
+        left: value.copy(alloc)?,
     };
     Ok((Outcome::Done, change_one(alloc, change, tree)?))
 }
@@ -211,15 +214,15 @@ pub(crate) fn max_depth(
 // Sets which CPUs are online.
 #[tactic(auto, unfolding(cg_model::specs::Effect::effect))]
 pub(crate) fn online(
-    value: CpuSet,
+    value: &BoxedCpus,
     alloc: Global,
     tree: &mut Tree,
 ) -> Result<(Outcome, Inverse), AllocError>
-    ensures { IsCarriedOut (model.Online value) tree.old result tree.new }
+    ensures { IsCarriedOut (model.Online value.now) tree.old result tree.new }
 {
     let change = Change::Online {
-        before: tree.online(),
-        left: value,
+        before: BoxedCpus::new(alloc, tree.online())?,
+        left: value.copy(alloc)?,
     };
     Ok((Outcome::Done, change_one(alloc, change, tree)?))
 }

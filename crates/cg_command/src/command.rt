@@ -20,7 +20,7 @@ use crate::checks::{
 use crate::online_cpus::OnlineCpus;
 use crate::pid::Pid;
 use crate::subtree::subtree;
-use cg_cpus::CpuSet;
+use cg_boxed::BoxedCpus;
 use cg_inverse::Inverse;
 use cg_name::{Path, Refusal};
 use cg_text::{ControlOps, FileName, Limit};
@@ -66,7 +66,7 @@ pub enum Command {
         /// The group.
         path: Path,
         /// The CPUs that it asks for.
-        cpus: CpuSet,
+        cpus: BoxedCpus,
     },
     /// Reads an interface file.
     Show {
@@ -131,13 +131,15 @@ impl Command {
             },
             Command::Cpus { path, cpus } => Command::Cpus {
                 path: path.copy(alloc)?,
-                cpus: *cpus,
+                cpus: cpus.copy(alloc)?,
             },
             Command::Show { path, file } => Command::Show {
                 path: path.copy(alloc)?,
                 file: *file,
             },
-            Command::Online { cpus } => Command::Online { cpus: *cpus },
+            Command::Online { cpus } => Command::Online {
+                cpus: cpus.copy(alloc)?,
+            },
             Command::MaxDescendants { path, limit } => Command::MaxDescendants {
                 path: path.copy(alloc)?,
                 limit: *limit,
@@ -197,9 +199,9 @@ impl Command {
             Command::Migrate { pid, path } => migrate(pid.number, path, alloc, tree),
             Command::Subtree { path, ops } => subtree(path, *ops, alloc, tree),
             Command::Freeze { path, value } => freeze(path, *value, alloc, tree),
-            Command::Cpus { path, cpus } => apply::cpus(path, *cpus, alloc, tree),
+            Command::Cpus { path, cpus } => apply::cpus(path, cpus, alloc, tree),
             Command::Show { path, file } => show(path, *file, alloc, tree),
-            Command::Online { cpus } => online(cpus.cpus, alloc, tree),
+            Command::Online { cpus } => online(&cpus.cpus, alloc, tree),
             Command::MaxDescendants { path, limit } => max_descendants(path, *limit, alloc, tree),
             Command::MaxDepth { path, limit } => max_depth(path, *limit, alloc, tree),
         }

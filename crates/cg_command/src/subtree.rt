@@ -11,7 +11,7 @@ ghost use Rattle.cg_model.specs.Derived.{children};
 ghost use Rattle.cg_model.specs.Effect.{effect};
 
 use crate::command::Outcome;
-use cg_cpus::CpuSet;
+use cg_boxed::BoxedCpus;
 use cg_inverse::{Change, Inverse};
 use cg_name::Path;
 use cg_text::{ControlOps, Controllers};
@@ -68,7 +68,6 @@ fn loses_cpuset(before: Controllers, left: Controllers) -> bool
 }
 
 // Where the `cpuset` controller goes, adds the change of each child of the group that asks for CPUs: it asks for none.
-#[tactic(auto, using(crate::proofs::Emptying::asking_emptied))]
 fn add_emptied(
     goes: bool,
     path: &Path,
@@ -84,8 +83,8 @@ fn add_emptied(
     for (child, settings) in tree.children_with_cpus(alloc, path)? {
         inverse.push(Change::Cpus {
             path: child.to_path(alloc)?,
-            before: settings.cpus,
-            left: CpuSet::empty(),
+            before: BoxedCpus::new(alloc, settings.cpus)?,
+            left: BoxedCpus::empty(),
         })?;
     }
     Ok(())

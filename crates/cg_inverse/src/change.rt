@@ -3,7 +3,7 @@ ghost use Rattle.std.specs.Prelude.{◌≡◌, ◌↔◌, IfOk, IsTrue, option_c
 ghost use Rattle.cg_inverse.specs.Meaning.{change_of, edit_back, edit_left, group_of, FitsIn, HasRoomIn, MayGoBack};
 ghost use Rattle.cg_model.specs.Room.{is_group_key};
 
-use cg_cpus::CpuSet;
+use cg_boxed::{BoxedCpus, BoxedSettings};
 use cg_name::Path;
 use cg_text::{Controllers, Limit, Settings};
 use cg_tree::{Edit, Tree};
@@ -18,9 +18,9 @@ pub enum Change {
         /// Where.
         path: Path,
         /// The settings before; `None` where there was no group.
-        before: Option<Settings>,
+        before: Option<BoxedSettings>,
         /// The settings left; `None` where there is no group any more.
-        left: Option<Settings>,
+        left: Option<BoxedSettings>,
     },
     /// The group of a process.
     Place {
@@ -54,9 +54,9 @@ pub enum Change {
         /// The group.
         path: Path,
         /// The CPUs that it asked for before.
-        before: CpuSet,
+        before: BoxedCpus,
         /// The CPUs that it asks for now.
-        left: CpuSet,
+        left: BoxedCpus,
     },
     /// `cgroup.max.descendants` of a group.
     MaxDescendants {
@@ -79,9 +79,9 @@ pub enum Change {
     /// The CPUs that are online.
     Online {
         /// Those before.
-        before: CpuSet,
+        before: BoxedCpus,
         /// Those now.
-        left: CpuSet,
+        left: BoxedCpus,
     },
 }
 
@@ -89,8 +89,8 @@ pub enum Change {
 impl MadeWith<Global> for Change {
     fn made_with(_alloc: Global) -> Change {
         Change::Online {
-            before: CpuSet::empty(),
-            left: CpuSet::empty(),
+            before: BoxedCpus::empty(),
+            left: BoxedCpus::empty(),
         }
     }
 }
@@ -103,7 +103,7 @@ impl Change {
         match self {
             Change::Group { path, before, .. } => Edit::Group {
                 path,
-                settings: before,
+                settings: unboxed(&before),
             },
             Change::Place { pid, before, .. } => Edit::Place { pid, path: before },
             Change::Control { path, before, .. } => Edit::Control {
@@ -116,7 +116,7 @@ impl Change {
             },
             Change::Cpus { path, before, .. } => Edit::Cpus {
                 path,
-                value: before,
+                value: before.get(),
             },
             Change::MaxDescendants { path, before, .. } => Edit::MaxDescendants {
                 path,
@@ -126,7 +126,9 @@ impl Change {
                 path,
                 value: before,
             },
-            Change::Online { before, .. } => Edit::Online { value: before },
+            Change::Online { before, .. } => Edit::Online {
+                value: before.get(),
+            },
         }
     }
 
@@ -137,7 +139,7 @@ impl Change {
         Ok(match self {
             Change::Group { path, left, .. } => Edit::Group {
                 path: path.copy(alloc)?,
-                settings: *left,
+                settings: unboxed(left),
             },
             Change::Place { pid, left, .. } => Edit::Place {
                 pid: *pid,
@@ -153,7 +155,7 @@ impl Change {
             },
             Change::Cpus { path, left, .. } => Edit::Cpus {
                 path: path.copy(alloc)?,
-                value: *left,
+                value: left.get(),
             },
             Change::MaxDescendants { path, left, .. } => Edit::MaxDescendants {
                 path: path.copy(alloc)?,
@@ -163,7 +165,7 @@ impl Change {
                 path: path.copy(alloc)?,
                 value: *left,
             },
-            Change::Online { left, .. } => Edit::Online { value: *left },
+            Change::Online { left, .. } => Edit::Online { value: left.get() },
         })
     }
 
@@ -172,7 +174,7 @@ impl Change {
         ensures { IsTrue result ↔ FitsIn tree.now.tree (change_of self.now) }
     {
         match self {
-            Change::Group { path, left, .. } => tree.settings(path) == *left,
+            Change::Group { path, left, .. } => tree.settings(path) == unboxed(left),
             Change::Place { pid, left, .. } => tree.is_at(*pid, left),
             Change::Control { path, left, .. } => match tree.settings(path) {
                 Some(settings) => settings.control == *left,
@@ -183,7 +185,7 @@ impl Change {
                 None => false,
             },
             Change::Cpus { path, left, .. } => match tree.settings(path) {
-                Some(settings) => settings.cpus == *left,
+                Some(settings) => settings.cpus == left.get(),
                 None => false,
             },
             Change::MaxDescendants { path, left, .. } => match tree.settings(path) {
@@ -194,7 +196,7 @@ impl Change {
                 Some(settings) => settings.max_depth == *left,
                 None => false,
             },
-            Change::Online { left, .. } => tree.online() == *left,
+            Change::Online { left, .. } => tree.online() == left.get(),
         }
     }
 
@@ -234,5 +236,15 @@ impl Change {
         ensures { IsTrue result ↔ MayGoBack tree.now (change_of self.now) }
     {
         self.fits(tree) && self.has_room(tree)
+    }
+}
+
+// The settings of a group, where there are any.
+fn unboxed(settings: &Option<BoxedSettings>) -> Option<Settings>
+    ensures { result ≡ settings.now }
+{
+    match settings {
+        Some(settings) => Some(settings.get()),
+        None => None,
     }
 }

@@ -1,5 +1,5 @@
 -- What is compared is what the key holds.
-use Rattle.std.proofs.Common.{◌≡◌, Some, sym, subst, ap, ◌∙◌}
+use Rattle.std.proofs.Common.{◌≡◌, Some, sym, subst, subst₂, ap, ◌∙◌}
 use Rattle.std.proofs.lemmas.Bool.Decides.{Decides-at, Decides-like}
 use Rattle.std.proofs.lemmas.Option.{same_Some}
 use Rattle.std.specs.Bool.{Decides}
@@ -10,7 +10,7 @@ use Rattle.cg_inverse.proofs.change.Change.fits.Goals as goal
 pub returns-in-Group : goal.returns-in-Group
 returns-in-Group c =
     subst (λ x. Decides c.eq.result (FitsIn c.args.tree.now.tree (change_of x))) (sym c.in-Group.is)
-    (subst (λ o. Decides c.eq.result (o ≡ c.in-Group.left)) c.settings.ensures (Decides-at _ _ c.eq.ensures (groups_decide c.settings.result c.in-Group.left)))
+    (subst₂ (λ o l. Decides c.eq.result (o ≡ l)) c.settings.ensures c.unboxed.ensures (Decides-at _ _ c.eq.ensures (groups_decide c.settings.result c.unboxed.result)))
 
 pub returns-in-Place : goal.returns-in-Place
 returns-in-Place c =
@@ -30,7 +30,9 @@ pub returns-in-None-settings : goal.returns-in-None-settings
 returns-in-None-settings c = part_absent c.args.tree.now.tree (ap change_of c.in-Freeze.is) c.in-None-settings.ensures
 
 pub returns-in-Some-settings-2 : goal.returns-in-Some-settings-2
-returns-in-Some-settings-2 c = part_there c.args.tree.now.tree (ap change_of c.in-Cpus.is) _ c.in-Some-settings-2.settings c.in-Some-settings-2.ensures (Decides-at _ _ c.eq-in-Some-settings-2.ensures (sets_decide _ _))
+returns-in-Some-settings-2 c =
+    part_there c.args.tree.now.tree (ap change_of c.in-Cpus.is) _ c.in-Some-settings-2.settings c.in-Some-settings-2.ensures
+    (subst (λ v. Decides c.eq-in-Some-settings-2.result (c.in-Some-settings-2.settings.cpus ≡ v)) c.get.ensures (Decides-at _ _ c.eq-in-Some-settings-2.ensures (sets_decide _ _)))
 
 pub returns-in-None-settings-2 : goal.returns-in-None-settings-2
 returns-in-None-settings-2 c = part_absent c.args.tree.now.tree (ap change_of c.in-Cpus.is) c.in-None-settings-2.ensures
@@ -50,4 +52,5 @@ returns-in-None-settings-4 c = part_absent c.args.tree.now.tree (ap change_of c.
 pub returns-in-Online : goal.returns-in-Online
 returns-in-Online c =
     subst (λ x. Decides c.eq-in-Online.result (FitsIn c.args.tree.now.tree (change_of x))) (sym c.in-Online.is)
-    (Decides-like _ (λ e. ap Some (sym c.online.ensures ∙ e)) (λ e. c.online.ensures ∙ same_Some _ _ e) (Decides-at _ _ c.eq-in-Online.ensures (sets_decide c.online.result c.in-Online.left)))
+    (Decides-like _ (λ e. ap Some (sym c.online.ensures ∙ e)) (λ e. c.online.ensures ∙ same_Some _ _ e)
+    (subst (λ v. Decides c.eq-in-Online.result (c.online.result ≡ v)) c.get-in-Online.ensures (Decides-at _ _ c.eq-in-Online.ensures (sets_decide c.online.result c.get-in-Online.result))))

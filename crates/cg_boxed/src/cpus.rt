@@ -1,0 +1,79 @@
+//! Sets of CPU numbers in memory of their own.
+ghost use Rattle.std.specs.Prelude.{◌≡◌, IfOk, IsOk, true};
+ghost use Rattle.std.proofs.Common.{nat_eq, rules};
+ghost use Rattle.std.specs.Cmp.Lexicographic.{pointwise};
+ghost use Rattle.std.specs.Cmp.Rules.{comparing};
+ghost use Rattle.cg_maps.specs.FiniteSet.{is_empty_set, members, no_members};
+
+use cg_cpus::CpuSet;
+use std::alloc::{AllocError, Global};
+use std::marker::Model;
+
+/// A set of CPU numbers, each from 0 to 1,023. The empty set takes no memory of its own.
+#[derive(Debug, Drop)]
+pub struct BoxedCpus {
+    // None of the empty set.
+    set: Option<Box<CpuSet>>,
+}
+
+impl Model for BoxedCpus {
+    ghost use Rattle.std.specs.Option.{option_map_or};
+    ghost use Rattle.cg_maps.specs.FiniteSet.{FiniteSet, no_members};
+
+    ghost Value = { FiniteSet };
+
+    ghost view = { λ b. option_map_or (λ x. x.value) b.set no_members };
+}
+
+impl PartialEq for BoxedCpus {
+    ghost eq = { λ s t. pointwise nat_eq (members s) (members t) };
+
+    ghost laws = { Prim.search (comparing, rules) };
+
+    fn eq(&self, other: &BoxedCpus) -> bool {
+        self.get() == other.get()
+    }
+}
+
+impl Eq for BoxedCpus {
+    ghost laws = { Prim.search (comparing, rules) };
+}
+
+impl BoxedCpus {
+    /// The set of no number.
+    pub fn empty() -> BoxedCpus
+        ensures { result ≡ no_members }
+    {
+        BoxedCpus { set: None }
+    }
+
+    /// That set; an error where there is no memory for it. The empty set takes none.
+    pub fn new(alloc: Global, cpus: CpuSet) -> Result<BoxedCpus, AllocError>
+        ensures value { IfOk result (λ b. b ≡ cpus) }
+        ensures empty { is_empty_set cpus ≡ true → IsOk result }
+    {
+        if cpus.is_empty() {
+            return Ok(BoxedCpus::empty());
+        }
+        Ok(BoxedCpus {
+            set: Some(Box::new(alloc, cpus)?),
+        })
+    }
+
+    /// The set.
+    pub fn get(&self) -> CpuSet
+        ensures { result ≡ self.now }
+    {
+        match &self.set {
+            Some(set) => **set,
+            None => CpuSet::empty(),
+        }
+    }
+
+    /// An equal set; an error where there is no memory for it.
+    pub fn copy(&self, alloc: Global) -> Result<BoxedCpus, AllocError>
+        ensures { IfOk result (λ b. b ≡ self.now) }
+    {
+        BoxedCpus::new(alloc, self.get())
+    }
+}

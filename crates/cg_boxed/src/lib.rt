@@ -1,0 +1,8 @@
+//! Values that are seldom there, or seldom large, in memory of their own: so what holds one is small, and is cheap to move.
+#![tactic(auto)]
+
+mod cpus;
+mod settings;
+
+pub use cpus::BoxedCpus;
+pub use settings::BoxedSettings;
