@@ -21,10 +21,10 @@ pub fn commands_can_be_asked_for(command: &Command)
         Command::Freeze { path, .. } => tell(path),
         Command::Cpus { path, cpus } => {
             tell(path);
-            tell_cpus(cpus);
+            tell_cpus(&cpus.get());
         }
         Command::Show { path, .. } => tell(path),
-        Command::Online { cpus } => tell_cpus(&cpus.cpus),
+        Command::Online { cpus } => tell_cpus(&cpus.cpus.get()),
         Command::MaxDescendants { path, .. } => tell(path),
         Command::MaxDepth { path, .. } => tell(path),
     }

@@ -16,6 +16,7 @@ ghost use Rattle.cg_command.specs.Meaning.{command_of};
 ghost use Rattle.cg_command_text.specs.CommandText.{SpellsCommand, SpellsCpuWords};
 ghost use Rattle.cg_command_text.specs.Read.{ReadsCommand};
 
+use cg_boxed::BoxedCpus;
 use cg_command::{Command, OnlineCpus, Pid};
 use cg_cpus::CpuSet;
 use cg_name::{Controller, Path, Refusal};
@@ -40,7 +41,7 @@ pub fn read_command(alloc: Global, words: &[&str]) -> Result<Command, Refusal>
         "freeze" => read_freeze(alloc, others),
         "cpus" => read_cpus(alloc, others),
         "show" => read_show(alloc, others),
-        "online" => read_online(others),
+        "online" => read_online(alloc, others),
         "maxdescendants" => read_max_descendants(alloc, others),
         "maxdepth" => read_max_depth(alloc, others),
         _ => Err(Refusal::Syntax),
@@ -118,7 +119,7 @@ fn read_cpus(alloc: Global, words: &[&str]) -> Result<Command, Refusal>
 {
     match words {
         [path, list @ ..] => Ok(Command::Cpus {
-            cpus: read_cpu_words(list)?,
+            cpus: BoxedCpus::new(alloc, read_cpu_words(list)?)?,
             path: Path::read(alloc, path)?,
         }),
         _ => Err(Refusal::Syntax),
@@ -139,13 +140,12 @@ fn read_show(alloc: Global, words: &[&str]) -> Result<Command, Refusal>
 }
 
 // What stands behind `online`.
-fn read_online(words: &[&str]) -> Result<Command, Refusal>
-    ensures read { ReadsCommand (codes "online" ∷ map (λ w. w.now) words.now) result }
-    ensures refusals { IfErr result (λ e. e ≡ Syntax) }
+fn read_online(alloc: Global, words: &[&str]) -> Result<Command, Refusal>
+    ensures { ReadsCommand (codes "online" ∷ map (λ w. w.now) words.now) result }
 {
     match words {
         [list] => Ok(Command::Online {
-            cpus: read_online_cpus(list)?,
+            cpus: read_online_cpus(alloc, list)?,
         }),
         _ => Err(Refusal::Syntax),
     }
@@ -220,10 +220,11 @@ fn read_cpu_words(words: &[&str]) -> Result<CpuSet, Refusal>
 }
 
 // The CPUs of a list that has some.
-fn read_online_cpus(list: &str) -> Result<OnlineCpus, Refusal>
+fn read_online_cpus(alloc: Global, list: &str) -> Result<OnlineCpus, Refusal>
     ensures value { IfOk result (λ online. SpellsCpus list.now online.cpus) }
-    ensures syntax { OnErr result ((cpus : FiniteSet) → SpellsCpus list.now cpus → is_empty_set cpus ≡ false → ⊥) }
-    ensures refusals { IfErr result (λ e. e ≡ Syntax) }
+    ensures syntax { IsErrOf result Syntax → (cpus : FiniteSet) → SpellsCpus list.now cpus → is_empty_set cpus ≡ false → ⊥ }
+    ensures refusals { IfErr result IsSyntaxOrMemory }
 {
-    OnlineCpus::try_from(CpuSet::read(list)?)
+    let cpus = CpuSet::read(list)?;
+    OnlineCpus::try_from(BoxedCpus::new(alloc, cpus)?)
 }

@@ -1,4 +1,5 @@
 //! Commands that are asked for.
+use cg_boxed::BoxedCpus;
 use cg_command::{Command, OnlineCpus, Pid};
 use cg_cpus::CpuSet;
 use cg_name::{FileName, Path, Refusal};
@@ -33,19 +34,19 @@ fn subtree(path: Path, text: &str) -> Result<Command, Refusal> {
 }
 
 // A write of these CPUs.
-fn cpus(path: Path, text: &str) -> Result<Command, Refusal> {
-    let cpus = CpuSet::read(text)?;
+fn cpus(alloc: Global, path: Path, text: &str) -> Result<Command, Refusal> {
+    let cpus = BoxedCpus::new(alloc, CpuSet::read(text)?)?;
     Ok(Command::Cpus { path, cpus })
 }
 
 // That these CPUs are online.
-fn online(text: &str) -> Result<Command, Refusal> {
-    let cpus = OnlineCpus::try_from(CpuSet::read(text)?)?;
+fn online(alloc: Global, text: &str) -> Result<Command, Refusal> {
+    let cpus = OnlineCpus::try_from(BoxedCpus::new(alloc, CpuSet::read(text)?)?)?;
     Ok(Command::Online { cpus })
 }
 
 // The command at the path.
-fn command_at(asked: Asked, path: Path) -> Result<Command, Refusal> {
+fn command_at(alloc: Global, asked: Asked, path: Path) -> Result<Command, Refusal> {
     let limit = Limit::Max;
     match asked {
         Asked::Create => Ok(Command::Create { path }),
@@ -53,9 +54,9 @@ fn command_at(asked: Asked, path: Path) -> Result<Command, Refusal> {
         Asked::Migrate(number) => migrate(number, path),
         Asked::Subtree(text) => subtree(path, text),
         Asked::Freeze => Ok(Command::Freeze { path, value: true }),
-        Asked::Cpus => cpus(path, "0-1"),
+        Asked::Cpus => cpus(alloc, path, "0-1"),
         Asked::Show(file) => Ok(Command::Show { path, file }),
-        Asked::Online => online("0-1"),
+        Asked::Online => online(alloc, "0-1"),
         Asked::MaxDescendants => Ok(Command::MaxDescendants { path, limit }),
         Asked::MaxDepth => Ok(Command::MaxDepth { path, limit }),
     }
@@ -63,5 +64,5 @@ fn command_at(asked: Asked, path: Path) -> Result<Command, Refusal> {
 
 /// The command at the path that a word spells.
 pub(crate) fn command(alloc: Global, asked: Asked, word: &str) -> Result<Command, Refusal> {
-    command_at(asked, Path::read(alloc, word)?)
+    command_at(alloc, asked, Path::read(alloc, word)?)
 }
