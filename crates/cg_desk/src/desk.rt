@@ -1,12 +1,18 @@
 //! One machine under a lock, for sessions in any threads.
-ghost use Rattle.std.specs.Prelude.{◌≡◌, ◌≤◌, ◌⊎◌, [], ℕ, IfErr, IfOk};
+ghost use Rattle.std.specs.Prelude.{◌≡◌, ◌≤◌, ◌⊎◌, [], ℕ, IfErr, IfOk, OnErr, OnOk, length};
+ghost use Rattle.std.specs.Result.{IsErrOf};
+ghost use Rattle.cg_core.specs.State.{CoreState};
 ghost use Rattle.cg_desk.specs.Audit.{IsAudited};
+ghost use Rattle.cg_desk.specs.Publishing.{IsPublishing};
 ghost use Rattle.cg_name.specs.declared.refusal.Refusal.TheVariants as refusals;
+ghost use Rattle.cg_view.specs.Operations.{StartsWith};
+ghost use Rattle.cg_view.specs.Publishers.{appended, opening, published};
 
 use crate::auditing::audit;
 use crate::session::Session;
 use cg_core::{Core, SessionId};
 use cg_name::Refusal;
+use cg_view::{Publisher, Told};
 use cg_world::World;
 use std::alloc::{AllocError, Global};
 use std::sync::{Mutex, Wait};
@@ -70,6 +76,31 @@ impl Desk {
             number,
             log: Vec::new(alloc),
         })
+    }
+
+    /// Publishes all commits of the machine at once, under the lock, and tells how much is published then. `Disagree`, which is
+    /// tested first and changes nothing, where the Publisher shows another machine's commits, or another opening world.
+    /// `Memory`, where there is none, publishes nothing, and a later call goes on from there. It takes time linear in all that
+    /// the machine committed, and waits for the lock and for Viewers that are reading.
+    pub fn publish<R: Wait>(
+        &self,
+        rt: &R,
+        alloc: Global,
+        publisher: &mut Publisher,
+    ) -> Result<Told, Refusal>
+        ensures of_machine { (core : CoreState) × IsPublishing core publisher.old publisher.new result }
+        ensures opening { opening publisher.new ≡ opening publisher.old }
+        ensures later { StartsWith (published publisher.new) (published publisher.old) }
+        ensures told { IfOk result (λ t. t.count ≡ length (published publisher.new)) }
+        ensures spent { OnOk result (appended publisher.new ≡ []) }
+        ensures refusals { IfErr result (λ e. (e ≡ refusals.Disagree) ⊎ (e ≡ refusals.Memory)) }
+        ensures unchanged { IsErrOf result refusals.Disagree → appended publisher.new ≡ appended publisher.old }
+        ensures nothing { OnErr result (published publisher.new ≡ published publisher.old) }
+    {
+        let locked = self.locked.lock(rt);
+        let core = &locked.core;
+        core.laws();
+        publisher.publish(rt, alloc, core)
     }
 
     /// The machine, where the sessions are those that the desk handed out, and they and its history agree as `audit` says. Else

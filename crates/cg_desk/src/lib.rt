@@ -12,6 +12,7 @@ pub use cg_command::Command;
 pub use cg_core::{Answer, Core, Record, Request, SessionId};
 pub use cg_log::Call;
 pub use cg_name::{Refusal, SaveName, TxnNumber};
+pub use cg_view::{Publisher, Told};
 pub use cg_world::World;
 pub use desk::{CloseFault, Desk};
 pub use session::Session;
