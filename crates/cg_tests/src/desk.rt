@@ -1,11 +1,11 @@
 //! Desks, their sessions and their transactions.
-mod asking;
+pub(crate) mod asking;
 mod busy;
 mod closing;
-mod crowd;
+pub(crate) mod crowd;
 mod example;
 mod locking;
-mod opened;
+pub(crate) mod opened;
 mod pairs;
 mod sessions;
 mod steps;

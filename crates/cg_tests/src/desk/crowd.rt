@@ -10,7 +10,7 @@ use std::thread;
 use std::thread::Threads;
 use std::time::{Clock, Duration};
 
-const THREADS: u32 = 8;
+pub(crate) const THREADS: u32 = 8;
 
 const TRANSACTIONS: u32 = 25;
 
@@ -148,27 +148,28 @@ fn commits_in_the_end<R: Wait + Clock>(
     Ok(false)
 }
 
-// Makes all transactions of a session, as long as each is committed.
-fn work<R: Wait + Clock>(rt: &R, alloc: Global, desk: &Desk, session: &mut Session) {
-    for number in 0..TRANSACTIONS {
+// Makes so many transactions of a session, as long as each is committed.
+fn work<R: Wait + Clock>(rt: &R, alloc: Global, desk: &Desk, session: &mut Session, count: u32) {
+    for number in 0..count {
         if commits_in_the_end(rt, alloc, desk, session, number) != Ok(true) {
             return;
         }
     }
 }
 
-// The same of each session, in a thread of its own.
-fn work_all<R: Threads + Wait + Clock + Sync>(
+/// The same of each session, in a thread of its own.
+pub(crate) fn work_all<R: Threads + Wait + Clock + Sync>(
     rt: &R,
     alloc: Global,
     desk: &Desk,
     sessions: &mut [Session],
+    count: u32,
 ) {
     thread::for_each_mut(
         rt,
         sessions,
-        8,
-        &|_, session: &mut Session| { work(rt, alloc, desk, session) },
+        THREADS as usize,
+        &|_, session: &mut Session| { work(rt, alloc, desk, session, count) },
     );
 }
 
@@ -181,7 +182,13 @@ fn report_of(alloc: Global, core: &Core) -> Result<(usize, bool), Refusal> {
 // The machine of a desk at which all sessions made their transactions.
 fn closed<R: Threads + Wait + Clock + Sync>(rt: &R, alloc: Global) -> Result<Core, Refusal> {
     let mut opened = Opened::open_on(rt, alloc, LARGER, THREADS)?;
-    work_all(rt, alloc, &opened.desk, opened.sessions.as_mut_slice());
+    work_all(
+        rt,
+        alloc,
+        &opened.desk,
+        opened.sessions.as_mut_slice(),
+        TRANSACTIONS,
+    );
     opened.close(alloc).map_err(|fault| fault.refusal)
 }
 

@@ -65,44 +65,6 @@ fn what_is_not_published_is_not_seen(rt: HostRuntime) {
     assert!(rt; answer == Ok(true));
 }
 
-// What a Viewer reads before and after another script is published, and after a fresh machine's commits are refused.
-fn keeps_to_its_machine(
-    rt: &impl Wait,
-    alloc: Global,
-    publisher: &mut Publisher,
-) -> Result<bool, Refusal> {
-    let mut core = machine(alloc)?;
-    let mut viewer = publisher.viewer()?;
-    viewer.learn(publish(rt, alloc, publisher, &mut core, "A create /a")?);
-    ask(
-        alloc,
-        &mut core,
-        &["A begin", "A remove /a", "A create /b", "A commit"],
-    )?;
-    let before = text(alloc, &mut viewer, "/a", FileName::Controllers)?;
-    viewer.learn(publisher.publish(rt, alloc, &core)?);
-    let after = refusal(alloc, &mut viewer, "/a");
-    let fresh = machine(alloc)?;
-    let another = publisher.publish(rt, alloc, &fresh).err();
-    let shown = text(alloc, &mut viewer, "/b", FileName::Procs)?;
-    let of_root = text(alloc, &mut viewer, "/", FileName::Events).err();
-    Ok(
-        before.is_empty()
-            && after == Some(Refusal::NoGroup)
-            && another == Some(Refusal::Disagree)
-            && shown.is_empty()
-            && of_root == Some(Refusal::NoFile),
-    )
-}
-
-#[test]
-fn a_publisher_keeps_to_its_machine(rt: HostRuntime) {
-    let mut publisher = publisher(rt.alloc()).expect(&rt, "memory");
-    let answer = keeps_to_its_machine(&rt, rt.alloc(), &mut publisher);
-    publisher.end(&rt);
-    assert!(rt; answer == Ok(true));
-}
-
 // Reads of a file that the root hasn't, of one that a group has, and of a group that isn't there.
 fn misses_files(rt: &impl Wait, alloc: Global, publisher: &mut Publisher) -> Result<bool, Refusal> {
     let mut core = machine(alloc)?;
