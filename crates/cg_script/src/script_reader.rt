@@ -104,6 +104,8 @@ impl Script {
         ensures refusals { IfErr result IsSyntaxOrMemory }
     {
         if self.requests.len() >= MOST_REQUESTS {
+            // By a call: else its destructor is a part of this body, with a way out for each case.
+            drop(request);
             return Err(Refusal::Syntax);
         }
         self.requests.push(request)?;
