@@ -1,1 +1,1 @@
-"""Workloads that the built program is measured by (workloads.py), and their runs (runs.py)."""
+"""Workloads that the built program is measured by (workloads.py, worlds.py), and their runs (runs.py); views beside a desk (views.py)."""
