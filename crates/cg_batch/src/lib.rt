@@ -8,7 +8,7 @@ mod outputs;
 mod running;
 mod scripts;
 
-pub use cg_runner::Gate;
+pub use cg_runner::{Desk, Gate, ScriptEnd};
 pub use named_scripts::{Words, run_named};
 pub use outputs::{CreateFault, Outputs};
 pub use running::run_to;

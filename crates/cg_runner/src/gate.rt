@@ -1,4 +1,6 @@
 //! What a caller does round each call of a script, and at its end.
+use crate::end::ScriptEnd;
+use cg_desk::Desk;
 
 /// Called by the worker of a script round each call that it makes at its session or transaction: Begin, each request, and the
 /// commit or the abort that ends a try; and once when the script has ended. Scripts count from 1, as they were handed over; a
@@ -11,6 +13,7 @@ pub trait Gate {
     /// Called when it was answered.
     fn after(&self, script: u32, call: u32);
 
-    /// Called when a script has ended, behind its last call, with how often it was begun. Does nothing where a gate has none.
-    fn ended(&self, _script: u32, _tries: u32) {}
+    /// Called when a script has ended, behind its last call, with the desk at which it was run, and how it ended. Does nothing where
+    /// a gate has none.
+    fn ended(&self, _desk: &Desk, _script: u32, _end: ScriptEnd) {}
 }

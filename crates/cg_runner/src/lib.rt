@@ -14,7 +14,7 @@ mod turns;
 mod worker;
 mod workers;
 
-pub use cg_desk::{Answer, Core, Record, Refusal, World};
+pub use cg_desk::{Answer, Core, Desk, Record, Refusal, World};
 pub use cg_script::{Script, read_script};
 pub use end::ScriptEnd;
 pub use fault::RunFault;

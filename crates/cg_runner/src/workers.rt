@@ -117,7 +117,7 @@ fn run_next<G: Gate>(
     let passage = Passage::new(gate, number, turns, worker.seat);
     let session = &mut worker.session;
     let end = run_script(rt, alloc, passage, desk, session, script, tries)?;
-    gate.ended(number, end.tries());
+    gate.ended(desk, number, end);
     worker.finished.push_reserved(Finished { place, end });
     Ok(())
 }

@@ -1,5 +1,5 @@
 //! How far a run of scripts has come, as a terminal shows it.
-use cg_batch::Gate;
+use cg_batch::{Desk, Gate, ScriptEnd};
 use std::sync::{Mutex, Wait};
 
 /// What was told of the scripts so far.
@@ -52,13 +52,13 @@ impl<R: Wait + Eprint> Gate for Progress<'_, R> {
 
     fn after(&self, _script: u32, _call: u32) {}
 
-    fn ended(&self, _script: u32, tries: u32) {
+    fn ended(&self, _desk: &Desk, _script: u32, end: ScriptEnd) {
         if !self.is_shown {
             return;
         }
         let mut counts = self.counts.lock(self.rt);
         counts.ended = counts.ended.saturating_add(1);
-        if tries > 1 {
+        if end.tries() > 1 {
             counts.begun_anew = counts.begun_anew.saturating_add(1);
         }
         self.show(&counts);

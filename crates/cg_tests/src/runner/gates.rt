@@ -1,5 +1,6 @@
 //! Gates.
-use cg_runner::Gate;
+use cg_desk::Desk;
+use cg_runner::{Gate, ScriptEnd};
 use std::sync::atomic::{AtomicU32, Ordering};
 use std::sync::{Condvar, Mutex, Wait};
 use std::time::{Clock, Duration};
@@ -35,9 +36,9 @@ impl Gate for Counting {
 
     fn after(&self, _script: u32, _call: u32) {}
 
-    fn ended(&self, _script: u32, tries: u32) {
+    fn ended(&self, _desk: &Desk, _script: u32, end: ScriptEnd) {
         self.ended.fetch_add(1, Ordering::SeqCst);
-        self.begun.fetch_add(tries, Ordering::SeqCst);
+        self.begun.fetch_add(end.tries(), Ordering::SeqCst);
     }
 }
 
@@ -166,7 +167,7 @@ impl<R: Wait + Clock> Gate for Holding<'_, R> {
         self.answered.notify_all();
     }
 
-    fn ended(&self, script: u32, tries: u32) {
-        self.both.lock(self.rt).end(script, tries);
+    fn ended(&self, _desk: &Desk, script: u32, end: ScriptEnd) {
+        self.both.lock(self.rt).end(script, end.tries());
     }
 }
