@@ -1,0 +1,75 @@
+//! One look at a watched file.
+ghost use Rattle.std.specs.Prelude.{◌≡◌, IfSome};
+ghost use Rattle.std.specs.Bool.{OnFalse, OnTrue};
+ghost use Rattle.cg_history.specs.Meaning.{answer_of};
+ghost use Rattle.cg_watch.specs.Watches.{HasTold, HasToldWhole, Sees};
+
+use crate::board::Board;
+use crate::lines::{line_of, value_of};
+use crate::news::News;
+use crate::watch::Watch;
+use cg_lines::{Sink, write_all};
+use cg_name::{FileName, Path, Refusal};
+use cg_runner::Answer;
+use cg_view::Viewer;
+use std::alloc::Global;
+
+// Looks at the file, and tells what it holds, where that isn't what was told last. Where something else was published since the
+// news, or is being published, nothing is told: there will be news of it. Whether the sink took what was told.
+#[tactic(auto, using(crate::proofs::Telling::same_watch))]
+pub(crate) fn look<S: Sink>(
+    alloc: Global,
+    watch: &mut Watch<S>,
+    viewer: &mut Viewer,
+    news: News,
+    board: &Board<'_>,
+) -> bool
+    ensures whole { OnTrue result (HasToldWhole S.taken watch.old watch.new) }
+    ensures front { OnFalse result (HasTold S.taken watch.old watch.new) }
+    ensures subscription { watch.new.subscription ≡ watch.old.subscription }
+{
+    if let Some(told) = news.told {
+        viewer.learn(told);
+    }
+    let Some(answer) = answer(alloc, viewer, &watch.path, watch.file) else {
+        return true;
+    };
+    if !board.is_last(news) {
+        return true;
+    }
+    tell(alloc, watch, news.commits, &answer)
+}
+
+// What a look at the file gives, as the answer to a request for it; none where it gives nothing for now.
+#[tactic(auto, using(crate::proofs::Telling::sees_text, crate::proofs::Telling::sees_refusal))]
+fn answer(alloc: Global, viewer: &mut Viewer, path: &Path, file: FileName) -> Option<Answer>
+    ensures { IfSome result (λ answer. Sees path.now file (answer_of answer)) }
+{
+    match viewer.read(alloc, path, file) {
+        Ok(text) => Some(Answer::Text(text)),
+        Err(Refusal::NoGroup) => Some(Answer::Refused(Refusal::NoGroup)),
+        Err(Refusal::NoFile) => Some(Answer::Refused(Refusal::NoFile)),
+        Err(_) => None,
+    }
+}
+
+// Tells the answer, where it isn't what was told last. Whether the sink took it.
+#[tactic(auto, using(crate::proofs::Telling::same_watch))]
+fn tell<S: Sink>(alloc: Global, watch: &mut Watch<S>, commits: u32, answer: &Answer) -> bool
+    requires { Sees watch.old.path watch.old.file (answer_of answer.now) }
+    ensures whole { OnTrue result (HasToldWhole S.taken watch.old watch.new) }
+    ensures front { OnFalse result (HasTold S.taken watch.old watch.new) }
+    ensures subscription { watch.new.subscription ≡ watch.old.subscription }
+{
+    let Ok(value) = value_of(alloc, answer) else {
+        return true;
+    };
+    if value == watch.value {
+        return true;
+    }
+    let Ok(line) = line_of(alloc, &watch.path, watch.file, commits, value.as_slice()) else {
+        return true;
+    };
+    watch.value = value;
+    write_all(&mut watch.sink, line.as_slice()).is_ok()
+}
