@@ -9,11 +9,11 @@ _cgtx() {
     case ${COMP_WORDS[1]} in
     replay) options='--help' ;;
     show) options='--help' ;;
-    run) options='--workers --tries --history --help' ;;
+    run) options='--workers --tries --history --watch --help' ;;
     *) return ;;
     esac
     case $before in
-    --workers|--tries) return ;;
+    --workers|--tries|--watch) return ;;
     esac
     if [[ $word == -* ]]; then
         mapfile -t COMPREPLY < <(compgen -W "$options" -- "$word")

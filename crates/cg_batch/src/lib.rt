@@ -9,6 +9,7 @@ mod running;
 mod scripts;
 
 pub use cg_runner::{Desk, Gate, ScriptEnd};
+pub use cg_watch::Watch;
 pub use named_scripts::{Words, run_named};
 pub use outputs::{CreateFault, Outputs};
 pub use running::run_to;

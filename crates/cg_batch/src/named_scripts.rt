@@ -1,6 +1,6 @@
 //! A run of scripts whose texts, world and history words name.
 ghost use Rattle.std.specs.Prelude.{◌≡◌, ◌≢◌, ◌≤◌, ◌⊎◌, true, List, ℕ, IfOk, IfSome, IsErr, IsSome, MatchOption, None, length, map};
-ghost use Rattle.std.specs.List.{list_any};
+ghost use Rattle.std.specs.List.{list_any, AllZip};
 ghost use Rattle.std.specs.Option.{option_map};
 ghost use Rattle.std.specs.Io.KnownBytes.{Appends};
 ghost use Rattle.std.specs.Result.{IsErrOf};
@@ -11,6 +11,7 @@ ghost use Rattle.cg_lines.specs.Lines.{pending};
 ghost use Rattle.cg_script.specs.declared.fault.ScriptFault.TheVariants as faults;
 ghost use Rattle.cg_batch.specs.Files.{IsFileNamed, IsInput, IsNotNamed, IsWorld};
 ghost use Rattle.cg_batch.specs.Batch.{stops_run, AreTexts, BeginsWithWorld, SomeTooLong, SpellNothing, Tells};
+ghost use Rattle.cg_watch.specs.Watches.{HasTold};
 ghost use Rattle.cg_program.specs.Named.{named};
 ghost use Rattle.cg_program.specs.Program.{WritesUnlessFailed};
 ghost use Rattle.cg_program.specs.Status.{refusal_line, status_where};
@@ -22,6 +23,7 @@ use cg_lines::{LineReader, Sink};
 use cg_program::{Inputs, Status, is_standard, open_reader, stop};
 use cg_runner::Gate;
 use cg_script::ScriptFault;
+use cg_watch::Watch;
 use std::alloc::Global;
 use std::sync::Wait;
 use std::thread::Threads;
@@ -41,12 +43,20 @@ pub struct Words<'a> {
 /// opened, and then the history's file made. A file that can't be opened is a read fault, one that can't be made a write fault, and
 /// a script of more than 16,777,216 bytes isn't in the grammar. A history is not made in place of a script or the world: that is a
 /// write fault. It takes its name when all is told, and else no file has changed. What is written, and the status, are as `run_to`
-/// says.
-pub fn run_named<P: Outputs, G: Gate + Sync, R: Threads + Wait + Sync, O: Sink, E: Sink>(
+/// says, and so is what watches tell.
+pub fn run_named<
+    P: Outputs,
+    G: Gate + Sync,
+    R: Threads + Wait + Sync,
+    S: Sink + Send + Drop,
+    O: Sink,
+    E: Sink,
+>(
     rt: &R,
     alloc: Global,
     files: &mut P,
     gate: &G,
+    watches: &mut Vec<Watch<S>>,
     words: Words,
     workers: u32,
     tries: u32,
@@ -78,6 +88,9 @@ pub fn run_named<P: Outputs, G: Gate + Sync, R: Threads + Wait + Sync, O: Sink, 
     // No file has changed but the history, which is none of the inputs.
     ensures others { (name : List ℕ) → IsNotNamed (option_map (λ w. w.now) words.entry.history) name → P.file files.new name ≡ P.file files.old name }
     ensures inputs { IfSome words.entry.history (λ name. IsInput (P.is_read files.old name.now) (P.is_same files.old name.now) words.entry.world.now (map (λ w. w.now) words.entry.scripts.now) → (result ≢ 0) × (out.new ≡ out.old)) }
+
+    // What each watch told is what a Viewer saw of its file.
+    ensures watched { AllZip (HasTold S.taken) watches.old.items watches.new.items }
 {
     match open_all(alloc, files, words) {
         Ok((texts, mut world, mut history)) => {
@@ -85,6 +98,7 @@ pub fn run_named<P: Outputs, G: Gate + Sync, R: Threads + Wait + Sync, O: Sink, 
                 rt,
                 alloc,
                 gate,
+                watches,
                 &mut world,
                 texts,
                 workers,

@@ -1,6 +1,7 @@
 //! Scripts run over a world, from their texts to what is told of them.
 ghost use Rattle.std.specs.Prelude.{◌≡◌, ◌≢◌, ◌≤◌, ◌⊎◌, IfErr, IfOk, IfSome, OnErr, OnOk, length, map, true, vec_len};
 ghost use Rattle.std.specs.Io.KnownBytes.{Appends};
+ghost use Rattle.std.specs.List.{AllZip};
 ghost use Rattle.std.specs.Result.{IsErrOf};
 ghost use Rattle.cg_name.specs.declared.refusal.Refusal.{Refusal};
 ghost use Rattle.cg_name.specs.declared.refusal.Refusal.TheVariants as refusals;
@@ -14,6 +15,7 @@ ghost use Rattle.cg_script.specs.declared.fault.ScriptFault.TheVariants as fault
 ghost use Rattle.cg_runner.specs.Closed.{IsClosed};
 ghost use Rattle.cg_batch.specs.Batch.{stops_run, AppendsGiven, BeginsWithWorld, EndSo, FailedGiven, SomeSpellsNone, StopsIn, Tells, batch_text};
 ghost use Rattle.cg_batch.specs.Fault.{refusal_of_fault};
+ghost use Rattle.cg_watch.specs.Watches.{HasTold};
 ghost use Rattle.cg_program.specs.Program.{IsBroken, WritesUnlessFailed};
 ghost use Rattle.cg_program.specs.Status.{refusal_line, status_where};
 ghost use Rattle.cg_batch.specs.declared.fault.BatchFault.TheVariants.{Stopped};
@@ -23,8 +25,9 @@ use crate::fault::BatchFault;
 use crate::scripts::read_scripts;
 use cg_lines::{LineReader, Sink, Source, write_all};
 use cg_program::{Status, stop};
-use cg_runner::{Core, Gate, RunReport, run_scripts};
+use cg_runner::{Core, Gate, RunReport};
 use cg_script::{ScriptFault, read_world, write_history};
+use cg_watch::{Watch, run_watched};
 use cg_world_text::WriteWorld;
 use std::alloc::Global;
 use std::sync::Wait;
@@ -32,13 +35,23 @@ use std::thread::Threads;
 
 /// Reads the world from `world`, and runs the scripts of these texts, at most 4,096, over it, by 1 to 64 workers; a script that
 /// meets `Busy` is begun anew, 1 to 1,000 times in all. A line for each script, which tells how it ended, goes to `out`, and
-/// behind them the world that they left; then the text of their history to `history`, where there is one. The status is 0 when all
+/// behind them the world that they left; then the text of their history to `history`, where there is one. What `watches` see meanwhile
+/// they tell their own sinks, as `run_watched` says, and nothing else depends on it. The status is 0 when all
 /// is written, whatever the ends are; 2 when the world or a script isn't in its grammar, and then nothing is written; and 3 when
 /// memory, the source or a sink fails, or what the workers tell disagrees. For 2 and 3 the refusal stands on a line in `err`.
-pub fn run_to<G: Gate + Sync, R: Threads + Wait + Sync, W: Source, O: Sink, H: Sink, E: Sink>(
+pub fn run_to<
+    G: Gate + Sync,
+    R: Threads + Wait + Sync,
+    S: Sink + Send + Drop,
+    W: Source,
+    O: Sink,
+    H: Sink,
+    E: Sink,
+>(
     rt: &R,
     alloc: Global,
     gate: &G,
+    watches: &mut Vec<Watch<S>>,
     world: &mut LineReader<W>,
     scripts: Vec<Vec<u8>>,
     workers: u32,
@@ -67,18 +80,31 @@ pub fn run_to<G: Gate + Sync, R: Threads + Wait + Sync, W: Source, O: Sink, H: S
     ensures front { result ≡ 3 → ((out.new ≡ out.old) × (history.new ≡ history.old))
         ⊎ Tells workers tries (map (λ t. t.items) scripts.items) (λ told past. StopsIn (O.taken out.old) (O.taken out.new) H.taken history.old history.new told past) }
     ensures refused { result ≡ 2 → (IfSome (pending world.old) HasNoWorld ⊎ SomeSpellsNone (map (λ t. t.items) scripts.items)) × (out.new ≡ out.old) × (history.new ≡ history.old) }
+
+    // What each watch told is what a Viewer saw of its file.
+    ensures watched { AllZip (HasTold S.taken) watches.old.items watches.new.items }
 {
-    match run(rt, alloc, gate, world, scripts.as_slice(), workers, tries) {
+    match run(
+        rt,
+        alloc,
+        gate,
+        watches,
+        world,
+        scripts.as_slice(),
+        workers,
+        tries,
+    ) {
         Ok(report) => finish(alloc, &report, history, out, err),
         Err(fault) => fault.tell(err),
     }
 }
 
 // Runs the scripts of these texts over the world.
-fn run<G: Gate + Sync, R: Threads + Wait + Sync, W: Source>(
+fn run<G: Gate + Sync, R: Threads + Wait + Sync, S: Sink + Send + Drop, W: Source>(
     rt: &R,
     alloc: Global,
     gate: &G,
+    watches: &mut Vec<Watch<S>>,
     world: &mut LineReader<W>,
     texts: &[Vec<u8>],
     workers: u32,
@@ -99,10 +125,11 @@ fn run<G: Gate + Sync, R: Threads + Wait + Sync, W: Source>(
     ensures refusals { IfErr result (λ f. stops_run (refusal_of_fault f) ≡ true) }
     ensures reads { IsErrOf result (Stopped faults.ReadFault) → IsBroken world.new }
     ensures writes { ¬ (IsErrOf result (Stopped faults.WriteFault)) }
+    ensures watched { AllZip (HasTold S.taken) watches.old.items watches.new.items }
 {
     let world = read_world(alloc, world)?;
     let scripts = read_scripts(alloc, texts)?;
-    let report = run_scripts(rt, alloc, gate, world, scripts, workers, tries)?;
+    let report = run_watched(rt, alloc, gate, watches, world, scripts, workers, tries)?;
     report.core.laws();
     Ok(report)
 }

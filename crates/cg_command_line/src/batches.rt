@@ -10,6 +10,9 @@ pub const MOST_WORKERS: u32 = 64;
 /// How often one run begins a script at most.
 pub const MOST_TRIES: u32 = 1_000;
 
+/// How many files one run watches at most.
+pub const MOST_WATCHES: usize = 8;
+
 /// Scripts that are to run over a world: 1 to 4,096 of them, by 1 to 64 workers, each begun 1 to 1,000 times at most.
 #[derive(Debug, Drop)]
 pub struct Batch<'a> {
@@ -23,10 +26,13 @@ pub struct Batch<'a> {
     pub tries: u32,
     /// The file that the history is to be written to.
     pub history: Option<&'a str>,
+    /// The files that are to be watched meanwhile, each as PATH:FILE; at most 8.
+    pub watches: Vec<&'a str>,
     pub ghost some: { 1 ≤ vec_len scripts },
     pub ghost few: { vec_len scripts ≤ 4096 },
     pub ghost worked: { 1 ≤ workers },
     pub ghost few_workers: { workers ≤ 64 },
     pub ghost tried: { 1 ≤ tries },
     pub ghost few_tries: { tries ≤ 1000 },
+    pub ghost few_watches: { vec_len watches ≤ 8 },
 }

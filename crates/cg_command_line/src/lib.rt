@@ -7,9 +7,9 @@ ghost use Rattle.std.specs.Prelude.{◌≡◌, ◌≤◌, codes, length};
 ghost use Rattle.std.specs.Result.{IsOkAnd};
 ghost use Rattle.cg_command_line.specs.Asked.{AsksForReplay};
 
-pub use batches::{Batch, MOST_SCRIPTS, MOST_TRIES, MOST_WORKERS};
+pub use batches::{Batch, MOST_SCRIPTS, MOST_TRIES, MOST_WATCHES, MOST_WORKERS};
 use clap::error::ErrorKind;
-use clap::{Arg, ArgMatches, Command, Error, value_parser};
+use clap::{Arg, ArgAction, ArgMatches, Command, Error, value_parser};
 use std::alloc::{AllocError, Global};
 
 // The version of the program.
@@ -44,6 +44,7 @@ const RUN_MORE: &str = "\
 Examples:
   cgtx run world script-1 script-2
   cgtx run --workers 1 --history history world script
+  cgtx run --watch /batch:cgroup.procs world script
 
 Status:
   0  The scripts ran, however each ended
@@ -83,6 +84,9 @@ pub enum Unasked {
     /// They name more than 4,096 scripts. Nothing is written.
     #[error("there are too many scripts")]
     TooManyScripts,
+    /// They name more than 8 files to watch. Nothing is written.
+    #[error("there are too many files to watch")]
+    TooManyWatches,
     /// Memory ran out before they were read.
     #[error("memory ran out")]
     Memory,
@@ -135,12 +139,17 @@ fn batch_of<'a>(alloc: Global, given: &ArgMatches<'a>) -> Result<Batch<'a>, Unas
     if scripts.len() > MOST_SCRIPTS {
         return Err(Unasked::TooManyScripts);
     }
+    let watches = given.get_strs("watch").unwrap_or_default();
+    if watches.len() > MOST_WATCHES {
+        return Err(Unasked::TooManyWatches);
+    }
     Ok(Batch {
         world: given.get_str("WORLD").unwrap_or(STANDARD_INPUT),
         scripts: Vec::from_slice(alloc, scripts)?,
         workers: number(given, "workers", MOST_WORKERS),
         tries: number(given, "tries", MOST_TRIES),
         history: given.get_str("history"),
+        watches: Vec::from_slice(alloc, watches)?,
     })
 }
 
@@ -223,6 +232,13 @@ fn run<'a>(alloc: Global) -> Result<Command<'a>, AllocError> {
                 .long("history")
                 .value_name("FILE")
                 .help("The file that the history is written to"),
+        )?
+        .arg(
+            Arg::new(alloc, "watch")
+                .long("watch")
+                .value_name("PATH:FILE")
+                .action(ArgAction::Append)
+                .help("Tells the values of a group's file on standard error, at most 8 times"),
         )?
         .arg(word(alloc, "WORLD", WORLD_HELP))?
         .arg(word(alloc, "SCRIPT", "The files of the scripts, at most 4096").num_args(1..))

@@ -9,11 +9,12 @@ mod progress;
 
 use crate::host::Host;
 use crate::progress::Progress;
-use cg_batch::{Words, run_named};
+use cg_batch::{Watch, Words, run_named};
 use cg_command_line::{Asked, Batch, Unasked, read_command_line};
 use cg_program::{FromWrite, ScriptFault, Status, replay_named, show_named, stop};
 use std::io::IsTerminal;
 use std::process::ExitCode;
+use std::rt::Stderr;
 use std::sync::Wait;
 use std::thread::Threads;
 use std::{env, io};
@@ -42,7 +43,7 @@ fn run<R: Threads + Wait + Eprint + Sync>(rt: &HostRuntime, workers: &R, words: 
         Ok(Asked::Run(batch)) => run_batch(rt, workers, &batch),
         Err(Unasked::Helped) => Status::Done.code(),
         Err(Unasked::Refused) => Status::Refused.code(),
-        Err(Unasked::TooManyScripts) => tell(rt, ScriptFault::Syntax),
+        Err(Unasked::TooManyScripts | Unasked::TooManyWatches) => tell(rt, ScriptFault::Syntax),
         Err(Unasked::Unwritten) => tell(rt, ScriptFault::WriteFault),
         Err(Unasked::Memory) => tell(rt, ScriptFault::Memory),
     }
@@ -68,12 +69,17 @@ fn run_batch<R: Threads + Wait + Eprint + Sync>(
     workers: &R,
     batch: &Batch,
 ) -> u8 {
+    let mut watches = match watches(rt, batch.watches.as_slice()) {
+        Ok(watches) => watches,
+        Err(fault) => return tell(rt, fault),
+    };
     let words = Words {
         world: batch.world,
         scripts: batch.scripts.as_slice(),
         history: batch.history,
     };
-    let is_shown = rt.stderr().is_terminal();
+    // The line of the progress is rewritten, and would stand between those of watches.
+    let is_shown = watches.is_empty() && rt.stderr().is_terminal();
     let progress = Progress::new(workers, is_shown, batch.scripts.len());
     let mut out = FromWrite::new(rt.stdout());
     let mut err = FromWrite::new(rt.stderr());
@@ -82,12 +88,22 @@ fn run_batch<R: Threads + Wait + Eprint + Sync>(
         rt.alloc(),
         &mut Host(rt),
         &progress,
+        &mut watches,
         words,
         batch.workers,
         batch.tries,
         &mut out,
         &mut err,
     )
+}
+
+// The watches of the files that the words name.
+fn watches(rt: &HostRuntime, words: &[&str]) -> Result<Vec<Watch<FromWrite<Stderr>>>, ScriptFault> {
+    let mut watches = Vec::with_capacity(rt.alloc(), words.len())?;
+    for word in words {
+        watches.push(Watch::read(rt.alloc(), word, FromWrite::new(rt.stderr()))?)?;
+    }
+    Ok(watches)
 }
 
 // Tells a fault, and gives the status.

@@ -7,7 +7,12 @@ use Rattle.cg_lines.proofs.DeviceLemmas.{AppendsFront-whole}
 use Rattle.cg_script.specs.HistoryText.{history_text}
 use Rattle.cg_batch.specs.Batch.{batch_text, stops_run}
 use Rattle.cg_batch.proofs.HistoryFile.{front_told, given_some, kept_whole, told_through}
+use Rattle.cg_watch.proofs.Telling.{untold}
 use Rattle.cg_batch.proofs.named_scripts.run_named.Goals as goal
+
+-- nothing was watched
+pub returns-in-Err-clause-watched : goal.returns-in-Err-clause-watched
+returns-in-Err-clause-watched g c = untold g.S.Sink.taken c.args.watches.now.items
 
 pub returns-in-Ok-clause-done : goal.returns-in-Ok-clause-done
 returns-in-Ok-clause-done g c = λ zero.
