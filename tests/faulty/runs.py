@@ -19,7 +19,7 @@ page = None
 
 def chosen_cases():
     """Cases of tests/program, each with its kind: the folders of tests/replays, the shows, and the runs of scripts that leave a history,
-    each of these by one worker and by four."""
+    each of these by one worker and by four, or by one alone where files are watched."""
     for case in program.cases():
         words = [*program.words_of(case)]
         if case.get("status") or len(words) > MOST_WORDS or is_long(case):
@@ -29,6 +29,9 @@ def chosen_cases():
         elif words[:1] == ["show"]:
             yield "show", case
         elif words[:3] == ["run", "--workers", "1"] and "h" in case.get("leaves", {}):
+            if "--watch" in words:
+                yield "run with watches", case
+                continue
             yield "run by one worker", case
             yield "run by four workers", {**case, "words": ["run", "--workers", "4", *words[3:]]}
 
