@@ -83,7 +83,7 @@ def measure(programs, workloads):
     """Prints the page. Returns how many outputs of workloads differ."""
     program = programs[0]
     print(f"# Measures of {datetime.date.today()}\n\n{versions(program)}, on {computer()}.")
-    print("Nothing else was at work. What each table has is said in `tests/measures`.")
+    print(f"The load was {os.getloadavg()[0]:.1f} before. What each table has is said in `tests/measures`.")
     with table("Workloads" + " beside the other programs" * (len(programs) > 1)):
         different = workloads(programs)
     with table("Long schedules over large worlds"):
