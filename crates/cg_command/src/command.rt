@@ -28,7 +28,7 @@ use cg_tree::Tree;
 use std::alloc::{AllocError, Global};
 
 /// What a session asks of the tree.
-#[derive(PartialEq, Eq, Drop)]
+#[derive(PartialEq, Eq)]
 pub enum Command {
     /// Makes the group at the path.
     Create {
@@ -94,6 +94,24 @@ pub enum Command {
         /// Its limit.
         limit: Limit,
     },
+}
+
+// By hand, so that whoever drops one calls this, and doesn't drop each thing in it: that makes proofs shorter.
+impl Drop for Command {
+    fn drop(self) {
+        match self {
+            Command::Create { path: _ } => {}
+            Command::Remove { path: _ } => {}
+            Command::Migrate { pid: _, path: _ } => {}
+            Command::Subtree { path: _, ops: _ } => {}
+            Command::Freeze { path: _, value: _ } => {}
+            Command::Cpus { path: _, cpus: _ } => {}
+            Command::Show { path: _, file: _ } => {}
+            Command::Online { cpus: _ } => {}
+            Command::MaxDescendants { path: _, limit: _ } => {}
+            Command::MaxDepth { path: _, limit: _ } => {}
+        }
+    }
 }
 
 /// What an accepted command gives.

@@ -11,7 +11,6 @@ use std::alloc::{AllocError, Global};
 use std::default::MadeWith;
 
 /// One key of a tree, with what it held before a command and what the command left.
-#[derive(Drop)]
 pub enum Change {
     /// The group at the path, where there is one.
     Group {
@@ -85,6 +84,50 @@ pub enum Change {
     },
 }
 
+// By hand, so that whoever drops one calls this, and doesn't drop each thing in it: that makes proofs shorter.
+impl Drop for Change {
+    fn drop(self) {
+        match self {
+            Change::Group {
+                path: _,
+                before: _,
+                left: _,
+            } => {}
+            Change::Place {
+                pid: _,
+                before: _,
+                left: _,
+            } => {}
+            Change::Control {
+                path: _,
+                before: _,
+                left: _,
+            } => {}
+            Change::Freeze {
+                path: _,
+                before: _,
+                left: _,
+            } => {}
+            Change::Cpus {
+                path: _,
+                before: _,
+                left: _,
+            } => {}
+            Change::MaxDescendants {
+                path: _,
+                before: _,
+                left: _,
+            } => {}
+            Change::MaxDepth {
+                path: _,
+                before: _,
+                left: _,
+            } => {}
+            Change::Online { before: _, left: _ } => {}
+        }
+    }
+}
+
 // What fills the place of an inverse that has no change yet.
 impl MadeWith<Global> for Change {
     fn made_with(_alloc: Global) -> Change {
@@ -101,32 +144,60 @@ impl Change {
         ensures { result ≡ edit_back self }
     {
         match self {
-            Change::Group { path, before, .. } => Edit::Group {
+            Change::Group {
+                path,
+                before,
+                left: _,
+            } => Edit::Group {
                 path,
                 settings: unboxed(&before),
             },
-            Change::Place { pid, before, .. } => Edit::Place { pid, path: before },
-            Change::Control { path, before, .. } => Edit::Control {
+            Change::Place {
+                pid,
+                before,
+                left: _,
+            } => Edit::Place { pid, path: before },
+            Change::Control {
+                path,
+                before,
+                left: _,
+            } => Edit::Control {
                 path,
                 value: before,
             },
-            Change::Freeze { path, before, .. } => Edit::Freeze {
+            Change::Freeze {
+                path,
+                before,
+                left: _,
+            } => Edit::Freeze {
                 path,
                 value: before,
             },
-            Change::Cpus { path, before, .. } => Edit::Cpus {
+            Change::Cpus {
+                path,
+                before,
+                left: _,
+            } => Edit::Cpus {
                 path,
                 value: before.get(),
             },
-            Change::MaxDescendants { path, before, .. } => Edit::MaxDescendants {
+            Change::MaxDescendants {
+                path,
+                before,
+                left: _,
+            } => Edit::MaxDescendants {
                 path,
                 value: before,
             },
-            Change::MaxDepth { path, before, .. } => Edit::MaxDepth {
+            Change::MaxDepth {
+                path,
+                before,
+                left: _,
+            } => Edit::MaxDepth {
                 path,
                 value: before,
             },
-            Change::Online { before, .. } => Edit::Online {
+            Change::Online { before, left: _ } => Edit::Online {
                 value: before.get(),
             },
         }

@@ -13,9 +13,15 @@ use std::alloc::{AllocError, Global};
 use std::marker::Model;
 
 /// The changes that one command made, the first one first. Most commands make one, which is kept without an allocation.
-#[derive(Drop)]
 pub struct Inverse {
     changes: SmallVec<Change, 1>,
+}
+
+// By hand, so that whoever drops one calls this, and doesn't drop each thing in it: that makes proofs shorter.
+impl Drop for Inverse {
+    fn drop(self) {
+        let Inverse { changes: _ } = self;
+    }
 }
 
 impl Model for Inverse {
@@ -85,7 +91,7 @@ impl Inverse {
         ensures tree { tree.new.tree ≡ undone self tree.old.tree }
         ensures entries { tree.new.entries ≡ tree.old.entries }
     {
-        let mut changes = self.changes;
+        let Inverse { mut changes } = self;
         while let Some(change) = changes.pop() {
             tree.put_edit(change.into_edit_back());
         }
