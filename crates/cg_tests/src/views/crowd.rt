@@ -15,7 +15,7 @@ use std::time::{Clock, Duration};
 
 const VIEWERS: u32 = 8;
 
-const TRANSACTIONS: u32 = 30;
+const TRANSACTIONS: u32 = 1_000;
 
 // So often a Viewer looks at each file at most, and so often it is published at most.
 const MOST: u32 = 100_000;
@@ -64,7 +64,7 @@ fn look_on<R: Clock>(
         if is_done.load(Ordering::SeqCst) {
             return Ok(());
         }
-        thread::sleep(rt, Duration::from_millis(5));
+        thread::sleep(rt, Duration::from_millis(20));
     }
     Ok(())
 }
@@ -82,7 +82,7 @@ fn publish_on<R: Wait + Clock>(
             break;
         }
         desk.publish(rt, alloc, publisher)?;
-        thread::sleep(rt, Duration::from_millis(10));
+        thread::sleep(rt, Duration::from_millis(200));
     }
     desk.publish(rt, alloc, publisher)
 }

@@ -84,13 +84,11 @@ fn is_so(texts: &[Text], seen: &Seen) -> bool {
 pub(crate) fn never_go_back(texts: &[Vec<Text>], seen: &[Seen]) -> bool {
     let mut commits = 0;
     for one in seen {
-        let found = texts
+        let found = texts[commits..]
             .iter()
-            .enumerate()
-            .skip(commits)
-            .find(|(_, texts)| is_so(texts.as_slice(), one));
+            .position(|texts| is_so(texts.as_slice(), one));
         match found {
-            Some((place, _)) => commits = place,
+            Some(further) => commits += further,
             None => return false,
         }
     }
