@@ -15,6 +15,9 @@ use std::alloc::{AllocError, Global};
 // The version of the program.
 const VERSION: &str = "0.1.0";
 
+// How many names a path has at most.
+const MOST_NAMES: u32 = 64;
+
 // The word that names standard input.
 const STANDARD_INPUT: &str = "-";
 
@@ -38,6 +41,16 @@ Example:
 Status:
   0  The file was printed
   2  The words aren't right, or there is no world, or no such group or file
+  3  Memory, an input or an output failed";
+
+const TREE_MORE: &str = "\
+Examples:
+  cgtx tree world
+  cgtx replay world schedule | sed -n '/^world/,$p' | cgtx tree --depth 2 -
+
+Status:
+  0  The groups were printed
+  2  The words aren't right, or there is no world
   3  Memory, an input or an output failed";
 
 const RUN_MORE: &str = "\
@@ -64,6 +77,11 @@ pub enum Asked<'a> {
         world: &'a str,
         path: &'a str,
         file: &'a str,
+    },
+    /// To show the groups of at most so many names, from 1 to 64, in the world that this word names.
+    Tree {
+        world: &'a str,
+        depth: u32,
     },
     /// To run these scripts.
     Run(Batch<'a>),
@@ -122,6 +140,10 @@ pub fn read_command_line<'a, R: Print + Eprint + AllocGlobal>(
                 world: given.get_str("WORLD").unwrap_or(STANDARD_INPUT),
                 path: given.get_str("PATH").unwrap_or_default(),
                 file: given.get_str("FILE").unwrap_or_default(),
+            }),
+            Some(("tree", given)) => Ok(Asked::Tree {
+                world: given.get_str("WORLD").unwrap_or(STANDARD_INPUT),
+                depth: number(given, "depth", MOST_NAMES),
             }),
             Some(("run", given)) => Ok(Asked::Run(batch_of(rt.alloc(), given)?)),
             _ => Err(Unasked::Refused),
@@ -185,6 +207,7 @@ fn command<'a>(alloc: Global) -> Result<Command<'a>, AllocError> {
         .disable_help_subcommand(true)
         .subcommand(replay(alloc)?)?
         .subcommand(show(alloc)?)?
+        .subcommand(tree(alloc)?)?
         .subcommand(run(alloc)?)
 }
 
@@ -207,6 +230,18 @@ fn show<'a>(alloc: Global) -> Result<Command<'a>, AllocError> {
         .arg(word(alloc, "WORLD", WORLD_HELP))?
         .arg(word(alloc, "PATH", "The path of the group, as in a world"))?
         .arg(word(alloc, "FILE", "The name of the file, such as cgroup.procs"))
+}
+
+fn tree<'a>(alloc: Global) -> Result<Command<'a>, AllocError> {
+    Command::new(alloc, "tree")
+        .about("Shows the groups of a world, each with what it asks for and what it has")
+        .after_help(TREE_MORE)
+        .arg(
+            number_of(alloc, "depth", "N", MOST_NAMES)
+                .default_value("64")
+                .help("How many names a group has at most that is shown, from 1 to 64"),
+        )?
+        .arg(word(alloc, "WORLD", WORLD_HELP))
 }
 
 fn run<'a>(alloc: Global) -> Result<Command<'a>, AllocError> {

@@ -1,7 +1,8 @@
 //! Replays schedules of requests against a tree of control groups: `cgtx replay WORLD SCHEDULE` reads a world and the
 //! lines of a schedule, and writes the answers and the tree that results. With no words both come on standard input.
-//! `cgtx show WORLD PATH FILE` reads a world and writes an interface file of a group. `cgtx run WORLD SCRIPT...` runs scripts,
-//! each a transaction, over a world, and writes how they ended and the world that they left.
+//! `cgtx show WORLD PATH FILE` reads a world and writes an interface file of a group; `cgtx tree WORLD` writes its groups, one
+//! below the other. `cgtx run WORLD SCRIPT...` runs scripts, each a transaction, over a world, and writes how they ended and the
+//! world that they left.
 #![tactic(auto)]
 
 mod host;
@@ -11,6 +12,7 @@ use crate::host::Host;
 use crate::progress::Progress;
 use cg_batch::{Watch, Words, run_named};
 use cg_command_line::{Asked, Batch, Unasked, read_command_line};
+use cg_outline::outline_named;
 use cg_program::{FromWrite, ScriptFault, Status, replay_named, show_named, stop};
 use std::io::IsTerminal;
 use std::process::ExitCode;
@@ -40,6 +42,7 @@ fn run<R: Threads + Wait + Eprint + Sync>(rt: &HostRuntime, workers: &R, words: 
     match read_command_line(rt, words) {
         Ok(Asked::Replay { world, schedule }) => replay(rt, world, schedule),
         Ok(Asked::Show { world, path, file }) => show(rt, world, path, file),
+        Ok(Asked::Tree { world, depth }) => tree(rt, world, depth),
         Ok(Asked::Run(batch)) => run_batch(rt, workers, &batch),
         Err(Unasked::Helped) => Status::Done.code(),
         Err(Unasked::Refused) => Status::Refused.code(),
@@ -61,6 +64,13 @@ fn show(rt: &HostRuntime, world: &str, path: &str, file: &str) -> u8 {
     let mut out = FromWrite::new(rt.stdout());
     let mut err = FromWrite::new(rt.stderr());
     show_named(rt.alloc(), &Host(rt), world, path, file, &mut out, &mut err)
+}
+
+// Shows the groups of the world that the word names.
+fn tree(rt: &HostRuntime, world: &str, depth: u32) -> u8 {
+    let mut out = FromWrite::new(rt.stdout());
+    let mut err = FromWrite::new(rt.stderr());
+    outline_named(rt.alloc(), &Host(rt), world, depth, &mut out, &mut err)
 }
 
 // Runs the scripts that the words name.
