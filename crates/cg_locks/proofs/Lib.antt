@@ -3,6 +3,8 @@ mod Alone
 mod Branches
 mod Clashes
 mod Counting
+mod CountedMarks
+mod CountedNodes
 mod Counts
 mod Enough
 mod HeldMaps

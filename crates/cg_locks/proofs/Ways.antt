@@ -56,15 +56,15 @@ found_above T p u low = found_until T p (suc (length p)) u low
 
 -- ---- one mark
 
-or_first : (a b : Bool) → a ≡ true → a || b ≡ true
+pub or_first : (a b : Bool) → a ≡ true → a || b ≡ true
 or_first true b e = refl
 or_first false b e = absurd (false≢true e)
 
-or_second : (a b : Bool) → b ≡ true → a || b ≡ true
+pub or_second : (a b : Bool) → b ≡ true → a || b ≡ true
 or_second true b e = refl
 or_second false b e = e
 
-either : (a b : Bool) → a || b ≡ true → (a ≡ true) ⊎ (b ≡ true)
+pub either : (a b : Bool) → a || b ≡ true → (a ≡ true) ⊎ (b ≡ true)
 either true b e = inl refl
 either false b e = inr e
 

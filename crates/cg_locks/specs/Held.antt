@@ -1,5 +1,5 @@
 -- Who holds what at one path, part by part; and by kinds of marks at all paths.
-use Rattle.std.specs.Prelude.{◌≡◌, ℕ, ◌+◌, ◌==◌, ◌&&◌, Bool, true, false, Option, Some, None, refl}
+use Rattle.std.specs.Prelude.{◌≡◌, ℕ, ◌+◌, ◌==◌, ◌&&◌, Bool, true, false, cond, List, Option, Some, None, refl}
 use Rattle.std.specs.Coded.{Coded, code_by, coded×, coded_ℕ}
 use Rattle.cg_maps.specs.Code.{map_code}
 use Rattle.cg_model.specs.Code.{path_code}
@@ -9,7 +9,7 @@ use Rattle.cg_locks.specs.declared.held.Kind.{Kind}
 use Rattle.cg_locks.specs.declared.held.Kind.TheVariants as kinds
 use Rattle.cg_locks.specs.declared.held.Part.{Part}
 use Rattle.cg_locks.specs.declared.held.Part.TheVariants.{ChangedAt, ReadAt, StaysAt, CountedAt, ChangedBelow, ReadBelow, StaysBelow}
-use Rattle.cg_locks.specs.Holders.{Counts, PathCounts, held_above, held_at, held_below, held_by, one}
+use Rattle.cg_locks.specs.Holders.{Counts, PathCounts, held_above, held_at, held_below, held_by, one, times_on}
 
 abbrev pub part_of : Part → Held → Counts
 part_of ChangedAt h = h.changed
@@ -100,6 +100,10 @@ in_way m kinds.Descendants p u = held_at m.descendants p u
 -- in m' the transaction t holds the mark of the kind k at p once more
 abbrev pub IsMarkedMore : Marked → Kind → Path → ℕ → Marked → Type 0
 IsMarkedMore m k p t m' = (j : Kind) (q : Path) (u : ℕ) → held_at (of_kind m' j) q u ≡ held_at (of_kind m j) q u + one (same_kind j k && (same_path q p && (u == t)))
+
+-- in m' the transaction t holds the number of descendants at each path as often more as it stands among these
+abbrev pub AreCountedMore : Marked → List Path → ℕ → Marked → Type 0
+AreCountedMore m ps t m' = (j : Kind) (q : Path) (u : ℕ) → held_at (of_kind m' j) q u ≡ held_at (of_kind m j) q u + cond (same_kind j kinds.Descendants && (u == t)) (times_on q ps) 0
 
 -- in m' the same is held
 abbrev pub IsMarkedAlike : Marked → Marked → Type 0

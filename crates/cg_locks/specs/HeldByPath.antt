@@ -1,13 +1,14 @@
 -- Who holds what at the paths of a tree.
-use Rattle.std.specs.Prelude.{◌≡◌, ℕ, zero, suc, ◌+◌, ◌<◌, ◌≤◌, ◌==◌, ◌&&◌, false, length, map, take, Option, Some, None}
+use Rattle.std.specs.Prelude.{◌≡◌, ℕ, zero, suc, ◌+◌, ◌<◌, ◌≤◌, ◌==◌, ◌&&◌, false, cond, length, List, map, take, Option, Some, None}
 use Rattle.cg_maps.specs.FiniteMap.{FiniteMap, entries, from_entries, get}
 use Rattle.cg_name.specs.Path.{Path, path_cmp, is_parent, same_path}
 use Rattle.cg_locks.specs.declared.held.Held.{Held}
 use Rattle.cg_locks.specs.declared.held.Kind.{Kind}
+use Rattle.cg_locks.specs.declared.held.Kind.TheVariants as kinds
 use Rattle.cg_locks.specs.declared.held.Part.{Part}
 use Rattle.cg_locks.specs.declared.held.Part.TheVariants.{ChangedAt, ReadAt, StaysAt, CountedAt, ChangedBelow, ReadBelow, StaysBelow}
 use Rattle.cg_locks.specs.Held.{at_path, part_of, same_kind, same_part, Marked}
-use Rattle.cg_locks.specs.Holders.{PathCounts, branches, held_at, one, IsSummedUp}
+use Rattle.cg_locks.specs.Holders.{PathCounts, branches, held_at, one, times_on, IsSummedUp}
 
 abbrev pub HeldByPath : Type 0
 HeldByPath = FiniteMap path_cmp Held
@@ -53,6 +54,16 @@ pub record IsMarkMore (T : HeldByPath) (k : Kind) (p : Path) (t : ℕ) (T' : Hel
   pub at : (j : Kind) (q : Path) (u : ℕ) → held_at (in_part (at_path j) T') q u ≡ held_at (in_part (at_path j) T) q u + one (same_kind j k && (same_path q p && (u == t)))
   pub summed : AreSummedUp T → AreSummedUp T'
   pub back : AreSummedUp T' → AreSummedUp T
+
+-- the same of the numbers of descendants at these paths, each as often as it stands there
+pub record AreCountsMore (T : HeldByPath) (ps : List Path) (t : ℕ) (T' : HeldByPath) : Type 0 where
+  pub at : (j : Kind) (q : Path) (u : ℕ) → held_at (in_part (at_path j) T') q u ≡ held_at (in_part (at_path j) T) q u + cond (same_kind j kinds.Descendants && (u == t)) (times_on q ps) 0
+  pub summed : AreSummedUp T → AreSummedUp T'
+  pub back : AreSummedUp T' → AreSummedUp T
+
+-- t holds them so often
+abbrev pub HasCounts : HeldByPath → List Path → ℕ → Type 0
+HasCounts T ps t = (q : Path) → times_on q ps ≤ held_at (in_part CountedAt T) q t
 
 -- ---- along a path
 

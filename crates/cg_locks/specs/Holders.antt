@@ -1,12 +1,12 @@
 -- Which transactions hold one thing, and how often; and the same of things by paths.
 use Rattle.std.specs.Prelude.{◌≡◌, ◌≢◌, ℕ, zero, suc, ◌+◌, ◌<◌, ◌≤◌, nat_lt, Bool, cond, T, List, [], ◌∷◌, length, take, Option, Some, None}
 use Rattle.std.specs.FinMap.Entries.{is_sorted}
-use Rattle.std.specs.List.{sum_by}
+use Rattle.std.specs.List.{count_by, sum_by}
 use Rattle.std.specs.Option.{unwrap_or}
 use Rattle.std.specs.Ordering.{nat_cmp}
 use Rattle.cg_maps.specs.FiniteMap.{FiniteMap, entries, from_entries, get}
 use Rattle.cg_name.specs.declared.refusal.TxnNumber.{TxnNumber}
-use Rattle.cg_name.specs.Path.{Path, path_cmp, is_parent, is_prefix}
+use Rattle.cg_name.specs.Path.{Path, path_cmp, is_parent, is_prefix, same_path}
 
 -- transactions, each with how often it holds the thing
 abbrev pub Counts : Type 0
@@ -59,6 +59,15 @@ held_until T p (suc n) u = held_until T p n u + held_at T (take n p) u
 -- at all of these, itself too
 abbrev pub held_above : PathCounts → Path → ℕ → ℕ
 held_above T p u = held_until T p (suc (length p)) u
+
+-- and what is at these paths, each as often as it stands there
+abbrev pub held_on : PathCounts → List Path → ℕ → ℕ
+held_on T [] u = 0
+held_on T (q ∷ ps) u = held_at T q u + held_on T ps u
+
+-- how often the path stands there
+abbrev pub times_on : Path → List Path → ℕ
+times_on q ps = count_by (same_path q) ps
 
 abbrev pub one : Bool → ℕ
 one b = cond b 1 0

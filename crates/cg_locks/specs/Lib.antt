@@ -8,3 +8,4 @@ pub mod Meaning
 pub mod Single
 pub mod Stacks
 pub mod Table
+pub mod Together

@@ -1,9 +1,9 @@
 //! Footprints: the marks under which one command runs.
-ghost use Rattle.std.specs.Prelude.{◌≡◌, ◌∷◌, ◌++◌, [], IfOk, OnOk, map, option_copied};
+ghost use Rattle.std.specs.Prelude.{◌≡◌, ◌∷◌, ◌++◌, [], IfOk, IfSome, OnOk, length, map, option_copied};
 ghost use Rattle.cg_command.specs.Meaning.{command_of};
-ghost use Rattle.cg_locks.specs.Counts.{counts_upward};
+ghost use Rattle.cg_locks.specs.Counts.{counts_at, limited_depths, prefixes, AreDescending};
 ghost use Rattle.cg_locks.specs.Marks.{times};
-ghost use Rattle.cg_locks.specs.Meaning.{mark_of};
+ghost use Rattle.cg_locks.specs.Meaning.{counts_of, mark_of};
 ghost use Rattle.cg_model.specs.Footprint as model;
 ghost use Rattle.cg_model.specs.Footprint.{changed, counts, footprint, is_limited, old_place};
 ghost use Rattle.cg_model.specs.Tree.{place_of};
@@ -18,24 +18,38 @@ use std::alloc::{AllocError, Global};
 use std::marker::Model;
 
 /// The marks of one command, in the order of its definition. Most commands have one, which is kept without an allocation
-/// but its path's.
+/// but its path's. Those on numbers of descendants have no paths of their own: their groups are above the path of the first.
 #[derive(Drop)]
 pub struct Footprint {
     marks: SmallVec<Mark, 1>,
+    // How many names the paths of these groups have, the deepest first. There are none where the first mark isn't of a
+    // subtree to be changed.
+    depths: Vec<u32>,
+}
+
+/// Marks on the numbers of descendants of groups above a path.
+#[derive(Clone, Copy)]
+pub struct Counted<'a> {
+    /// The path.
+    pub path: &'a Path,
+    /// How many names the paths of these groups have, the deepest first.
+    pub depths: &'a [u32],
 }
 
 impl Model for Footprint {
-    ghost use Rattle.std.specs.Prelude.{List, map};
+    ghost use Rattle.std.specs.Prelude.{List};
     ghost use Rattle.std.specs.Coded.{coded_list};
     ghost use Rattle.cg_locks.specs.Marks.{mark_code};
-    ghost use Rattle.cg_locks.specs.Meaning.{mark_of};
+    ghost use Rattle.cg_locks.specs.Together.{marks_of, HaveDepths};
     ghost use Rattle.cg_model.specs.Footprint as model;
 
     ghost Value = { List model.Mark };
 
     ghost coded = { coded_list mark_code };
 
-    ghost view = { λ f. map mark_of f.marks.items };
+    ghost view = { λ f. marks_of f.marks.items f.depths.items };
+
+    ghost invariant = { λ f. HaveDepths f.marks.items f.depths.items };
 }
 
 impl Footprint {
@@ -58,11 +72,22 @@ impl Footprint {
         }
     }
 
-    /// The marks.
-    pub fn marks(&self) -> &[Mark]
-        ensures { map mark_of result.now ≡ self.now }
+    /// The marks: those that are no marks on numbers of descendants, and these, if there are any. Takes no memory.
+    pub fn parts(&self) -> (&[Mark], Option<Counted<'_>>)
+        ensures marks { map mark_of result.0.now ++ counts_of result.1 ≡ self.now }
+        ensures descending { IfSome result.1 (λ c. AreDescending (length c.path.now) c.depths.now) }
     {
-        self.marks.as_slice()
+        let marks = self.marks.as_slice();
+        if self.depths.is_empty() {
+            return (marks, None);
+        }
+        match marks.first() {
+            Some(Mark::Changed(path)) => {
+                let depths = self.depths.as_slice();
+                (marks, Some(Counted { path, depths }))
+            }
+            _ => (marks, None),
+        }
     }
 
     /// The path of the group whose subtree these mark to be changed, if they mark one: that mark stands first. Takes no
@@ -70,57 +95,30 @@ impl Footprint {
     pub fn changed(&self) -> Option<&Path>
         ensures { option_copied result ≡ changed self.now }
     {
-        match self.marks().first() {
+        match self.marks.as_slice().first() {
             Some(Mark::Changed(path)) => Some(path),
             _ => None,
         }
-    }
-
-    // How often the mark stands here.
-    pub(crate) fn times(&self, mark: &Mark) -> usize
-        ensures { result ≡ times (mark_of mark.now) self.now }
-    {
-        self.marks().iter().filter(|own| mark.is_same(own)).count()
     }
 
     // That with this mark alone.
     fn one(alloc: Global, mark: Mark) -> Result<Footprint, AllocError>
         ensures { IfOk result (λ f. f ≡ mark_of mark ∷ []) }
     {
-        let mut footprint = Footprint {
-            marks: SmallVec::new(alloc),
-        };
-        footprint.push(mark)?;
-        Ok(footprint)
+        let mut marks = SmallVec::new(alloc);
+        marks.push(mark)?;
+        Ok(Footprint {
+            marks,
+            depths: Vec::new(alloc),
+        })
     }
+}
 
-    // Adds a mark.
-    fn push(&mut self, mark: Mark) -> Result<(), AllocError>
-        ensures { OnOk result (self.new ≡ self.old ++ mark_of mark ∷ []) }
-    {
-        self.marks.push(mark)?;
-        Ok(())
-    }
-
-    // Adds the marks on the numbers of descendants of those of these groups above the path where that is limited. The last
-    // group comes first, so that they stand from the root down.
-    fn push_counts(
-        &mut self,
-        alloc: Global,
-        path: &Path,
-        mut above: Ancestors<'_>,
-    ) -> Result<(), AllocError>
-        ensures { OnOk result (self.new ≡ self.old ++ counts_upward path.now above.entry) }
-    {
-        let Some(group) = above.next() else {
-            return Ok(());
-        };
-        self.push_counts(alloc, path, above)?;
-        if is_limited(group.settings) {
-            self.push(Mark::Descendants(path.prefix(alloc, group.depth)?))?;
-        }
-        Ok(())
-    }
+// How often the mark stands among these.
+pub(crate) fn times_in(marks: &[Mark], mark: &Mark) -> usize
+    ensures { result ≡ times (mark_of mark.now) (map mark_of marks.now) }
+{
+    marks.iter().filter(|own| mark.is_same(own)).count()
 }
 
 // That of a command which changes the subtree of a group.
@@ -134,24 +132,54 @@ fn of_change(alloc: Global, path: &Path) -> Result<Footprint, AllocError>
 fn with_counts(alloc: Global, path: &Path, tree: &Tree) -> Result<Footprint, AllocError>
     ensures { IfOk result (λ f. f ≡ model.X path.now ∷ counts tree.now.tree path.now) }
 {
-    let mut footprint = of_change(alloc, path)?;
+    let depths = limited_above(alloc, path, tree)?;
+    let mut marks = SmallVec::new(alloc);
+    marks.push(Mark::Changed(path.copy(alloc)?))?;
+    Ok(Footprint { marks, depths })
+}
+
+// How many names the paths of those groups above have that are limited in the number of their descendants, the deepest
+// first.
+fn limited_above(alloc: Global, path: &Path, tree: &Tree) -> Result<Vec<u32>, AllocError>
+    ensures counts { IfOk result (λ depths. counts_at (prefixes path.now depths.items) ≡ counts tree.now.tree path.now) }
+    ensures descending { IfOk result (λ depths. AreDescending (length path.now) depths.items) }
+{
+    let mut depths = Vec::new(alloc);
     if !tree.may_limit() {
-        return Ok(footprint);
+        return Ok(depths);
     }
-    footprint.push_counts(alloc, path, tree.above(path))?;
-    Ok(footprint)
+    push_limited(&mut depths, tree.above(path))?;
+    Ok(depths)
+}
+
+// Adds those of these groups.
+fn push_limited(depths: &mut Vec<u32>, mut above: Ancestors<'_>) -> Result<(), AllocError>
+    ensures { OnOk result (depths.new.items ≡ depths.old.items ++ limited_depths above.entry) }
+{
+    let Some(group) = above.next() else {
+        return Ok(());
+    };
+    if !is_limited(group.settings) {
+        return push_limited(depths, above);
+    }
+    depths.push(group.depth)?;
+    push_limited(depths, above)
 }
 
 // That of a command which moves a process: the group that it is in stays as well.
 fn of_migration(alloc: Global, pid: u32, path: &Path, tree: &Tree) -> Result<Footprint, AllocError>
     ensures { IfOk result (λ f. f ≡ model.Pid pid ∷ model.N path.now ∷ old_place (place_of tree.now.tree pid)) }
 {
-    let mut footprint = Footprint::one(alloc, Mark::Process(pid))?;
-    footprint.push(Mark::Stays(path.copy(alloc)?))?;
+    let mut marks = SmallVec::new(alloc);
+    marks.push(Mark::Process(pid))?;
+    marks.push(Mark::Stays(path.copy(alloc)?))?;
     if let Some(place) = tree.location(alloc, pid)? {
-        footprint.push(Mark::Stays(place))?;
+        marks.push(Mark::Stays(place))?;
     }
-    Ok(footprint)
+    Ok(Footprint {
+        marks,
+        depths: Vec::new(alloc),
+    })
 }
 
 // Whether the group is there, and its descendants are limited in number.

@@ -1,6 +1,7 @@
 //! Footprints, the marks under which commands run, and the table of the marks that open transactions hold.
 #![tactic(auto)]
 
+mod counted;
 mod footprint;
 mod held;
 mod holders;
@@ -10,6 +11,6 @@ mod pid_holders;
 mod table;
 mod upward;
 
-pub use footprint::Footprint;
+pub use footprint::{Counted, Footprint};
 pub use mark::Mark;
 pub use table::LockTable;

@@ -8,7 +8,7 @@ use cg_name::Path;
 use std::alloc::Global;
 use std::default::MadeWith;
 
-/// What a command locks, of the tree.
+/// What a command locks, of the tree; but for numbers of descendants, for which a footprint has `Counted`.
 #[derive(Drop)]
 pub enum Mark {
     /// The subtree of the group at the path, to be changed.
@@ -19,8 +19,6 @@ pub enum Mark {
     Stays(Path),
     /// The place of the process with this PID, from 1 to 4,194,303.
     Process(u32),
-    /// The number of descendants of the group at the path.
-    Descendants(Path),
 }
 
 // What fills the place of a footprint that has no mark yet.
@@ -41,7 +39,6 @@ impl Mark {
             (Mark::Read(path), Mark::Read(other)) => path == other,
             (Mark::Stays(path), Mark::Stays(other)) => path == other,
             (Mark::Process(pid), Mark::Process(other)) => pid == other,
-            (Mark::Descendants(path), Mark::Descendants(other)) => path == other,
             _ => false,
         }
     }

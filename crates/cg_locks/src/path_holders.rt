@@ -1,9 +1,11 @@
 //! The holders of marks at paths, in one tree of them.
-ghost use Rattle.std.specs.Prelude.{◌≡◌, ◌<◌, List, ℕ, None, IsTrue, OnErr, OnOk, option_map};
-ghost use Rattle.cg_locks.specs.Held.{in_way, of_kind, IsMarkedAlike, IsMarkedMore};
-ghost use Rattle.cg_locks.specs.Holders.{held_at, number_of, IsLeastOther};
+ghost use Rattle.std.specs.Prelude.{◌≡◌, ◌<◌, ◌≤◌, ◌↔◌, List, ℕ, None, IsTrue, OnErr, OnOk, length, option_map, take};
+ghost use Rattle.cg_locks.specs.Counts.{prefixes, AreDescending};
+ghost use Rattle.cg_locks.specs.Held.{in_way, of_kind, AreCountedMore, IsMarkedAlike, IsMarkedMore};
+ghost use Rattle.cg_locks.specs.Holders.{held_at, held_on, number_of, times_on, IsLeastOther};
 ghost use Rattle.cg_locks.specs.declared.held.Kind.{Kind};
 
+use crate::counted;
 use crate::held::{Held, Kind, Part};
 use crate::holders::lesser;
 use crate::upward::{add_mark, drop_free, least_above, reach, remove_mark};
@@ -109,17 +111,50 @@ impl PathHolders {
         }
     }
 
-    // The least other transaction that holds the number of descendants at the path.
-    pub(crate) fn least_counted(&self, path: &Path, transaction: TxnNumber) -> Option<TxnNumber>
-        ensures { IsLeastOther transaction.0 (held_at self.now.descendants path.now) (option_map number_of result) }
+    // The least other transaction that holds the number of descendants at a path of so many names with which this one begins.
+    // One look-up finds the first of these, as a rule.
+    pub(crate) fn least_counted(
+        &self,
+        path: &Path,
+        depths: &[u32],
+        transaction: TxnNumber,
+    ) -> Option<TxnNumber>
+        requires { AreDescending (length path.now) depths.now }
+        ensures { IsLeastOther transaction.0 (held_on self.now.descendants (prefixes path.now depths.now)) (option_map number_of result) }
     {
         self.nodes.laws();
-        match self.nodes.find(path) {
+        let Some((depth, shorter)) = depths.split_first() else {
+            return None;
+        };
+        match self.nodes.find_prefix(path, *depth) {
+            Some(key) => counted::least(&self.nodes, key, depths, transaction),
+            None => self.least_counted(path, shorter, transaction),
+        }
+    }
+
+    // Whether the transaction holds each of these numbers.
+    pub(crate) fn holds_counted(&self, path: &Path, depths: &[u32], transaction: TxnNumber) -> bool
+        requires { AreDescending (length path.now) depths.now }
+        ensures { IsTrue result ↔ ((q : List (List ℕ)) → times_on q (prefixes path.now depths.now) ≤ held_at self.now.descendants q transaction.0) }
+    {
+        let Some((depth, shorter)) = depths.split_first() else {
+            return true;
+        };
+        self.count_counted(path, *depth, transaction) > 0
+            && self.holds_counted(path, shorter, transaction)
+    }
+
+    // How often it holds that of the path's first names.
+    fn count_counted(&self, path: &Path, depth: u32, transaction: TxnNumber) -> usize
+        ensures { result ≡ held_at self.now.descendants (take depth path.now) transaction.0 }
+    {
+        self.nodes.laws();
+        match self.nodes.find_prefix(path, depth) {
             Some(key) => {
                 let held = self.nodes.get(key);
-                held.part(Part::CountedAt).least_other(transaction)
+                held.part(Part::CountedAt).count(transaction)
             }
-            None => None,
+            None => 0,
         }
     }
 
@@ -148,6 +183,40 @@ impl PathHolders {
             return;
         };
         remove_mark(&mut self.nodes, key, kind, transaction);
+        if self.nodes.len() > KEPT {
+            drop_free(&mut self.nodes, key);
+        }
+    }
+
+    // One holding more by the transaction of each of these numbers. An error, where there is no memory for them, leaves what
+    // was held.
+    pub(crate) fn add_counted(
+        &mut self,
+        alloc: Global,
+        path: &Path,
+        depths: &[u32],
+        transaction: TxnNumber,
+    ) -> Result<(), AllocError>
+        ensures ok { OnOk result (AreCountedMore self.old (prefixes path.now depths.now) transaction.0 self.new) }
+        ensures err { OnErr result (IsMarkedAlike self.old self.new) }
+    {
+        let key = reach(&mut self.nodes, alloc, path)?;
+        counted::add(&mut self.nodes, key, depths, transaction)
+    }
+
+    // One holding less by the transaction of each of these, which it has. Takes no memory.
+    pub(crate) fn remove_counted(&mut self, path: &Path, depths: &[u32], transaction: TxnNumber)
+        requires { (q : List (List ℕ)) → times_on q (prefixes path.now depths.now) ≤ held_at self.old.descendants q transaction.0 }
+        ensures { AreCountedMore self.new (prefixes path.now depths.now) transaction.0 self.old }
+    {
+        self.nodes.laws();
+        let Some((deepest, _)) = depths.split_first() else {
+            return;
+        };
+        let Some(key) = self.nodes.find_prefix(path, *deepest) else {
+            return;
+        };
+        counted::remove(&mut self.nodes, key, depths, transaction);
         if self.nodes.len() > KEPT {
             drop_free(&mut self.nodes, key);
         }

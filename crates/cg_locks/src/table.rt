@@ -1,13 +1,14 @@
 //! The table of the marks that open transactions hold.
-ghost use Rattle.std.specs.Prelude.{◌≡◌, ◌≢◌, ◌+◌, ◌==◌, ◌<◌, ◌≤◌, ◌↔◌, ℕ, cond, map, option_map, IfSome, IsTrue, OnErr, OnOk, None};
-ghost use Rattle.cg_locks.specs.Holders.{number_of};
+ghost use Rattle.std.specs.Prelude.{◌≡◌, ◌≢◌, ◌+◌, ◌==◌, ◌<◌, ◌≤◌, ◌↔◌, ℕ, cond, length, map, option_map, IfSome, IsTrue, OnErr, OnOk, None};
+ghost use Rattle.cg_locks.specs.Counts.{AreDescending};
+ghost use Rattle.cg_locks.specs.Holders.{number_of, IsLeast};
 ghost use Rattle.cg_locks.specs.Holdings.{holdings, HoldsAll, HoldsMark, IsInTheWay};
 ghost use Rattle.cg_locks.specs.Marks.{times};
 ghost use Rattle.cg_locks.specs.Single.{IsHeldOnceMore, IsLeastInTheWay, IsNeat};
-ghost use Rattle.cg_locks.specs.Meaning.{mark_of};
+ghost use Rattle.cg_locks.specs.Meaning.{counts_of, mark_of};
 ghost use Rattle.cg_model.specs.Footprint as model;
 
-use crate::footprint::Footprint;
+use crate::footprint::{Counted, Footprint, times_in};
 use crate::held::Kind;
 use crate::holders::{Holders, lesser};
 use crate::mark::Mark;
@@ -63,12 +64,37 @@ impl LockTable {
         ensures least { IfSome result (λ u. (v : ℕ) → IsInTheWay self.now transaction.0 footprint.now v → u.0 ≤ v) }
         ensures none { result ≡ None → (v : ℕ) → ¬ (IsInTheWay self.now transaction.0 footprint.now v) }
     {
-        let marks = footprint.marks();
+        let (marks, counted) = footprint.parts();
+        let least = self.clash_with_all(transaction, marks);
+        lesser(least, self.clash_with_counted(transaction, counted))
+    }
+
+    // The least other transaction that holds a mark which clashes with one of these.
+    fn clash_with_all(&self, transaction: TxnNumber, marks: &[Mark]) -> Option<TxnNumber>
+        ensures { IsLeast (IsInTheWay self.now transaction.0 (map mark_of marks.now)) (option_map number_of result) }
+    {
         let mut least = None;
         for mark in marks {
             least = lesser(least, self.clash_with(transaction, mark));
         }
         least
+    }
+
+    // And with one of those on numbers of descendants, if there are any.
+    fn clash_with_counted(
+        &self,
+        transaction: TxnNumber,
+        counted: Option<Counted<'_>>,
+    ) -> Option<TxnNumber>
+        requires { IfSome counted (λ c. AreDescending (length c.path.now) c.depths.now) }
+        ensures { IsLeast (IsInTheWay self.now transaction.0 (counts_of counted.entry)) (option_map number_of result) }
+    {
+        match counted {
+            Some(these) => self
+                .marks
+                .least_counted(these.path, these.depths, transaction),
+            None => None,
+        }
     }
 
     // The least other transaction that holds a mark which clashes with this one.
@@ -80,7 +106,6 @@ impl LockTable {
             Mark::Read(path) => self.marks.least_in_way(Kind::Read, path, transaction),
             Mark::Stays(path) => self.marks.least_in_way(Kind::Stays, path, transaction),
             Mark::Process(pid) => pid_holders::least(&self.processes, *pid, transaction),
-            Mark::Descendants(path) => self.marks.least_counted(path, transaction),
         }
     }
 
@@ -88,9 +113,16 @@ impl LockTable {
     pub fn holds(&self, transaction: TxnNumber, footprint: &Footprint) -> bool
         ensures { IsTrue result ↔ HoldsAll self.now transaction.0 footprint.now }
     {
-        let marks = footprint.marks();
+        let (marks, counted) = footprint.parts();
+        self.holds_each(transaction, marks) && self.holds_counted(transaction, counted)
+    }
+
+    // Whether it holds each at least as often as it stands among these.
+    fn holds_each(&self, transaction: TxnNumber, marks: &[Mark]) -> bool
+        ensures { IsTrue result ↔ HoldsAll self.now transaction.0 (map mark_of marks.now) }
+    {
         for mark in marks {
-            if !self.holds_mark(transaction, footprint, mark) {
+            if !self.holds_mark(transaction, marks, mark) {
                 return false;
             }
         }
@@ -98,10 +130,23 @@ impl LockTable {
     }
 
     // Whether it holds this mark so often.
-    fn holds_mark(&self, transaction: TxnNumber, footprint: &Footprint, mark: &Mark) -> bool
-        ensures { IsTrue result ↔ HoldsMark self.now transaction.0 footprint.now (mark_of mark.now) }
+    fn holds_mark(&self, transaction: TxnNumber, marks: &[Mark], mark: &Mark) -> bool
+        ensures { IsTrue result ↔ HoldsMark self.now transaction.0 (map mark_of marks.now) (mark_of mark.now) }
     {
-        footprint.times(mark) <= self.count(transaction, mark)
+        times_in(marks, mark) <= self.count(transaction, mark)
+    }
+
+    // Whether it holds each of those on numbers of descendants, if there are any.
+    fn holds_counted(&self, transaction: TxnNumber, counted: Option<Counted<'_>>) -> bool
+        requires { IfSome counted (λ c. AreDescending (length c.path.now) c.depths.now) }
+        ensures { IsTrue result ↔ HoldsAll self.now transaction.0 (counts_of counted.entry) }
+    {
+        match counted {
+            Some(these) => self
+                .marks
+                .holds_counted(these.path, these.depths, transaction),
+            None => true,
+        }
     }
 
     // How often the transaction holds the mark.
@@ -113,7 +158,6 @@ impl LockTable {
             Mark::Read(path) => self.marks.count(Kind::Read, path, transaction),
             Mark::Stays(path) => self.marks.count(Kind::Stays, path, transaction),
             Mark::Process(pid) => pid_holders::count(&self.processes, *pid, transaction),
-            Mark::Descendants(path) => self.marks.count(Kind::Descendants, path, transaction),
         }
     }
 
@@ -136,7 +180,44 @@ impl LockTable {
         ensures err { OnErr result (self.new ≡ self.old) }
     {
         self.tell();
-        let marks = footprint.marks();
+        let (marks, counted) = footprint.parts();
+        self.take_all(alloc, transaction, marks)?;
+        let taken = self.take_counted(alloc, transaction, counted);
+        if taken.is_err() {
+            self.release_all(transaction, marks);
+            self.tell();
+        }
+        taken
+    }
+
+    /// Takes away one holding by the transaction of each mark of the footprint, which it holds. Takes no memory.
+    pub fn release(&mut self, transaction: TxnNumber, footprint: &Footprint)
+        requires { HoldsAll self.old transaction.0 footprint.now }
+        ensures { (u : ℕ) (m : model.Mark) → holdings self.new u m + cond (u == transaction.0) (times m footprint.now) 0 ≡ holdings self.old u m }
+    {
+        let (marks, counted) = footprint.parts();
+        self.release_counted(transaction, counted);
+        self.release_all(transaction, marks);
+    }
+
+    // A table tells what holds of it when a part of it is looked at: who holds a mark never isn't named.
+    fn tell(&self)
+        ensures { IsNeat self.now }
+    {
+        let _ = &self.marks;
+    }
+
+    // Adds one holding of each of the marks. An error, where there is no memory for them, leaves the table as it was.
+    fn take_all(
+        &mut self,
+        alloc: Global,
+        transaction: TxnNumber,
+        marks: &[Mark],
+    ) -> Result<(), AllocError>
+        ensures ok { OnOk result ((u : ℕ) (m : model.Mark) → holdings self.new u m ≡ holdings self.old u m + cond (u == transaction.0) (times m (map mark_of marks.now)) 0) }
+        ensures err { OnErr result (self.new ≡ self.old) }
+    {
+        self.tell();
         for index in 0..marks.len() {
             let taken = self.take_mark(alloc, transaction, &marks[index]);
             if taken.is_err() {
@@ -148,19 +229,33 @@ impl LockTable {
         Ok(())
     }
 
-    /// Takes away one holding by the transaction of each mark of the footprint, which it holds. Takes no memory.
-    pub fn release(&mut self, transaction: TxnNumber, footprint: &Footprint)
-        requires { HoldsAll self.old transaction.0 footprint.now }
-        ensures { (u : ℕ) (m : model.Mark) → holdings self.new u m + cond (u == transaction.0) (times m footprint.now) 0 ≡ holdings self.old u m }
+    // And of those on numbers of descendants, if there are any.
+    fn take_counted(
+        &mut self,
+        alloc: Global,
+        transaction: TxnNumber,
+        counted: Option<Counted<'_>>,
+    ) -> Result<(), AllocError>
+        ensures ok { OnOk result ((u : ℕ) (m : model.Mark) → holdings self.new u m ≡ holdings self.old u m + cond (u == transaction.0) (times m (counts_of counted.entry)) 0) }
+        ensures err { OnErr result (self.new ≡ self.old) }
     {
-        self.release_all(transaction, footprint.marks());
+        match counted {
+            Some(these) => self
+                .marks
+                .add_counted(alloc, these.path, these.depths, transaction),
+            None => Ok(()),
+        }
     }
 
-    // A table tells what holds of it when a part of it is looked at: who holds a mark never isn't named.
-    fn tell(&self)
-        ensures { IsNeat self.now }
+    // Takes away one holding of each of those on numbers of descendants, if there are any: the transaction holds them.
+    fn release_counted(&mut self, transaction: TxnNumber, counted: Option<Counted<'_>>)
+        requires { HoldsAll self.old transaction.0 (counts_of counted) }
+        ensures { (u : ℕ) (m : model.Mark) → holdings self.new u m + cond (u == transaction.0) (times m (counts_of counted.entry)) 0 ≡ holdings self.old u m }
     {
-        let _ = &self.marks;
+        if let Some(these) = counted {
+            self.marks
+                .remove_counted(these.path, these.depths, transaction);
+        }
     }
 
     // Takes away one holding of each of the marks, which the transaction holds.
@@ -190,9 +285,6 @@ impl LockTable {
             Mark::Process(pid) => {
                 pid_holders::add(&mut self.processes, alloc, *pid, transaction)
             }
-            Mark::Descendants(path) => {
-                self.marks.add(alloc, Kind::Descendants, path, transaction)
-            }
         }
     }
 
@@ -207,9 +299,6 @@ impl LockTable {
             Mark::Stays(path) => self.marks.remove(Kind::Stays, path, transaction),
             Mark::Process(pid) => {
                 pid_holders::remove(&mut self.processes, *pid, transaction);
-            }
-            Mark::Descendants(path) => {
-                self.marks.remove(Kind::Descendants, path, transaction);
             }
         }
     }

@@ -32,7 +32,7 @@ pub(crate) fn least_above(
 
 // One holding more by the transaction in this part of the node. An error, where there is no memory for it, changes
 // nothing.
-fn add_at(
+pub(crate) fn add_at(
     nodes: &mut PathTree<Held>,
     key: NodeKey,
     part: Part,
@@ -47,7 +47,12 @@ fn add_at(
 }
 
 // One holding less by the transaction in this part of the node, where it has one.
-fn remove_at(nodes: &mut PathTree<Held>, key: NodeKey, part: Part, transaction: TxnNumber)
+pub(crate) fn remove_at(
+    nodes: &mut PathTree<Held>,
+    key: NodeKey,
+    part: Part,
+    transaction: TxnNumber,
+)
     requires there { IsKey nodes.old.keys key }
     requires held { (p : List (List ℕ)) → get nodes.old.keys p ≡ Some key → 0 < held_at (in_part part nodes.old.values) p transaction.0 }
     ensures keys { nodes.new.keys ≡ nodes.old.keys }

@@ -2,10 +2,10 @@
 use crate::libraries::asked::{Asked, command};
 use crate::libraries::locks::WORLD;
 use crate::libraries::plain_locks::{
-    Holding, clash_with, holds, holds_changed, lesser, release, take,
+    Holding, PlainMark, clash_with, holds, holds_changed, lesser, marks_of, release, take,
 };
 use crate::opening::tree;
-use cg_locks::{Footprint, LockTable, Mark};
+use cg_locks::{Footprint, LockTable};
 use cg_name::{FileName, Path, Refusal, TxnNumber};
 use cg_tree::Tree;
 use std::alloc::{AllocError, Global};
@@ -57,13 +57,13 @@ struct Tally {
 }
 
 // One more of the kind of the mark.
-fn count_one(counts: &mut [u32; 5], mark: &Mark) {
+fn count_one(counts: &mut [u32; 5], mark: &PlainMark) {
     let kind = match mark {
-        Mark::Changed(_) => 0,
-        Mark::Read(_) => 1,
-        Mark::Stays(_) => 2,
-        Mark::Process(_) => 3,
-        Mark::Descendants(_) => 4,
+        PlainMark::Changed(_) => 0,
+        PlainMark::Read(_) => 1,
+        PlainMark::Stays(_) => 2,
+        PlainMark::Process(_) => 3,
+        PlainMark::Descendants(_) => 4,
     };
     counts[kind] = counts[kind].saturating_add(1);
 }
@@ -80,13 +80,13 @@ impl Tally {
         }
     }
 
-    fn count_taken(&mut self, marks: &[Mark]) {
+    fn count_taken(&mut self, marks: &[PlainMark]) {
         for mark in marks {
             count_one(&mut self.taken, mark);
         }
     }
 
-    fn count_asked(&mut self, mark: &Mark, is_clashing: bool) {
+    fn count_asked(&mut self, mark: &PlainMark, is_clashing: bool) {
         if is_clashing {
             count_one(&mut self.clashing, mark);
         } else {
@@ -102,6 +102,13 @@ impl Tally {
     }
 }
 
+// A footprint, and its marks.
+#[derive(Drop)]
+struct Marked {
+    footprint: Footprint,
+    marks: Vec<PlainMark>,
+}
+
 // Both take the marks.
 fn take_both<'m>(
     alloc: Global,
@@ -109,12 +116,12 @@ fn take_both<'m>(
     list: &mut Vec<Holding<'m>>,
     transaction: TxnNumber,
     place: usize,
-    footprint: &'m Footprint,
+    marked: &'m Marked,
     tally: &mut Tally,
 ) -> Result<bool, AllocError> {
-    tally.count_taken(footprint.marks());
-    table.take(alloc, transaction, footprint)?;
-    take(list, transaction, place, footprint.marks())?;
+    tally.count_taken(marked.marks.as_slice());
+    table.take(alloc, transaction, &marked.footprint)?;
+    take(list, transaction, place, marked.marks.as_slice())?;
     Ok(true)
 }
 
@@ -123,15 +130,15 @@ fn release_both(
     table: &mut LockTable,
     list: &mut Vec<Holding>,
     transaction: TxnNumber,
-    footprint: &Footprint,
+    marked: &Marked,
 ) -> bool {
-    let is_held = table.holds(transaction, footprint);
-    if is_held != holds(list, transaction, footprint.marks()) {
+    let is_held = table.holds(transaction, &marked.footprint);
+    if is_held != holds(list, transaction, marked.marks.as_slice()) {
         return false;
     }
     if is_held {
-        table.release(transaction, footprint);
-        release(list, transaction, footprint.marks());
+        table.release(transaction, &marked.footprint);
+        release(list, transaction, marked.marks.as_slice());
     }
     true
 }
@@ -141,14 +148,14 @@ fn release_both(
 fn release_some(
     table: &mut LockTable,
     list: &mut Vec<Holding>,
-    footprints: &[Footprint],
+    footprints: &[Marked],
     at: usize,
 ) -> bool {
     let Some(holding) = list.get(at).copied() else {
         return list.is_empty();
     };
     match footprints.get(holding.place) {
-        Some(footprint) => release_both(table, list, holding.transaction, footprint),
+        Some(marked) => release_both(table, list, holding.transaction, marked),
         None => false,
     }
 }
@@ -157,7 +164,7 @@ fn release_some(
 fn clash(
     list: &[Holding],
     transaction: TxnNumber,
-    marks: &[Mark],
+    marks: &[PlainMark],
     tally: &mut Tally,
 ) -> Option<TxnNumber> {
     let mut least = None;
@@ -171,11 +178,11 @@ fn clash(
 }
 
 // The path of the last mark, if it has one.
-fn last_path(marks: &[Mark]) -> Option<&Path> {
+fn last_path(marks: &[PlainMark]) -> Option<&Path> {
     match marks.last()? {
-        Mark::Changed(path) | Mark::Read(path) => Some(path),
-        Mark::Stays(path) | Mark::Descendants(path) => Some(path),
-        Mark::Process(_) => None,
+        PlainMark::Changed(path) | PlainMark::Read(path) => Some(path),
+        PlainMark::Stays(path) | PlainMark::Descendants(path) => Some(path),
+        PlainMark::Process(_) => None,
     }
 }
 
@@ -184,7 +191,7 @@ fn changed_alike(
     table: &LockTable,
     list: &[Holding],
     transaction: TxnNumber,
-    marks: &[Mark],
+    marks: &[PlainMark],
 ) -> bool {
     match last_path(marks) {
         Some(path) => {
@@ -199,18 +206,19 @@ fn answers_alike<'m>(
     alloc: Global,
     table: &mut LockTable,
     list: &mut Vec<Holding<'m>>,
-    footprints: &'m [Footprint],
+    footprints: &'m [Marked],
     generator: &mut Generator,
     tally: &mut Tally,
 ) -> Result<bool, AllocError> {
     let transaction = generator.transaction();
     let place = generator.below(footprints.len());
-    let Some(footprint) = footprints.get(place) else {
+    let Some(marked) = footprints.get(place) else {
         return Ok(false);
     };
-    let marks = footprint.marks();
+    let footprint = &marked.footprint;
+    let marks = marked.marks.as_slice();
     match generator.below(20) {
-        0..6 => take_both(alloc, table, list, transaction, place, footprint, tally),
+        0..6 => take_both(alloc, table, list, transaction, place, marked, tally),
         6..11 => {
             let at = generator.below(list.len());
             Ok(release_some(table, list, footprints, at))
@@ -233,7 +241,7 @@ const CALLS: usize = 40;
 fn agrees_on(
     alloc: Global,
     table: &mut LockTable,
-    footprints: &[Footprint],
+    footprints: &[Marked],
     seed: u64,
     tally: &mut Tally,
 ) -> Result<bool, AllocError> {
@@ -250,7 +258,7 @@ fn agrees_on(
 // So they do, from a new table on.
 fn agrees(
     alloc: Global,
-    footprints: &[Footprint],
+    footprints: &[Marked],
     seed: u64,
     tally: &mut Tally,
 ) -> Result<bool, AllocError> {
@@ -261,7 +269,7 @@ fn agrees(
 // The first seed on whose list they don't.
 fn first_wrong_seed(
     alloc: Global,
-    footprints: &[Footprint],
+    footprints: &[Marked],
     tally: &mut Tally,
 ) -> Result<Option<u64>, AllocError> {
     for seed in 1..=LISTS {
@@ -293,13 +301,15 @@ static COMMANDS: [(Asked, &str); 16] = [
 ];
 
 // The footprint of the command at the path that a word spells.
-fn footprint(alloc: Global, tree: &Tree, asked: Asked, word: &str) -> Result<Footprint, Refusal> {
+fn footprint(alloc: Global, tree: &Tree, asked: Asked, word: &str) -> Result<Marked, Refusal> {
     let command = command(alloc, asked, word)?;
-    Ok(Footprint::of(alloc, &command, tree)?)
+    let footprint = Footprint::of(alloc, &command, tree)?;
+    let marks = marks_of(alloc, &footprint)?;
+    Ok(Marked { footprint, marks })
 }
 
 // Appends those of all commands.
-fn fill(alloc: Global, tree: &Tree, footprints: &mut Vec<Footprint>) -> Result<(), Refusal> {
+fn fill(alloc: Global, tree: &Tree, footprints: &mut Vec<Marked>) -> Result<(), Refusal> {
     for (asked, word) in &COMMANDS {
         footprints.push(footprint(alloc, tree, *asked, word)?)?;
     }
@@ -307,7 +317,7 @@ fn fill(alloc: Global, tree: &Tree, footprints: &mut Vec<Footprint>) -> Result<(
 }
 
 // Appends those over the tree of the world of the tests of locks.
-fn fill_of_world(alloc: Global, footprints: &mut Vec<Footprint>) -> Result<(), Refusal> {
+fn fill_of_world(alloc: Global, footprints: &mut Vec<Marked>) -> Result<(), Refusal> {
     let tree = tree(alloc, WORLD)?;
     fill(alloc, &tree, footprints)
 }

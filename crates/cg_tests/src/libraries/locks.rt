@@ -1,8 +1,9 @@
 //! The marks of commands, and the table of the marks that transactions hold.
 use crate::libraries::asked::{Asked, command};
+use crate::libraries::plain_locks::{PlainMark, marks_of};
 use crate::opening::tree;
 use cg_command::Command;
-use cg_locks::{Footprint, LockTable, Mark};
+use cg_locks::{Footprint, LockTable};
 use cg_name::{FileName, Refusal, TxnNumber};
 use cg_tree::Tree;
 use std::alloc::{AllocError, Global};
@@ -21,13 +22,13 @@ end
 ";
 
 // Appends a letter and the path of the mark.
-fn write_mark(mark: &Mark, out: &mut Vec<u8>) -> Result<(), AllocError> {
+fn write_mark(mark: &PlainMark, out: &mut Vec<u8>) -> Result<(), AllocError> {
     let (letter, path) = match mark {
-        Mark::Changed(path) => (b'x', Some(path)),
-        Mark::Read(path) => (b's', Some(path)),
-        Mark::Stays(path) => (b'n', Some(path)),
-        Mark::Process(_) => (b'p', None),
-        Mark::Descendants(path) => (b'c', Some(path)),
+        PlainMark::Changed(path) => (b'x', Some(path)),
+        PlainMark::Read(path) => (b's', Some(path)),
+        PlainMark::Stays(path) => (b'n', Some(path)),
+        PlainMark::Process(_) => (b'p', None),
+        PlainMark::Descendants(path) => (b'c', Some(path)),
     };
     out.push(letter)?;
     if let Some(path) = path {
@@ -37,8 +38,8 @@ fn write_mark(mark: &Mark, out: &mut Vec<u8>) -> Result<(), AllocError> {
 }
 
 // Appends the marks, and a newline.
-fn write_marks(footprint: &Footprint, out: &mut Vec<u8>) -> Result<(), AllocError> {
-    for mark in footprint.marks() {
+fn write_marks(marks: &[PlainMark], out: &mut Vec<u8>) -> Result<(), AllocError> {
+    for mark in marks {
         write_mark(mark, out)?;
     }
     out.push(b'\n')?;
@@ -75,8 +76,9 @@ fn write_marks_of(
     command: &Command,
     out: &mut Vec<u8>,
 ) -> Result<(), AllocError> {
-    let marks = Footprint::of(alloc, command, tree)?;
-    write_marks(&marks, out)
+    let footprint = Footprint::of(alloc, command, tree)?;
+    let marks = marks_of(alloc, &footprint)?;
+    write_marks(marks.as_slice(), out)
 }
 
 // Appends those of the command at the path that a word spells.

@@ -1,5 +1,5 @@
 use Rattle.std.proofs.Common.{ap}
-use Rattle.cg_model.specs.Footprint.{X, S, N, Pid, Count}
+use Rattle.cg_model.specs.Footprint.{X, S, N, Pid}
 use Rattle.cg_locks.specs.Meaning.{mark_of}
 use Rattle.cg_locks.proofs.OfKinds.{kinds}
 use Rattle.cg_locks.proofs.Ways.{least_way}
@@ -16,6 +16,3 @@ returns-in-Stays c = least_way (kinds c.self.inside) c.args.self.now c.self.view
 
 pub returns-in-Process : goal.returns-in-Process
 returns-in-Process c = least_way (kinds c.self.inside) c.args.self.now c.self.view_is c.args.transaction.0 c.args.mark.now (Pid c.in-Process.pid) _ (ap mark_of c.in-Process.is) c.least.ensures
-
-pub returns-in-Descendants : goal.returns-in-Descendants
-returns-in-Descendants c = least_way (kinds c.self.inside) c.args.self.now c.self.view_is c.args.transaction.0 c.args.mark.now (Count c.in-Descendants.path) _ (ap mark_of c.in-Descendants.is) c.least_counted.ensures

@@ -1,5 +1,5 @@
 use Rattle.std.proofs.Common.{ap}
-use Rattle.cg_model.specs.Footprint.{X, S, N, Pid, Count}
+use Rattle.cg_model.specs.Footprint.{X, S, N, Pid}
 use Rattle.cg_locks.specs.Meaning.{mark_of}
 use Rattle.cg_locks.proofs.OfKinds.{count_told, kinds}
 use Rattle.cg_locks.proofs.table.LockTable.count.Goals as goal
@@ -15,6 +15,3 @@ returns-in-Stays c = count_told (kinds c.self.inside) c.args.self.now c.self.vie
 
 pub returns-in-Process : goal.returns-in-Process
 returns-in-Process c = count_told (kinds c.self.inside) c.args.self.now c.self.view_is c.args.transaction.0 c.count-in-Process.result c.args.mark.now (Pid c.in-Process.pid) (ap mark_of c.in-Process.is) c.count-in-Process.ensures
-
-pub returns-in-Descendants : goal.returns-in-Descendants
-returns-in-Descendants c = count_told (kinds c.self.inside) c.args.self.now c.self.view_is c.args.transaction.0 c.count-in-Descendants.result c.args.mark.now (Count c.in-Descendants.path) (ap mark_of c.in-Descendants.is) c.count-in-Descendants.ensures

@@ -1,15 +1,13 @@
-use Rattle.std.proofs.Common.{refl}
-use Rattle.cg_locks.proofs.Enough.{all_enough, next_is_enough}
+-- Those that are no marks on numbers of descendants, and these.
+use Rattle.std.proofs.Common.{map}
+use Rattle.cg_locks.specs.Meaning.{counts_of, mark_of}
+use Rattle.cg_locks.proofs.CountedMarks.{both_held, counts_held}
 use Rattle.cg_locks.proofs.table.LockTable.holds.Goals as goal
 
-pub loop-mark-init : goal.loop-mark-init
-loop-mark-init c = λ all. all
-
-pub loop-mark-preserved : goal.loop-mark-preserved
-loop-mark-preserved c =
-    next_is_enough c.args.self.now c.args.transaction.0 c.args.footprint.now c.marks-marks.result.now c.loop-mark.mark-index c.mark-item.result c.loop-mark-test.true c.mark-item.is
-    (c.holds_mark.ensures.0 c.if-not-holds_mark.false) c.loop-mark.invariant
-
-pub returns : goal.returns
-returns c =
-    (λ _. all_enough c.args.self.now c.args.transaction.0 c.args.footprint.now c.marks-marks.result.now c.loop-mark.mark-index c.marks-marks.ensures c.loop-mark-test.false c.loop-mark.invariant, λ _. refl)
+pub returns-then-holds_each : goal.returns-then-holds_each
+returns-then-holds_each c =
+    let H = c.args.self.now in
+    let ms = c.parts.result.0.now in (
+      λ yes. both_held H c.args.transaction.0 ms c.parts.result.1 c.args.footprint.now c.parts.ensures.marks (c.holds_each.ensures.0 c.if-holds_each.true) (c.holds_counted.ensures.0 yes),
+      λ all. c.holds_counted.ensures.1 (counts_held H c.args.transaction.0 (map mark_of ms) (counts_of c.parts.result.1) c.args.footprint.now c.parts.ensures.marks all),
+    )

@@ -1,7 +1,7 @@
 -- The marks of its kind are held once less.
 use Rattle.std.proofs.Common.{refl, ap}
 use Rattle.cg_locks.specs.declared.held.Kind.TheVariants as kinds_of
-use Rattle.cg_model.specs.Footprint.{X, S, N, Pid, Count}
+use Rattle.cg_model.specs.Footprint.{X, S, N, Pid}
 use Rattle.cg_locks.specs.Meaning.{mark_of}
 use Rattle.cg_locks.specs.Table.{by_kind}
 use Rattle.cg_locks.proofs.OfKinds.{count_there, kinds, more_for, more_marked, more_processes}
@@ -33,15 +33,6 @@ returns-in-Stays c =
     let es = c.self.inside.processes.entries in
     more_for (by_kind c.remove-in-Stays.new.self es) (kinds c.self.inside) _ c.args.self.now c.args.transaction.0 c.args.mark.now (N c.in-Stays.path) (ap mark_of c.in-Stays.is) refl c.self.view_is
     (more_marked c.remove-in-Stays.new.self c.self.inside.marks es kinds_of.Stays c.in-Stays.path c.args.transaction.0 c.remove-in-Stays.ensures)
-
-pub remove-requires-in-Descendants : goal.remove-requires-in-Descendants
-remove-requires-in-Descendants c = count_there (kinds c.self.inside) c.args.self.now c.self.view_is c.args.transaction.0 c.args.mark.now (Count c.in-Descendants.path) (ap mark_of c.in-Descendants.is) c.requires
-
-pub returns-in-Descendants : goal.returns-in-Descendants
-returns-in-Descendants c =
-    let es = c.self.inside.processes.entries in
-    more_for (by_kind c.remove-in-Descendants.new.self es) (kinds c.self.inside) _ c.args.self.now c.args.transaction.0 c.args.mark.now (Count c.in-Descendants.path) (ap mark_of c.in-Descendants.is) refl c.self.view_is
-    (more_marked c.remove-in-Descendants.new.self c.self.inside.marks es kinds_of.Descendants c.in-Descendants.path c.args.transaction.0 c.remove-in-Descendants.ensures)
 
 pub remove-requires-in-Process : goal.remove-requires-in-Process
 remove-requires-in-Process c = count_there (kinds c.self.inside) c.args.self.now c.self.view_is c.args.transaction.0 c.args.mark.now (Pid c.in-Process.pid) (ap mark_of c.in-Process.is) c.requires

@@ -1,5 +1,5 @@
 -- What was taken before the error is released again.
-use Rattle.std.proofs.Common.{map, sym, take, ap, ◌∙◌}
+use Rattle.std.proofs.Common.{map, sym, ap, ◌∙◌}
 use Rattle.std.proofs.lemmas.Result.{on_err_weaker}
 use Rattle.cg_locks.specs.Holdings.{holdings}
 use Rattle.cg_locks.specs.Meaning.{mark_of}
@@ -9,6 +9,6 @@ use Rattle.cg_locks.proofs.table.LockTable.take.Goals as goal
 
 pub returns-then-is_err-clause-err : goal.returns-then-is_err-clause-err
 returns-then-is_err-clause-err c =
-    on_err_weaker c.take_mark-taken.result (λ same. same_neat c.release_all.new.self c.args.self.now c.tell-then-is_err.ensures c.tell.ensures
-    (undone c.args.self.now c.loop-index.self c.release_all.new.self c.args.transaction.0 (map mark_of (take c.loop-index.index c.marks-marks.result.now)) c.loop-index.invariant
-    (λ u m. sym (c.release_all.ensures u m ∙ ap (λ H. holdings H u m) same)))) c.take_mark-taken.ensures.err
+    on_err_weaker c.take_counted-taken.result (λ same. same_neat c.release_all.new.self c.args.self.now c.tell-then-is_err.ensures c.tell.ensures
+    (undone c.args.self.now c.take_all.new.self c.release_all.new.self c.args.transaction.0 (map mark_of c.parts.result.0.now) c.in_ok-take_all.ensures.ok
+    (λ u m. sym (c.release_all.ensures u m ∙ ap (λ H. holdings H u m) same)))) c.take_counted-taken.ensures.err

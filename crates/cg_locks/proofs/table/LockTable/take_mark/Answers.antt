@@ -2,7 +2,7 @@
 use Rattle.std.proofs.Common.{refl, ap, ◌∙◌}
 use Rattle.std.proofs.lemmas.Result.{on_ok_weaker, on_err_weaker}
 use Rattle.cg_locks.specs.declared.held.Kind.TheVariants as kinds_of
-use Rattle.cg_model.specs.Footprint.{X, S, N, Pid, Count}
+use Rattle.cg_model.specs.Footprint.{X, S, N, Pid}
 use Rattle.cg_locks.specs.Meaning.{mark_of}
 use Rattle.cg_locks.specs.Table.{by_kind}
 use Rattle.cg_locks.proofs.OfKinds.{alike_marked, alike_processes, kinds, more_for, more_marked, more_processes}
@@ -44,18 +44,6 @@ pub returns-in-Stays-clause-err : goal.returns-in-Stays-clause-err
 returns-in-Stays-clause-err c =
     let es = c.self.inside.processes.entries in
     on_err_weaker c.add-in-Stays.result (λ h. same_table (by_kind c.add-in-Stays.new.self es) (kinds c.self.inside) (alike_marked c.self.inside.marks c.add-in-Stays.new.self es h) ∙ c.self.view_is) c.add-in-Stays.ensures.err
-
-pub returns-in-Descendants-clause-ok : goal.returns-in-Descendants-clause-ok
-returns-in-Descendants-clause-ok c =
-    let K = kinds c.self.inside in
-    let es = c.self.inside.processes.entries in
-    on_ok_weaker c.add-in-Descendants.result (λ h. more_for K (by_kind c.add-in-Descendants.new.self es) c.args.self.now _ c.args.transaction.0 c.args.mark.now (Count c.in-Descendants.path) (ap mark_of c.in-Descendants.is) c.self.view_is refl
-    (more_marked c.self.inside.marks c.add-in-Descendants.new.self es kinds_of.Descendants c.in-Descendants.path c.args.transaction.0 h)) c.add-in-Descendants.ensures.ok
-
-pub returns-in-Descendants-clause-err : goal.returns-in-Descendants-clause-err
-returns-in-Descendants-clause-err c =
-    let es = c.self.inside.processes.entries in
-    on_err_weaker c.add-in-Descendants.result (λ h. same_table (by_kind c.add-in-Descendants.new.self es) (kinds c.self.inside) (alike_marked c.self.inside.marks c.add-in-Descendants.new.self es h) ∙ c.self.view_is) c.add-in-Descendants.ensures.err
 
 pub returns-in-Process-clause-ok : goal.returns-in-Process-clause-ok
 returns-in-Process-clause-ok c =
