@@ -15,6 +15,7 @@ mod Slots
 -- What the tree and the lock table hold at each stage.
 mod Stages
 mod Stepping
+mod SteppedAs
 mod TheLaws
 -- where the commands on a stack have their records
 mod CommitPlaces

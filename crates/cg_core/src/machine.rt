@@ -242,6 +242,28 @@ impl Core {
         answers
     }
 
+    /// Answers `Back`, `Undo`, `Commit` or `Abort` as `step_pair` does. These take no memory, and so it takes no allocator.
+    pub fn step_without_memory(&mut self, session: SessionId, request: Request) -> (Answer, Answer)
+        requires { takes_memory request ≡ false }
+        ensures answer { answer_of result.0 ≡ reply self.old session.0 (request_of request) }
+        ensures state { self.new ≡ after self.old session.0 (request_of request) }
+        ensures machine { step cgroups (machine self.old) session.0 (request_of request) ≡ (machine self.new, answer_of result.0) }
+        ensures infallible { is_memory result.0 ≡ false }
+        ensures copy { answer_of result.1 ≡ answer_of result.0 }
+        ensures reached { Reached self.new.opening self.new.bound self.new.history }
+        ensures serial { IsSerial cgroups self.new.opening (machine self.new) }
+        ensures faithful { IsFaithful cgroups self.new.opening (machine self.new) }
+        ensures room { RoomKept self.new.opening (machine self.new) }
+        ensures going_back { GoBack (machine self.new) }
+        ensures others { OthersStay cgroups (machine self.new) }
+        ensures busy { IsBusyExactly self.new.opening (machine self.new) }
+    {
+        self.tell_steps();
+        let answers = self.answer_without_memory(session, request);
+        self.laws();
+        answers
+    }
+
     // Answers a request as its kind asks for.
     fn answer(&mut self, alloc: Global, session: SessionId, request: Request) -> (Answer, Answer)
         ensures answer { OnFalse (is_memory result.0) (answer_of result.0 ≡ reply self.old session.0 (request_of request)) }
@@ -255,10 +277,24 @@ impl Core {
             Request::Begin => twice(self.begin(alloc, session)),
             Request::Do(command) => self.run(alloc, session, command),
             Request::Save(name) => twice(self.save(session, name)),
+            other => self.answer_without_memory(session, other),
+        }
+    }
+
+    // Answers a request that takes no memory as its kind asks for.
+    fn answer_without_memory(&mut self, session: SessionId, request: Request) -> (Answer, Answer)
+        requires { takes_memory request ≡ false }
+        ensures answer { answer_of result.0 ≡ reply self.old session.0 (request_of request) }
+        ensures state { self.new ≡ after self.old session.0 (request_of request) }
+        ensures infallible { is_memory result.0 ≡ false }
+        ensures copy { answer_of result.1 ≡ answer_of result.0 }
+    {
+        match request {
             Request::Back(name) => twice(self.back(session, name)),
             Request::Undo => twice(self.undo(session)),
             Request::Commit => twice(self.end(session, Ending::Commit)),
             Request::Abort => twice(self.end(session, Ending::Abort)),
+            Request::Begin | Request::Do(_) | Request::Save(_) => unreachable!(),
         }
     }
 

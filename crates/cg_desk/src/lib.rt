@@ -16,5 +16,5 @@ pub use cg_view::{Publisher, Told};
 pub use cg_world::World;
 pub use desk::{CloseFault, Desk};
 pub use session::Session;
-pub use stepping::{step_for, step_for_pair};
+pub use stepping::{step_for, step_for_pair, step_for_without_memory};
 pub use transaction::Transaction;

@@ -12,7 +12,7 @@ ghost use Rattle.cg_name.specs.declared.refusal.Refusal.TheVariants as refusals;
 
 use crate::desk::Desk;
 use crate::session::Session;
-use crate::stepping::step_for_pair;
+use crate::stepping::{step_for_pair, step_for_without_memory};
 use cg_command::Command;
 use cg_core::{Answer, Request};
 use cg_log::Log;
@@ -59,7 +59,7 @@ impl<'s> Transaction<'s> {
     }
 
     /// Takes the newest command off, where nothing came after it.
-    pub fn undo(&mut self, rt: &impl Wait, alloc: Global) -> Answer
+    pub fn undo(&mut self, rt: &impl Wait) -> Answer
         ensures answers { MayAnswer (txn_number self.old) model.Undo (answer_of result) }
         ensures logged { session_of self.new ≡ after_call (session_of self.old) model.Undo (answer_of result) }
         ensures same { IsSame self.old self.new }
@@ -68,11 +68,11 @@ impl<'s> Transaction<'s> {
         if !self.log.has_way_back() {
             return self.find_nothing(Refusal::NothingToUndo);
         }
-        self.go_back(rt, alloc, Request::Undo, Request::Undo)
+        self.go_back(rt, Request::Undo, Request::Undo)
     }
 
     /// Takes all that came after the savepoint with the name off, and the savepoint.
-    pub fn back(&mut self, rt: &impl Wait, alloc: Global, name: SaveName) -> Answer
+    pub fn back(&mut self, rt: &impl Wait, name: SaveName) -> Answer
         ensures answers { MayAnswer (txn_number self.old) (model.Back name) (answer_of result) }
         ensures logged { session_of self.new ≡ after_call (session_of self.old) (model.Back name) (answer_of result) }
         ensures same { IsSame self.old self.new }
@@ -81,25 +81,25 @@ impl<'s> Transaction<'s> {
         if !self.log.has_way_back() {
             return self.find_nothing(Refusal::NoSavepoint);
         }
-        self.go_back(rt, alloc, Request::Back(name), Request::Back(name))
+        self.go_back(rt, Request::Back(name), Request::Back(name))
     }
 
     /// Keeps what the transaction changed, and ends it.
-    pub fn commit(self, rt: &impl Wait, alloc: Global) -> Answer
+    pub fn commit(self, rt: &impl Wait) -> Answer
         ensures answers { MayAnswer (txn_number self.entry) model.Commit (answer_of result) }
         ensures logged { session_left self.exit ≡ after_call (session_of self.entry) model.Commit (answer_of result) }
         ensures infallible { is_memory result ≡ false }
     {
-        self.end(rt, alloc, Request::Commit, Request::Commit)
+        self.end(rt, Request::Commit, Request::Commit)
     }
 
     /// Takes all that the transaction did off, and ends it.
-    pub fn abort(self, rt: &impl Wait, alloc: Global) -> Answer
+    pub fn abort(self, rt: &impl Wait) -> Answer
         ensures answers { MayAnswer (txn_number self.entry) model.Abort (answer_of result) }
         ensures logged { session_left self.exit ≡ after_call (session_of self.entry) model.Abort (answer_of result) }
         ensures infallible { is_memory result ≡ false }
     {
-        self.end(rt, alloc, Request::Abort, Request::Abort)
+        self.end(rt, Request::Abort, Request::Abort)
     }
 
     // Asks for what may take memory: room in the log and the copy for it come first.
@@ -129,7 +129,7 @@ impl<'s> Transaction<'s> {
     }
 
     // Asks to go back, with the same again for the log, which has room reserved for it.
-    fn go_back(&mut self, rt: &impl Wait, alloc: Global, request: Request, copy: Request) -> Answer
+    fn go_back(&mut self, rt: &impl Wait, request: Request, copy: Request) -> Answer
         requires way_back { 2 ≤ self.old.log.reserved }
         requires back { goes_back (request_of request) ≡ true }
         requires no_memory { takes_memory request ≡ false }
@@ -139,20 +139,20 @@ impl<'s> Transaction<'s> {
         ensures same { IsSame self.old self.new }
         ensures infallible { is_memory result ≡ false }
     {
-        let (answer, second) = self.step(rt, alloc, request);
+        let (answer, second) = self.step_without_memory(rt, request);
         self.log.note_back(copy, second);
         answer
     }
 
     // Asks for what ends the transaction, with the same again for the log, which the session has back then.
-    fn end(self, rt: &impl Wait, alloc: Global, request: Request, copy: Request) -> Answer
+    fn end(self, rt: &impl Wait, request: Request, copy: Request) -> Answer
         requires no_memory { takes_memory request ≡ false }
         requires same { request_of copy ≡ request_of request }
         ensures answers { MayAnswer (txn_number self.entry) (request_of request) (answer_of result) }
         ensures logged { session_left self.exit ≡ after_call (session_of self.entry) (request_of request) (answer_of result) }
         ensures infallible { is_memory result ≡ false }
     {
-        let (answer, second) = self.step(rt, alloc, request);
+        let (answer, second) = self.step_without_memory(rt, request);
         let Transaction {
             session,
             desk: _,
@@ -163,15 +163,26 @@ impl<'s> Transaction<'s> {
         answer
     }
 
-    // One step of the desk's machine, under its lock. A request that may want memory has room in the log before.
+    // One step of the desk's machine, under its lock. Room for it in the log is there before.
     fn step(&self, rt: &impl Wait, alloc: Global, request: Request) -> (Answer, Answer)
-        requires { takes_memory request ≡ true → length self.now.log.calls + self.now.log.reserved + 2 ≤ self.now.log.capacity }
+        requires { length self.now.log.calls + self.now.log.reserved + 2 ≤ self.now.log.capacity }
         ensures copy { answer_of result.1 ≡ answer_of result.0 }
         ensures answers { MayAnswer (txn_number self.now) (request_of request) (answer_of result.0) }
-        ensures infallible { takes_memory request ≡ false → is_memory result.0 ≡ false }
     {
         let session = self.session.id();
         let mut locked = self.desk.locked.lock(rt);
         step_for_pair(alloc, &mut locked.core, session, self.number, request)
+    }
+
+    // The same of a request that takes no memory.
+    fn step_without_memory(&self, rt: &impl Wait, request: Request) -> (Answer, Answer)
+        requires { takes_memory request ≡ false }
+        ensures copy { answer_of result.1 ≡ answer_of result.0 }
+        ensures answers { MayAnswer (txn_number self.now) (request_of request) (answer_of result.0) }
+        ensures infallible { is_memory result.0 ≡ false }
+    {
+        let session = self.session.id();
+        let mut locked = self.desk.locked.lock(rt);
+        step_for_without_memory(&mut locked.core, session, self.number, request)
     }
 }

@@ -65,8 +65,8 @@ pub(crate) fn try_script<G: Gate>(
         script.requests.as_slice(),
     );
     match asked {
-        Ok(()) => Ok(Some(finish(rt, alloc, passage, transaction, script, tries))),
-        Err(stop) => match end(rt, alloc, passage, transaction, true) {
+        Ok(()) => Ok(Some(finish(rt, passage, transaction, script, tries))),
+        Err(stop) => match end(rt, passage, transaction, true) {
             Answer::Aborted(_) => Ok(refused(stop.line, stop.refusal, tries)),
             _ => Err(RunFault::Disagree),
         },
@@ -156,8 +156,8 @@ fn answer_to(
     match request {
         Request::Do(command) => transaction.run(rt, alloc, command),
         Request::Save(name) => transaction.save(rt, alloc, name),
-        Request::Back(name) => transaction.back(rt, alloc, name),
-        Request::Undo => transaction.undo(rt, alloc),
+        Request::Back(name) => transaction.back(rt, name),
+        Request::Undo => transaction.undo(rt),
         Request::Begin | Request::Commit | Request::Abort => unreachable!(),
     }
 }
@@ -165,7 +165,6 @@ fn answer_to(
 // Ends the transaction as the script says; how the script ends so.
 fn finish<G: Gate>(
     rt: &impl Wait,
-    alloc: Global,
     passage: &mut Passage<G>,
     transaction: Transaction,
     script: &Script,
@@ -175,7 +174,7 @@ fn finish<G: Gate>(
     ensures logged { Made (session_of transaction.entry) (session_left transaction.exit) (ending_call (txn_number transaction.entry) result) }
 {
     let line = script.requests.len() as u32 + 1;
-    match end(rt, alloc, passage, transaction, script.aborts) {
+    match end(rt, passage, transaction, script.aborts) {
         Answer::Committed(number) => ScriptEnd::Committed { number, tries },
         Answer::Aborted(_) => ScriptEnd::Aborted { tries },
         Answer::Refused(refusal) => ScriptEnd::Failed {
@@ -190,7 +189,6 @@ fn finish<G: Gate>(
 // Aborts, or commits.
 fn end<G: Gate>(
     rt: &impl Wait,
-    alloc: Global,
     passage: &mut Passage<G>,
     transaction: Transaction,
     aborts: bool,
@@ -200,9 +198,9 @@ fn end<G: Gate>(
 {
     passage.enter();
     let answer = if aborts {
-        transaction.abort(rt, alloc)
+        transaction.abort(rt)
     } else {
-        transaction.commit(rt, alloc)
+        transaction.commit(rt)
     };
     passage.ended(rt);
     passage.leave();

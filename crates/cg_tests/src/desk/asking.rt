@@ -16,13 +16,8 @@ fn save(
 }
 
 // Asks to go back to the savepoint with this name.
-fn back(
-    rt: &impl Wait,
-    alloc: Global,
-    transaction: &mut Transaction,
-    name: &str,
-) -> Result<Answer, Refusal> {
-    Ok(transaction.back(rt, alloc, SaveName::read(name)?))
+fn back(rt: &impl Wait, transaction: &mut Transaction, name: &str) -> Result<Answer, Refusal> {
+    Ok(transaction.back(rt, SaveName::read(name)?))
 }
 
 // Asks for the command that these words are.
@@ -44,8 +39,8 @@ pub(crate) fn ask(
 ) -> Result<Answer, Refusal> {
     match words {
         ["save", name] => save(rt, alloc, transaction, name),
-        ["back", name] => back(rt, alloc, transaction, name),
-        ["undo"] => Ok(transaction.undo(rt, alloc)),
+        ["back", name] => back(rt, transaction, name),
+        ["undo"] => Ok(transaction.undo(rt)),
         _ => run(rt, alloc, transaction, words),
     }
 }
@@ -84,7 +79,7 @@ pub(crate) fn commit_all(
 ) -> Result<(), Refusal> {
     let mut transaction = session.begin(rt, alloc, desk)?;
     let asked = ask_all(rt, alloc, &mut transaction, rows, out);
-    let answer = transaction.commit(rt, alloc);
+    let answer = transaction.commit(rt);
     write_reply(&answer, out)?;
     asked
 }

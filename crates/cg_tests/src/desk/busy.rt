@@ -32,7 +32,7 @@ fn hold(
 ) -> Result<(), Refusal> {
     let mut holder = session.begin(rt, alloc, desk)?;
     let asked = ask_both(rt, alloc, &mut holder, other, out);
-    let answer = holder.commit(rt, alloc);
+    let answer = holder.commit(rt);
     asked?;
     write_reply(&answer, out)?;
     ask_all(rt, alloc, other, &BELOW_A, out)
@@ -49,7 +49,7 @@ fn hold_from(
 ) -> Result<(), Refusal> {
     let mut other = second.begin(rt, alloc, desk)?;
     let held = hold(rt, alloc, desk, first, &mut other, out);
-    let answer = other.commit(rt, alloc);
+    let answer = other.commit(rt);
     held?;
     Ok(write_reply(&answer, out)?)
 }

@@ -123,9 +123,9 @@ fn commits(
     let mut transaction = session.begin(rt, alloc, desk)?;
     let through = gets_through(rt, alloc, &mut transaction, id, number);
     let answer = if through == Ok(true) {
-        transaction.commit(rt, alloc)
+        transaction.commit(rt)
     } else {
-        transaction.abort(rt, alloc)
+        transaction.abort(rt)
     };
     through?;
     Ok(matches!(answer, Answer::Committed(_)))

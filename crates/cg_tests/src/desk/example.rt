@@ -19,10 +19,10 @@ fn make_group(
     let create = read_command(alloc, &["create", path])?;
     let mut transaction = session.begin(rt, alloc, desk)?;
     if let Answer::Refused(refusal) = transaction.run(rt, alloc, create) {
-        transaction.abort(rt, alloc);
+        transaction.abort(rt);
         return Err(refusal);
     }
-    transaction.commit(rt, alloc);
+    transaction.commit(rt);
     Ok(())
 }
 

@@ -54,7 +54,7 @@ fn is_free_between<R: Threads + Wait + Clock + Copy + Send + Sync + 'static>(
     let mut transaction = session.begin(rt, alloc, &shared.desk)?;
     let saved = transaction.save(rt, alloc, name);
     let is_free = is_free(rt, alloc, shared);
-    let ended = transaction.commit(rt, alloc);
+    let ended = transaction.commit(rt);
     Ok(is_free? && matches!((saved, ended), (Answer::Saved, Answer::Committed(1))))
 }
 

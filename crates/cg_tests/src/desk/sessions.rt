@@ -110,7 +110,7 @@ fn first_begin_refused(
 ) -> Option<Refusal> {
     match session.begin(rt, alloc, desk) {
         Ok(transaction) => {
-            let _ = transaction.abort(rt, alloc);
+            let _ = transaction.abort(rt);
             None
         }
         Err(refusal) => Some(refusal),

@@ -77,7 +77,7 @@ fn shows_commits_alone<R: Threads + Wait + Sync>(
     let of_a = read(rt, alloc, &mut viewer, "/a", FileName::Controllers)?;
     let mut transaction = second.begin(rt, alloc, &desk)?;
     let is_hidden = hides_what_is_open(rt, alloc, &desk, publisher, &mut viewer, &mut transaction);
-    transaction.abort(rt, alloc);
+    transaction.abort(rt);
     Ok(of_a.is_empty() && is_hidden?)
 }
 
@@ -135,7 +135,7 @@ fn keeps_to_its_desk_beside<R: Threads + Wait + Sync>(
     let mut transaction = second.begin(rt, alloc, &desk)?;
     let asked = ask_all(rt, alloc, &mut transaction, &[&["create", "/c"]], &mut out);
     let keeps = keeps_to_its_desk(rt, alloc, &desk, &mut first, publisher);
-    transaction.abort(rt, alloc);
+    transaction.abort(rt);
     asked?;
     Ok(out.as_slice() == b"done\n".as_slice() && keeps?)
 }
