@@ -62,7 +62,7 @@ pub mod CommittedPlaces
 -- each record is of one script at most, and the trees of the commits go on by its commands
 pub mod CommitsByCommands
 -- a session has one open transaction at most
-mod OneTransactionEach
+pub mod OneTransactionEach
 -- the aborts at the end of a schedule
 pub mod AbortsAtTheEnd
 -- what a step changes, and what it leaves

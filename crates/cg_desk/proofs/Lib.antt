@@ -1,3 +1,4 @@
 mod Counting
+mod LiveStacks
 mod NeverLost
 mod Replied

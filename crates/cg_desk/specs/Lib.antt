@@ -1,4 +1,5 @@
 pub mod Audit
+pub mod LiveStacks
 pub mod Publishing
 pub mod Replies
 pub mod Step

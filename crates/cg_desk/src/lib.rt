@@ -3,6 +3,7 @@
 
 mod auditing;
 mod desk;
+mod laws;
 mod session;
 mod stepping;
 mod transaction;
@@ -15,6 +16,7 @@ pub use cg_name::{Refusal, SaveName, TxnNumber};
 pub use cg_view::{Publisher, Told};
 pub use cg_world::World;
 pub use desk::{CloseFault, Desk};
+pub use laws::calls_tell_stacks;
 pub use session::Session;
 pub use stepping::{step_for, step_for_pair, step_for_without_memory};
 pub use transaction::Transaction;

@@ -37,7 +37,7 @@ module _ (y : System) (o : y.State) (bound : ℕ) where
   -- ---- which transactions are open, by a legal history
 
   -- the next one begins with the next number
-  begun_next : (h : History y) (r : Request y) (u : ℕ) (found : Option ℕ) → reply_at y o bound h found r ≡ Begun u → u ≡ begins h + 1
+  pub begun_next : (h : History y) (r : Request y) (u : ℕ) (found : Option ℕ) → reply_at y o bound h found r ≡ Begun u → u ≡ begins h + 1
   begun_next h r u (Some t) e = absurd (cc (begun_alone y o bound h r u (Some t) e))
   begun_next h Begin u None e = at (is_full bound h) e
     where
@@ -66,7 +66,7 @@ module _ (y : System) (o : y.State) (bound : ℕ) where
   committed_open h Commit k None e = absurd (cc e)
   committed_open h Abort k None e = absurd (cc e)
 
-  begins_more : (a : Answer) (n : ℕ) → n ≤ begins_after a n
+  pub begins_more : (a : Answer) (n : ℕ) → n ≤ begins_after a n
   begins_more (Begun u) n = omega arith
   begins_more _ n = omega arith
 
@@ -92,7 +92,7 @@ module _ (y : System) (o : y.State) (bound : ℕ) where
   open_before (Refused r) s t u ps other e = e
 
   -- an open transaction was begun
-  open_begun : (h : History y) → Legal y o bound h → (u : ℕ) → among u (numbers (opens h)) ≡ true → u ≤ begins h
+  pub open_begun : (h : History y) → Legal y o bound h → (u : ℕ) → among u (numbers (opens h)) ≡ true → u ≤ begins h
   open_begun [] legal u e = absurd (true≢false (sym e))
   open_begun (r ∷ h) (recorded, answered, named, defined, legal) u e =
       at r.answer refl e (open_begun h legal u)
