@@ -23,6 +23,11 @@ Fits requests aborts (Aborted tries) = aborts ≡ true
 Fits requests aborts (Failed line refusal tries) = line ≤ requests + 1
 Fits requests aborts (GaveUp tries) = ⊤
 
+-- of so many tries, one that gave up used all
+abbrev pub UsesAll : ℕ → ScriptEnd → Type 0
+UsesAll tries (GaveUp used) = used ≡ tries
+UsesAll tries _ = ⊤
+
 -- how a script ended, as it is printed
 abbrev pub end_words : ScriptEnd → List ℕ
 end_words (Committed number tries) = codes "committed " ++ decimal number ++ codes " tries " ++ decimal tries
@@ -34,6 +39,7 @@ end_words (GaveUp tries) = codes "gaveup tries " ++ decimal tries
 pub record CanEnd (tries : ℕ) (script : Script) (end : ScriptEnd) : Type 0 where
   pub begun : 1 ≤ tries_of end
   pub bounded : tries_of end ≤ tries
+  pub used : UsesAll tries end
   pub fits : Fits (vec_len script.requests) script.aborts end
 
 pub Fits-prop : (requests : ℕ) (aborts : Bool) (end : ScriptEnd) → IsProp (Fits requests aborts end)
@@ -41,3 +47,9 @@ Fits-prop requests aborts (Committed number tries) = hlevel props
 Fits-prop requests aborts (Aborted tries) = hlevel props
 Fits-prop requests aborts (Failed line refusal tries) = hlevel props
 Fits-prop requests aborts (GaveUp tries) = Unit-prop
+
+pub UsesAll-prop : (tries : ℕ) (end : ScriptEnd) → IsProp (UsesAll tries end)
+UsesAll-prop tries (Committed number used) = Unit-prop
+UsesAll-prop tries (Aborted used) = Unit-prop
+UsesAll-prop tries (Failed line refusal used) = Unit-prop
+UsesAll-prop tries (GaveUp used) = hlevel props
