@@ -9,6 +9,5 @@ mod viewer;
 mod walk;
 mod worlds;
 
-pub use operation::Operation;
 pub use publisher::Publisher;
 pub use viewer::{Told, Viewer};
