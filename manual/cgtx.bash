@@ -3,17 +3,18 @@ _cgtx() {
     local word=${COMP_WORDS[COMP_CWORD]} before=${COMP_WORDS[COMP_CWORD - 1]} options
     COMPREPLY=()
     if [ "$COMP_CWORD" -eq 1 ]; then
-        mapfile -t COMPREPLY < <(compgen -W 'replay show run --help --version' -- "$word")
+        mapfile -t COMPREPLY < <(compgen -W 'replay show tree run --help --version' -- "$word")
         return
     fi
     case ${COMP_WORDS[1]} in
     replay) options='--help' ;;
     show) options='--help' ;;
+    tree) options='--depth --help' ;;
     run) options='--workers --tries --history --watch --help' ;;
     *) return ;;
     esac
     case $before in
-    --workers|--tries|--watch) return ;;
+    --depth|--workers|--tries|--watch) return ;;
     esac
     if [[ $word == -* ]]; then
         mapfile -t COMPREPLY < <(compgen -W "$options" -- "$word")

@@ -18,7 +18,7 @@ page = None
 
 
 def chosen_cases():
-    """Cases of tests/program, each with its kind: the folders of tests/replays, the shows, and the runs of scripts that leave a history,
+    """Cases of tests/program, each with its kind: the folders of tests/replays, the shows, the trees, and the runs of scripts that leave a history,
     each of these by one worker and by four, or by one alone where files are watched."""
     for case in program.cases():
         words = [*program.words_of(case)]
@@ -26,8 +26,8 @@ def chosen_cases():
             continue
         if os.path.isdir(f"{program.HERE}/replays/{case['name']}"):
             yield "replay", case
-        elif words[:1] == ["show"]:
-            yield "show", case
+        elif words[:1] in (["show"], ["tree"]):
+            yield words[0], case
         elif words[:3] == ["run", "--workers", "1"] and "h" in case.get("leaves", {}):
             if "--watch" in words:
                 yield "run with watches", case
