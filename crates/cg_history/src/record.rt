@@ -2,7 +2,7 @@
 ghost use Rattle.std.specs.Prelude.{◌≡◌, IfOk};
 
 use crate::session::SessionId;
-use cg_command::{Command, Outcome};
+use cg_command::Command;
 use cg_name::{Refusal, SaveName, TxnNumber};
 use std::alloc::{AllocError, Global};
 
@@ -66,19 +66,7 @@ pub enum Answer {
 }
 
 impl Answer {
-    ghost use Rattle.cg_command.specs.Applied.{outcome_of};
     ghost use Rattle.cg_history.specs.Meaning.{answer_of};
-    ghost use Rattle.cg_model.specs.History as model;
-
-    /// The answer to a command with this outcome.
-    pub fn of_outcome(outcome: Outcome) -> Answer
-        ensures { answer_of result ≡ model.Gave (outcome_of outcome) }
-    {
-        match outcome {
-            Outcome::Done => Answer::Done,
-            Outcome::Text(text) => Answer::Text(text),
-        }
-    }
 
     /// An equal answer; an error where there is no memory for it.
     pub fn copy(&self, alloc: Global) -> Result<Answer, AllocError>

@@ -1,3 +1,2 @@
 mod Values
 mod Going
-mod Groups

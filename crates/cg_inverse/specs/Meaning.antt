@@ -1,10 +1,9 @@
 -- What the changes of the code mean in the model.
-use Rattle.std.specs.Prelude.{◌≡◌, Option, Some, None}
-use Rattle.cg_name.specs.Path.{Path}
+use Rattle.std.specs.Prelude.{◌≡◌, Some}
 use Rattle.cg_model.specs.Change as model
 use Rattle.cg_model.specs.Change.{change}
 use Rattle.cg_model.specs.Key as keys
-use Rattle.cg_model.specs.Key.{Key, value_at}
+use Rattle.cg_model.specs.Key.{value_at}
 use Rattle.cg_model.specs.Room.{room_for}
 use Rattle.cg_inverse.specs.declared.change.Change.{Change}
 use Rattle.cg_inverse.specs.declared.change.Change.TheVariants as changes
@@ -33,11 +32,6 @@ edit_back (changes.Cpus p b l) = edits.Cpus p b
 edit_back (changes.MaxDescendants p b l) = edits.MaxDescendants p b
 edit_back (changes.MaxDepth p b l) = edits.MaxDepth p b
 edit_back (changes.Online b l) = edits.Online b
-
--- the path of the group that the key is
-abbrev pub group_of : Key → Option Path
-group_of (keys.Group p) = Some p
-group_of _ = None
 
 -- the key holds the value left
 abbrev pub FitsIn : Tree → model.Change → Type 0

@@ -1,7 +1,6 @@
 //! Changes: a key of the tree, what it held before a command, and what the command left there.
-ghost use Rattle.std.specs.Prelude.{◌≡◌, ◌↔◌, IfOk, IsTrue, option_copied};
-ghost use Rattle.cg_inverse.specs.Meaning.{change_of, edit_back, edit_left, group_of, FitsIn, HasRoomIn, MayGoBack};
-ghost use Rattle.cg_model.specs.Room.{is_group_key};
+ghost use Rattle.std.specs.Prelude.{◌≡◌, ◌↔◌, IfOk, IsTrue};
+ghost use Rattle.cg_inverse.specs.Meaning.{change_of, edit_back, edit_left, FitsIn, HasRoomIn, MayGoBack};
 
 use cg_boxed::{BoxedCpus, BoxedSettings};
 use cg_name::Path;
@@ -279,26 +278,6 @@ impl Change {
             Change::Group { path, before, .. } => before.is_none() || tree.has_entry(path),
             Change::Place { before, .. } => tree.has_entry(before),
             _ => true,
-        }
-    }
-
-    /// The path of the group that was made or taken away, if that was the change.
-    pub fn group(&self) -> Option<&Path>
-        ensures { option_copied result ≡ group_of (change_of self.now).key }
-    {
-        match self {
-            Change::Group { path, .. } => Some(path),
-            _ => None,
-        }
-    }
-
-    // Whether the group at the path was made or taken away.
-    pub(crate) fn is_of_group(&self, path: &Path) -> bool
-        ensures { result ≡ is_group_key path.now (change_of self.now).key }
-    {
-        match self.group() {
-            Some(group) => path == group,
-            None => false,
         }
     }
 

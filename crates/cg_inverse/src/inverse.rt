@@ -2,11 +2,10 @@
 ghost use Rattle.std.specs.Prelude.{◌≡◌, ◌↔◌, ◌++◌, ◌∷◌, [], IsTrue, map, IsOk, OnOk, OnErr};
 ghost use Rattle.cg_inverse.specs.Meaning.{change_of};
 ghost use Rattle.cg_model.specs.Change.{undone, Fits};
-ghost use Rattle.cg_model.specs.Room.{changes_group, RoomFor};
+ghost use Rattle.cg_model.specs.Room.{RoomFor};
 ghost use Rattle.cg_tree.specs.Room.{has_entry};
 
 use crate::change::Change;
-use cg_name::Path;
 use cg_tree::Tree;
 use smallvec::SmallVec;
 use std::alloc::{AllocError, Global};
@@ -66,13 +65,6 @@ impl Inverse {
         ensures { map change_of result.now ≡ self.now }
     {
         self.changes.as_slice()
-    }
-
-    /// Whether the command made the group at the path, or took it away: going back may need the entry of that path.
-    pub fn changes_group(&self, path: &Path) -> bool
-        ensures { result ≡ changes_group path.now self.now }
-    {
-        self.changes().iter().any(|change| change.is_of_group(path))
     }
 
     /// Whether the inverse can be undone: each key holds the value left, and there is room for the values before. Takes no

@@ -1,4 +1,3 @@
-pub mod Below
 pub mod Puts
 pub mod Representable
 mod SoundTrees

@@ -1,7 +1,6 @@
 //! Trees in plain ordered maps, and worlds: the sound ones.
 #![tactic(auto)]
 
-mod counting;
 mod plain;
 mod soundness;
 mod world;
