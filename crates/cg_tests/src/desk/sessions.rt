@@ -124,3 +124,21 @@ fn a_desk_keeps_its_history_within_the_limit(rt: HostRuntime) {
     assert!(rt; refused == Ok(Some(Refusal::Full)));
     assert!(rt; out.as_slice() == "done\nrefused 4 full\ncommitted 1\n".as_bytes());
 }
+
+// Why a session of another desk can't begin at one where a transaction is open in the session with its number.
+fn begin_beside_its_number(rt: &impl Wait, alloc: Global) -> Result<Option<Refusal>, Refusal> {
+    let here = open(alloc)?;
+    let there = open(alloc)?;
+    let mut own = here.session(rt, alloc)?;
+    let mut stray = there.session(rt, alloc)?;
+    let transaction = own.begin(rt, alloc, &here)?;
+    let refused = first_begin_refused(rt, alloc, &here, &mut stray);
+    let _ = transaction.abort(rt);
+    Ok(refused)
+}
+
+#[test]
+fn a_number_has_one_open_transaction_at_a_desk(rt: HostRuntime) {
+    let refused = begin_beside_its_number(&rt, rt.alloc());
+    assert!(rt; refused == Ok(Some(Refusal::AlreadyOpen)));
+}
