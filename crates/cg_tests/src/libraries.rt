@@ -1,5 +1,6 @@
 //! The libraries below the machine.
 mod asked;
+mod checks;
 mod commands;
 mod derived;
 mod devices;
