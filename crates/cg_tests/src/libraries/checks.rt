@@ -11,7 +11,10 @@ const ROWS: [Row; 11] = [
         "world 1\ncontrollers cpu\nonline 0-3\ngroup / cpu 0 -\ngroup /a - 0 -\nproc 1 /a\nend\n",
         "world 0",
     ),
-    ("A begin\n# nothing\nA create \"/a b\"\r\n\nA commit", "schedule 0"),
+    (
+        "A begin\n# nothing\nA create \"/a b\"\r\n\nA commit",
+        "schedule 0",
+    ),
     ("create /a\nsave here\nback here\nabort\n", "script 0"),
     ("", "schedule 0"),
     // a bad line hides none that is behind it
