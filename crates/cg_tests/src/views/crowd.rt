@@ -15,7 +15,7 @@ use std::time::{Clock, Duration};
 
 const VIEWERS: u32 = 8;
 
-const TRANSACTIONS: u32 = 1_000;
+const TRANSACTIONS: u32 = 100;
 
 // So often a Viewer looks at each file at most, and so often it is published at most.
 const MOST: u32 = 100_000;
@@ -82,7 +82,7 @@ fn publish_on<R: Wait + Clock>(
             break;
         }
         desk.publish(rt, alloc, publisher)?;
-        thread::sleep(rt, Duration::from_millis(200));
+        thread::sleep(rt, Duration::from_millis(20));
     }
     desk.publish(rt, alloc, publisher)
 }
