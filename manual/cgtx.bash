@@ -11,6 +11,7 @@ _cgtx() {
     show) options='--help' ;;
     tree) options='--depth --help' ;;
     run) options='--workers --tries --history --watch --help' ;;
+    check) options='--as --help' ;;
     *) return ;;
     esac
     case $before in

@@ -64,6 +64,19 @@ Status:
   2  The words aren't right, or there is no world, or a script isn't one
   3  Memory, an input or an output failed, or the results disagree";
 
+const CHECK_MORE: &str = "\
+Examples:
+  cgtx check world schedule script
+  cgtx check --as script - < script
+
+Status:
+  0  No file has a fault
+  2  The words aren't right, or a file has a fault
+  3  Memory, an input or an output failed";
+
+// What a file may be checked as.
+const KINDS: &[&str] = &["world", "schedule", "script"];
+
 /// What the words of a command line ask for.
 #[derive(Debug, Drop)]
 pub enum Asked<'a> {
@@ -85,6 +98,11 @@ pub enum Asked<'a> {
     },
     /// To run these scripts.
     Run(Batch<'a>),
+    /// To check the texts that these words name, as of this kind where one is given: `world`, `schedule` or `script`.
+    Check {
+        kind: Option<&'a str>,
+        files: Vec<&'a str>,
+    },
 }
 
 /// Why the words of a command line ask for nothing.
@@ -146,6 +164,10 @@ pub fn read_command_line<'a, R: Print + Eprint + AllocGlobal>(
                 depth: number(given, "depth", MOST_NAMES),
             }),
             Some(("run", given)) => Ok(Asked::Run(batch_of(rt.alloc(), given)?)),
+            Some(("check", given)) => Ok(Asked::Check {
+                kind: given.get_str("as"),
+                files: Vec::from_slice(rt.alloc(), given.get_strs("FILE").unwrap_or_default())?,
+            }),
             _ => Err(Unasked::Refused),
         },
         Err(error) => Err(answer(rt, &error)),
@@ -201,14 +223,15 @@ fn command<'a>(alloc: Global) -> Result<Command<'a>, AllocError> {
         .bin_name("cgtx")?
         .version(VERSION)
         .about(
-            "Replays schedules and runs scripts of requests against a tree of control groups, and shows its files.",
+            "Replays schedules and runs scripts of requests against a tree of control groups, shows its files, and checks texts.",
         )
         .subcommand_required(true)
         .disable_help_subcommand(true)
         .subcommand(replay(alloc)?)?
         .subcommand(show(alloc)?)?
         .subcommand(tree(alloc)?)?
-        .subcommand(run(alloc)?)
+        .subcommand(run(alloc)?)?
+        .subcommand(check(alloc)?)
 }
 
 fn replay<'a>(alloc: Global) -> Result<Command<'a>, AllocError> {
@@ -277,6 +300,22 @@ fn run<'a>(alloc: Global) -> Result<Command<'a>, AllocError> {
         )?
         .arg(word(alloc, "WORLD", WORLD_HELP))?
         .arg(word(alloc, "SCRIPT", "The files of the scripts, at most 4096").num_args(1..))
+}
+
+fn check<'a>(alloc: Global) -> Result<Command<'a>, AllocError> {
+    Command::new(alloc, "check")
+        .about(
+            "Tells what is wrong with worlds, schedules and scripts, where, and what may stand there",
+        )
+        .after_help(CHECK_MORE)
+        .arg(
+            Arg::new(alloc, "as")
+                .long("as")
+                .value_name("KIND")
+                .value_parser(KINDS)
+                .help("What each file is read as, whatever its lines tell"),
+        )?
+        .arg(word(alloc, "FILE", "The files, or - for standard input").num_args(1..))
 }
 
 // A word that has to be there.

@@ -2,7 +2,7 @@
 //! lines of a schedule, and writes the answers and the tree that results. With no words both come on standard input.
 //! `cgtx show WORLD PATH FILE` reads a world and writes an interface file of a group; `cgtx tree WORLD` writes its groups, one
 //! below the other. `cgtx run WORLD SCRIPT...` runs scripts, each a transaction, over a world, and writes how they ended and the
-//! world that they left.
+//! world that they left. `cgtx check FILE...` tells what is wrong with worlds, schedules and scripts, and where.
 #![tactic(auto)]
 
 mod host;
@@ -11,6 +11,7 @@ mod progress;
 use crate::host::Host;
 use crate::progress::Progress;
 use cg_batch::{Watch, Words, run_named};
+use cg_checked_files::{Kind, check_named};
 use cg_command_line::{Asked, Batch, Unasked, read_command_line};
 use cg_outline::outline_named;
 use cg_program::{FromWrite, ScriptFault, Status, replay_named, show_named, stop};
@@ -44,6 +45,7 @@ fn run<R: Threads + Wait + Eprint + Sync>(rt: &HostRuntime, workers: &R, words: 
         Ok(Asked::Show { world, path, file }) => show(rt, world, path, file),
         Ok(Asked::Tree { world, depth }) => tree(rt, world, depth),
         Ok(Asked::Run(batch)) => run_batch(rt, workers, &batch),
+        Ok(Asked::Check { kind, files }) => check(rt, kind, files.as_slice()),
         Err(Unasked::Helped) => Status::Done.code(),
         Err(Unasked::Refused) => Status::Refused.code(),
         Err(Unasked::TooManyScripts | Unasked::TooManyWatches) => tell(rt, ScriptFault::Syntax),
@@ -71,6 +73,14 @@ fn tree(rt: &HostRuntime, world: &str, depth: u32) -> u8 {
     let mut out = FromWrite::new(rt.stdout());
     let mut err = FromWrite::new(rt.stderr());
     outline_named(rt.alloc(), &Host(rt), world, depth, &mut out, &mut err)
+}
+
+// Checks the texts that the words name, as of this kind where one is given.
+fn check(rt: &HostRuntime, kind: Option<&str>, files: &[&str]) -> u8 {
+    let mut out = FromWrite::new(rt.stdout());
+    let mut err = FromWrite::new(rt.stderr());
+    let kind = kind.and_then(Kind::read);
+    check_named(rt.alloc(), &Host(rt), kind, files, &mut out, &mut err)
 }
 
 // Runs the scripts that the words name.
