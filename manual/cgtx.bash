@@ -3,7 +3,7 @@ _cgtx() {
     local word=${COMP_WORDS[COMP_CWORD]} before=${COMP_WORDS[COMP_CWORD - 1]} options
     COMPREPLY=()
     if [ "$COMP_CWORD" -eq 1 ]; then
-        mapfile -t COMPREPLY < <(compgen -W 'replay show tree run --help --version' -- "$word")
+        mapfile -t COMPREPLY < <(compgen -W 'replay show tree run check --help --version' -- "$word")
         return
     fi
     case ${COMP_WORDS[1]} in
@@ -15,7 +15,7 @@ _cgtx() {
     *) return ;;
     esac
     case $before in
-    --depth|--workers|--tries|--watch) return ;;
+    --depth|--workers|--tries|--watch|--as) return ;;
     esac
     if [[ $word == -* ]]; then
         mapfile -t COMPREPLY < <(compgen -W "$options" -- "$word")
