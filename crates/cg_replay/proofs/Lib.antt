@@ -1,7 +1,8 @@
+pub mod Answered
 mod Endings
 pub mod HistoryReplays
 mod MachineOutputs
 pub mod OneOutput
 mod OwnHistories
-mod Playing
+pub mod Playing
 mod Reached

@@ -1,5 +1,5 @@
 -- The text of a schedule has one output over a tree and a limit: one at most, and it can't have none.
-use Rattle.std.proofs.Common.{◌≡◌, ℕ, List, [], ◌∷◌, ◌++◌, Option, Some, None, refl, sym, ap, subst, ◌∙◌, inl, inr}
+use Rattle.std.proofs.Common.{◌≡◌, ℕ, List, [], ◌∷◌, ◌++◌, Option, Some, None, refl, sym, ap, ◌∙◌, inl, inr}
 use Rattle.cg_name.specs.Refusal.{refusal_text}
 use Rattle.cg_name.specs.declared.refusal.Refusal.TheVariants.{Syntax}
 use Rattle.cg_text.specs.Words.{lines_of}
@@ -9,24 +9,14 @@ use Rattle.cg_model.specs.History.{Request}
 use Rattle.cg_script.specs.Request.{SpellsLine, newline}
 use Rattle.cg_replay.specs.Replay.{Replay, answer_line, Answers, AnswersAll, ending_text, opened, OneOutput, SomeOutput}
 use Rattle.cg_script.specs.Turns.{IsOneTooMany, session_number, with_name}
+use Rattle.cg_replay.proofs.Answered.{each_one}
 use Rattle.cg_replay.proofs.Playing.{answers_one}
 
 -- ---- one output at most
 
--- two ways to go on are the same: the same is written, and the same replay is left
-abbrev Same : List ℕ → List ℕ → Replay → Replay → Type 0
-Same a b t u = (a ≡ b) × (t ≡ u)
-
-lines_one : (lines : List (List ℕ)) (s t u : Replay) (a b : List ℕ) → AnswersAll s lines a t → AnswersAll s lines b u → Same a b t u
-lines_one [] s t u a b x y = (x.0 ∙ sym y.0, x.1 ∙ sym y.1)
-lines_one (line ∷ lines) s t u a b x y =
-    let first = answers_one s x.2 y.2 line x.0 y.0 x.3 y.3 in
-    let others = lines_one lines x.2 t u x.1 y.1 x.4 (subst (λ r. AnswersAll r lines y.1 u) (sym first.1) y.4) in
-    (x.5 ∙ ap (λ w. w ++ x.1) first.0 ∙ ap (λ w. y.0 ++ w) others.0 ∙ sym y.5, others.1)
-
 pub one_output : OneOutput
 one_output T limit text a b x y =
-    let same = lines_one (lines_of text) (opened T limit) x.last y.last x.answers y.answers x.answered y.answered in
+    let same = each_one Answers answers_one (lines_of text) (opened T limit) x.last y.last x.answers y.answers x.answered y.answered in
     x.whole ∙ ap (λ w. w ++ ending_text x.last.core) same.0 ∙ ap (λ (r : Replay). y.answers ++ ending_text r.core) same.1 ∙ sym y.whole
 
 -- ---- there can't be none

@@ -1,3 +1,4 @@
+pub mod Answering
 pub mod HistoryReplay
 pub mod MachineOutput
 pub mod Replay

@@ -1,6 +1,5 @@
 -- What a schedule's text is answered, over a world: the whole of what is written.
 use Rattle.std.specs.Prelude.{◌≡◌, ◌⊎◌, ℕ, List, [], ◌∷◌, ◌++◌, map, reverse, Option, Some, None}
-use Rattle.std.specs.Io.KnownBytes.{Appends}
 use Rattle.cg_name.specs.Refusal.{refusal_text}
 use Rattle.cg_name.specs.declared.refusal.Refusal.TheVariants.{Syntax}
 use Rattle.cg_text.specs.Words.{lines_of}
@@ -11,7 +10,7 @@ use Rattle.cg_model.specs.Opens.{opens}
 use Rattle.cg_model.specs.Run.{tree_of}
 use Rattle.cg_core.specs.State.{CoreState, reply, after}
 use Rattle.cg_world_text.specs.World.{world_text}
-use Rattle.cg_lines.specs.Lines.{LosesOfLine}
+use Rattle.cg_replay.specs.Answering.{EachAnswers, PassedAnswers}
 use Rattle.cg_script.specs.Answer.{answer_text}
 use Rattle.cg_script.specs.Request.{SpellsLine, newline}
 use Rattle.cg_script.specs.Turns.{IsOneTooMany, session_number, with_name}
@@ -52,21 +51,11 @@ Answers s line out t = Skips s line out t ⊎ (Asks s line out t ⊎ Fails s lin
 
 -- the lines are answered one after another
 abbrev pub AnswersAll : Replay → List (List ℕ) → List ℕ → Replay → Type 0
-AnswersAll s [] out t = (out ≡ []) × (t ≡ s)
-AnswersAll s (line ∷ lines) out t =
-    (first : List ℕ) × (others : List ℕ) × (u : Replay) × Answers s line first u × AnswersAll u lines others t × (out ≡ first ++ others)
+AnswersAll = EachAnswers Answers
 
--- the first line of a text is answered, and the rest is left
-abbrev pub AnswersFirst : Replay → List ℕ → List ℕ → Replay → Option (List ℕ) → Type 0
-AnswersFirst s text out t None = ⊥
-AnswersFirst s text out t (Some rest) = (line : List ℕ) × (lines_of text ≡ line ∷ lines_of rest) × Answers s line out t
-
--- The lines at the front of a text were answered, and nothing else was written: a reader went past them, and then lost
--- nothing, or some bytes at the front of the line behind them.
+-- the lines at the front of a text were answered, which a reader went past, and nothing else was written
 abbrev pub AnswersPassed : Replay → List ℕ → Option (List ℕ) → Option (List ℕ) → Option (List ℕ) → Type 0
-AnswersPassed s text left old new =
-    (passed : List (List ℕ)) × (behind : List ℕ) × (lines_of text ≡ passed ++ lines_of behind) × LosesOfLine (Some behind) left
-    × (answers : List ℕ) × (t : Replay) × AnswersAll s passed answers t × Appends old new answers
+AnswersPassed = PassedAnswers Answers
 
 -- the sessions that have an open transaction, the least number first: in the history the newest stands first
 abbrev pub ending_sessions : History cgroups → List ℕ

@@ -1,9 +1,11 @@
 //! The replay of a schedule over a world.
 #![tactic(auto)]
 
+mod answering;
 mod player;
 mod schedule;
 
+pub use answering::{Answerer, answer_lines};
 pub use cg_lines::{LineReader, Sink, Source};
 pub use player::{Player, refuse};
 pub use schedule::{

@@ -1,7 +1,11 @@
 //! A schedule being played: its sessions' names and the machine.
-ghost use Rattle.std.specs.Prelude.{◌≡◌, ◌≤◌, ◌<◌, ◌++◌, List, ℕ, MatchOption, IfOk, IfErr, OnOk, OnErr, length, take, true, false};
+ghost use Rattle.std.specs.Prelude.{◌≡◌, ◌⊎◌, ◌≤◌, ◌<◌, ◌++◌, List, ℕ, MatchOption, IfOk, IfErr, OnOk, OnErr, length, take, true, false};
 ghost use Rattle.cg_name.specs.declared.refusal.Refusal.TheVariants.{Syntax};
 ghost use Rattle.std.specs.Option.{option_map};
+ghost use Rattle.std.specs.Result.{IsErrOf};
+ghost use Rattle.std.specs.Io.KnownBytes.{Appends};
+ghost use Rattle.cg_lines.specs.Device.{AppendsFront, Failed};
+ghost use Rattle.cg_script.specs.declared.fault.ScriptFault.TheVariants as faults;
 ghost use Rattle.cg_name.specs.Refusal.{refusal_text};
 ghost use Rattle.cg_history.specs.Meaning.{answer_of, request_of};
 ghost use Rattle.cg_model.specs.Opens.{opens};
@@ -11,9 +15,11 @@ ghost use Rattle.cg_replay.specs.Replay.{Answers, Asked, ending_text, opened, tr
 ghost use Rattle.cg_script.specs.Request.{newline};
 ghost use Rattle.cg_script.specs.Turns.{session_number, with_name};
 
+use crate::answering::Answerer;
 use cg_core::{Answer, Core, Request, SessionId};
+use cg_lines::{Sink, write_all};
 use cg_name::{Refusal, or_truncate};
-use cg_script::{SessionName, read_line, write_answer};
+use cg_script::{ScriptFault, SessionName, read_line, write_answer};
 use cg_world::World;
 use cg_world_text::WriteWorld;
 use indexmap::IndexSet;
@@ -81,6 +87,30 @@ impl Player {
             Err(Refusal::Syntax) => refuse(out),
             Err(_) => Err(AllocError),
         }
+    }
+
+    /// The machine that answers.
+    pub fn core(&self) -> &Core
+        ensures { result.now ≡ self.now.core }
+    {
+        &self.core
+    }
+
+    /// Writes what waits, and then what the end of the schedule is answered.
+    pub fn write_end<K: Sink>(
+        &mut self,
+        alloc: Global,
+        waiting: &mut Vec<u8>,
+        sink: &mut K,
+    ) -> Result<(), ScriptFault>
+        ensures whole { OnOk result (Appends (K.taken sink.old) (K.taken sink.new) (waiting.old.items ++ ending_text self.old.core)) }
+        ensures front { OnErr result (AppendsFront (K.taken sink.old) (K.taken sink.new) (waiting.old.items ++ ending_text self.old.core)) }
+        ensures writes { IsErrOf result faults.WriteFault → Failed (K.failed sink.old) (K.failed sink.new) }
+        ensures faults { IfErr result (λ e. (e ≡ faults.WriteFault) ⊎ (e ≡ faults.Memory)) }
+    {
+        let ended = self.end(alloc, waiting);
+        write_all(sink, waiting.as_slice())?;
+        Ok(ended?)
     }
 
     /// Answers the end of the schedule, at the end of `out`: aborts what is open, the least number first, and shows the tree. `Memory`
@@ -154,6 +184,23 @@ impl Player {
             return Err(AllocError);
         }
         end_line(&answer, out)
+    }
+}
+
+impl Answerer for Player {
+    ghost answers = { Answers };
+
+    fn answer_line(
+        &mut self,
+        alloc: Global,
+        line: &[u8],
+        out: &mut Vec<u8>,
+    ) -> Result<(), AllocError> {
+        self.answer(alloc, line, out)
+    }
+
+    fn answer_long_line(&mut self, out: &mut Vec<u8>) -> Result<(), AllocError> {
+        refuse(out)
     }
 }
 

@@ -1,12 +1,12 @@
 use Rattle.std.proofs.Common.{◌≡◌}
 use Rattle.cg_lines.specs.Lines.{pending, bytes_to_come}
-use Rattle.cg_replay.proofs.Playing.{PlaysKnown}
-use Rattle.cg_replay.proofs.schedule.play.Given as goal
+use Rattle.cg_replay.proofs.Answered.{AreAnswered}
+use Rattle.cg_replay.proofs.answering.answer_lines.Given as goal
 
 abbrev pub invariant-lines : goal.invariant-lines
 invariant-lines g l = record {
   failed : g.K.Sink.failed l.sink ≡ g.K.Sink.failed l.fn.sink;
-  plays : PlaysKnown l.fn.player (pending l.fn.reader) (g.K.Sink.taken l.fn.sink) (g.K.Sink.taken l.sink) l.out.items l.player (pending l.reader);
+  answered : AreAnswered g.A.Answerer.answers l.fn.answerer (pending l.fn.reader) (g.K.Sink.taken l.fn.sink) (g.K.Sink.taken l.sink) l.out.items l.answerer (pending l.reader);
 }
 
 abbrev pub decreases-lines : goal.decreases-lines
