@@ -12,7 +12,7 @@ pub use cg_lines::{FromRead, FromWrite};
 pub use cg_script::ScriptFault;
 pub use fault::tell_as;
 pub use inputs::{Inputs, OpenFault};
-pub use named::{is_standard, open_reader, replay_named, show_named};
+pub use named::{is_standard, open_reader, readers, replay_named, show_named};
 pub use replaying::{replay_to, stop};
 pub use showing::show_to;
 pub use status::Status;

@@ -103,8 +103,9 @@ pub fn open_reader<P: Inputs>(
     Ok(LineReader::new(alloc, source)?)
 }
 
-// The readers of the world and of the schedule, which has none of its own where it stands behind the world.
-fn readers<P: Inputs>(
+/// The readers of the world and of the schedule that two words name; the schedule has none of its own where both are standard
+/// input, and it stands behind the world. The world is opened before the schedule. Faults are as of `open_reader`.
+pub fn readers<P: Inputs>(
     alloc: Global,
     inputs: &P,
     world: &str,
