@@ -1,0 +1,89 @@
+-- What a schedule's text is answered, over a world, with comments beside the answers.
+use Rattle.std.specs.Prelude.{◌≡◌, ℕ, ◌&&◌, ◌||◌, ◌==◌, Bool, true, false, cond, nat_le, List, [], ◌∷◌, ◌++◌, length, take, codes}
+use Rattle.std.specs.List.{flat_map}
+use Rattle.std.specs.Fmt.{decimal}
+use Rattle.std.specs.Str.{bytes_eq}
+use Rattle.cg_text.specs.Words.{lines_of}
+use Rattle.cg_model.specs.Tree.{Tree}
+use Rattle.cg_lines.specs.Device.{more}
+use Rattle.cg_script.specs.Request.{newline}
+use Rattle.cg_replay.specs.Answering.{EachAnswers}
+use Rattle.cg_replay.specs.Replay.{Replay, Answers, IsOutput, ending_text, opened}
+use Rattle.cg_explain.specs.declared.explainer.Comments.{Comments}
+use Rattle.cg_explain.specs.declared.explainer.Explainer.{Explainer}
+
+-- ---- comments
+
+-- a comment: a line behind a number sign and a space
+abbrev pub comment : List ℕ → List ℕ
+comment text = codes "# " ++ text ++ newline
+
+-- what is shown of a line: nothing of one that is too long
+abbrev pub shown_line : List ℕ → List ℕ
+shown_line line = cond (nat_le (length line) 65536) line []
+
+-- there is an answer: a line that says nothing has none
+abbrev pub is_some_text : List ℕ → Bool
+is_some_text [] = false
+is_some_text (b ∷ bytes) = true
+
+-- before the answer to a line stands the line with its number, where that is wanted
+abbrev pub echo_text : Bool → ℕ → List ℕ → List ℕ → List ℕ
+echo_text is_wanted n line answer = cond (is_wanted && is_some_text answer) (comment (decimal n ++ 32 ∷ line)) []
+
+-- the answer refuses
+abbrev pub is_refusal : List ℕ → Bool
+is_refusal answer = bytes_eq (take 7 answer) (codes "refused")
+
+-- ---- one line
+
+-- the state behind a line that was answered so, where the schedule stands thus then
+abbrev pub behind_answer : Explainer → Replay → List ℕ → Explainer
+behind_answer s p answer = record { player = p; comments = s.comments; lines = more s.lines; is_refused = s.is_refused || is_refusal answer }
+
+-- what is written for a line that was answered so, in the state behind it
+abbrev pub told_text : Explainer → List ℕ → List ℕ → List ℕ
+told_text t line answer = echo_text t.comments.echo t.lines line answer ++ answer
+
+-- a line is answered as it always is, with comments beside that
+abbrev pub Explains : Explainer → List ℕ → List ℕ → Explainer → Type 0
+Explains s line out t =
+    (answer : List ℕ) × (p : Replay) × Answers s.player line answer p × (t ≡ behind_answer s p answer) × (out ≡ told_text t (shown_line line) answer)
+
+-- ---- a whole text
+
+abbrev pub opened_with : Comments → Tree → ℕ → Explainer
+opened_with comments T l = record { player = opened T l; comments = comments; lines = 0; is_refused = false }
+
+-- what is written for a schedule's text from here on, and whether a request was refused
+pub record IsExplainedFrom (s : Explainer) (text : List ℕ) (is_refused : Bool) (out : List ℕ) : Type 0 where
+  pub told : List ℕ
+  pub last : Explainer
+  pub answered : EachAnswers Explains s (lines_of text) told last
+  pub whole : out ≡ told ++ ending_text last.player.core
+  pub refused : is_refused ≡ last.is_refused
+
+-- what is written for a schedule's text, over a world and a limit of the history
+abbrev pub IsExplained : Comments → Tree → ℕ → List ℕ → Bool → List ℕ → Type 0
+IsExplained comments T l text is_refused out = IsExplainedFrom (opened_with comments T l) text is_refused out
+
+-- ---- without the comments
+
+-- a line is a comment: it begins with a number sign
+abbrev pub is_comment : List ℕ → Bool
+is_comment [] = false
+is_comment (b ∷ bytes) = b == 35
+
+-- a line with its newline, or nothing of a comment
+abbrev pub uncommented : List ℕ → List ℕ
+uncommented line = cond (is_comment line) [] (line ++ newline)
+
+-- a text without its comments
+abbrev pub without_comments : List ℕ → List ℕ
+without_comments text = flat_map uncommented (lines_of text)
+
+-- The law of comments: where they are left out before the last tree, the plain output of the schedule is left.
+abbrev pub CommentsStandAside : Type 0
+CommentsStandAside =
+    (comments : Comments) (T : Tree) (limit : ℕ) (text : List ℕ) (is_refused : Bool) (out : List ℕ) → IsExplained comments T limit text is_refused out
+    → (told : List ℕ) × (ending : List ℕ) × (out ≡ told ++ ending) × IsOutput T limit text (without_comments told ++ ending)
