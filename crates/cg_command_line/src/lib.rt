@@ -2,6 +2,7 @@
 #![tactic(auto)]
 
 mod batches;
+mod replays;
 
 ghost use Rattle.std.specs.Prelude.{◌≡◌, ◌≤◌, codes, length};
 ghost use Rattle.std.specs.Result.{IsOkAnd};
@@ -10,6 +11,7 @@ ghost use Rattle.cg_command_line.specs.Asked.{AsksForReplay};
 pub use batches::{Batch, MOST_SCRIPTS, MOST_TRIES, MOST_WATCHES, MOST_WORKERS};
 use clap::error::ErrorKind;
 use clap::{Arg, ArgAction, ArgMatches, Command, Error, value_parser};
+pub use replays::Explained;
 use std::alloc::{AllocError, Global};
 
 // The version of the program.
@@ -28,9 +30,11 @@ const REPLAY_MORE: &str = "\
 Examples:
   cgtx replay world schedule
   cat world schedule | cgtx replay - -
+  cgtx replay --echo --strict world schedule
 
 Status:
   0  The schedule was played, whatever single requests were answered
+  1  The same with --strict, and a request was refused
   2  The words aren't right, or there is no world
   3  Memory, an input or an output failed";
 
@@ -85,6 +89,8 @@ pub enum Asked<'a> {
         world: &'a str,
         schedule: &'a str,
     },
+    /// To replay a schedule with comments, or so that a refused request tells in the status.
+    Explain(Explained<'a>),
     /// To show this file of the group at this path, in the world that the first word names.
     Show {
         world: &'a str,
@@ -150,10 +156,7 @@ pub fn read_command_line<'a, R: Print + Eprint + AllocGlobal>(
     }
     match command(rt.alloc())?.try_get_matches_from(words) {
         Ok(matches) => match matches.subcommand() {
-            Some(("replay", given)) => Ok(Asked::Replay {
-                world: given.get_str("WORLD").unwrap_or(STANDARD_INPUT),
-                schedule: given.get_str("SCHEDULE").unwrap_or(STANDARD_INPUT),
-            }),
+            Some(("replay", given)) => Ok(replay_of(given)),
             Some(("show", given)) => Ok(Asked::Show {
                 world: given.get_str("WORLD").unwrap_or(STANDARD_INPUT),
                 path: given.get_str("PATH").unwrap_or_default(),
@@ -171,6 +174,24 @@ pub fn read_command_line<'a, R: Print + Eprint + AllocGlobal>(
             _ => Err(Unasked::Refused),
         },
         Err(error) => Err(answer(rt, &error)),
+    }
+}
+
+// What the words behind `replay` ask for.
+fn replay_of<'a>(given: &ArgMatches<'a>) -> Asked<'a> {
+    let world = given.get_str("WORLD").unwrap_or(STANDARD_INPUT);
+    let schedule = given.get_str("SCHEDULE").unwrap_or(STANDARD_INPUT);
+    let echo = given.get_flag("echo");
+    let strict = given.get_flag("strict");
+    if echo || strict {
+        Asked::Explain(Explained {
+            world,
+            schedule,
+            echo,
+            strict,
+        })
+    } else {
+        Asked::Replay { world, schedule }
     }
 }
 
@@ -238,6 +259,16 @@ fn replay<'a>(alloc: Global) -> Result<Command<'a>, AllocError> {
     Command::new(alloc, "replay")
         .about("Replays a schedule over a world, and writes the answers and the world that results")
         .after_help(REPLAY_MORE)
+        .arg(flag(
+            alloc,
+            "echo",
+            "Writes each line with its number before its answer, behind a number sign",
+        ))?
+        .arg(flag(
+            alloc,
+            "strict",
+            "Ends with status 1 where a request was refused",
+        ))?
         .arg(word(alloc, "WORLD", WORLD_HELP))?
         .arg(word(
             alloc,
@@ -321,6 +352,14 @@ fn check<'a>(alloc: Global) -> Result<Command<'a>, AllocError> {
 // A word that has to be there.
 fn word<'a>(alloc: Global, name: &'a str, help: &'a str) -> Arg<'a> {
     Arg::new(alloc, name).required(true).help(help)
+}
+
+// An option of this name that has no value.
+fn flag<'a>(alloc: Global, name: &'a str, help: &'a str) -> Arg<'a> {
+    Arg::new(alloc, name)
+        .long(name)
+        .action(ArgAction::SetTrue)
+        .help(help)
 }
 
 // An option of this name with a number from 1 to `most`.
