@@ -7,7 +7,7 @@ _cgtx() {
         return
     fi
     case ${COMP_WORDS[1]} in
-    replay) options='--help' ;;
+    replay) options='--echo --strict --help' ;;
     show) options='--help' ;;
     tree) options='--depth --help' ;;
     run) options='--workers --tries --history --watch --help' ;;

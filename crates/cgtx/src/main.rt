@@ -12,7 +12,8 @@ use crate::host::Host;
 use crate::progress::Progress;
 use cg_batch::{Watch, Words, run_named};
 use cg_checked_files::{Kind, check_named};
-use cg_command_line::{Asked, Batch, Unasked, read_command_line};
+use cg_command_line::{Asked, Batch, Explained, Unasked, read_command_line};
+use cg_explain::{Comments, explain_named};
 use cg_outline::outline_named;
 use cg_program::{FromWrite, ScriptFault, Status, replay_named, show_named, stop};
 use std::io::IsTerminal;
@@ -42,6 +43,7 @@ fn words(rt: &HostRuntime) -> io::Result<Vec<String>> {
 fn run<R: Threads + Wait + Eprint + Sync>(rt: &HostRuntime, workers: &R, words: &[String]) -> u8 {
     match read_command_line(rt, words) {
         Ok(Asked::Replay { world, schedule }) => replay(rt, world, schedule),
+        Ok(Asked::Explain(how)) => explain(rt, &how),
         Ok(Asked::Show { world, path, file }) => show(rt, world, path, file),
         Ok(Asked::Tree { world, depth }) => tree(rt, world, depth),
         Ok(Asked::Run(batch)) => run_batch(rt, workers, &batch),
@@ -59,6 +61,23 @@ fn replay(rt: &HostRuntime, world: &str, schedule: &str) -> u8 {
     let mut out = FromWrite::new(rt.stdout());
     let mut err = FromWrite::new(rt.stderr());
     replay_named(rt.alloc(), &Host(rt), world, schedule, &mut out, &mut err)
+}
+
+// Replays as the words ask, with comments.
+fn explain(rt: &HostRuntime, how: &Explained) -> u8 {
+    let mut out = FromWrite::new(rt.stdout());
+    let mut err = FromWrite::new(rt.stderr());
+    let comments = Comments { echo: how.echo };
+    explain_named(
+        rt.alloc(),
+        &Host(rt),
+        how.world,
+        how.schedule,
+        comments,
+        how.strict,
+        &mut out,
+        &mut err,
+    )
 }
 
 // Shows the file that the words name.
