@@ -1,0 +1,9 @@
+//! What changed from one tree to another: a line for each change.
+#![tactic(auto)]
+
+mod comparing;
+pub mod laws;
+mod lines;
+mod words;
+
+pub use comparing::difference;
