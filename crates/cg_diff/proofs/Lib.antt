@@ -1,3 +1,4 @@
 pub mod Merged
 pub mod Nothing
 pub mod Sides
+pub mod TwoWorlds

@@ -1,3 +1,4 @@
 pub mod Difference
+pub mod DifferenceOf
 pub mod Laws
 pub mod Sides

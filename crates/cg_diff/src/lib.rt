@@ -4,6 +4,8 @@
 mod comparing;
 pub mod laws;
 mod lines;
+mod named;
 mod words;
 
 pub use comparing::difference;
+pub use named::{DIFFERENT, diff_named};
