@@ -3,13 +3,14 @@ _cgtx() {
     local word=${COMP_WORDS[COMP_CWORD]} before=${COMP_WORDS[COMP_CWORD - 1]} options
     COMPREPLY=()
     if [ "$COMP_CWORD" -eq 1 ]; then
-        mapfile -t COMPREPLY < <(compgen -W 'replay show tree run check --help --version' -- "$word")
+        mapfile -t COMPREPLY < <(compgen -W 'replay show tree diff run check --help --version' -- "$word")
         return
     fi
     case ${COMP_WORDS[1]} in
     replay) options='--echo --strict --help' ;;
     show) options='--help' ;;
     tree) options='--depth --help' ;;
+    diff) options='--help' ;;
     run) options='--workers --tries --history --watch --help' ;;
     check) options='--as --help' ;;
     *) return ;;

@@ -18,15 +18,18 @@ page = None
 
 
 def chosen_cases():
-    """Cases of tests/program, each with its kind: the folders of tests/replays, the shows, the trees, the checks of tests/checks.toml
-    that are done, and the runs of scripts that leave a history, each of these by one worker and by four, or by one alone where files
-    are watched."""
+    """Cases of tests/program, each with its kind: the folders of tests/replays, the shows, the trees, the differences that are told,
+    the checks of tests/checks.toml that are done, and the runs of scripts that leave a history, each of these by one worker and by
+    four, or by one alone where files are watched."""
     for case in program.cases():
         words = [*program.words_of(case)]
         if len(words) > MOST_WORDS or is_long(case):
             continue
         if words[:1] == ["check"] and case.get("status") != 3 and not case["name"].startswith("check of "):
             yield "check", case
+            continue
+        if words[:1] == ["diff"] and case.get("status", 0) <= 1:
+            yield "diff", case
             continue
         if case.get("status"):
             continue

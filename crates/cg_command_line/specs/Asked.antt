@@ -1,13 +1,9 @@
 -- What the words of a command line ask for.
 use Rattle.std.specs.Prelude.{◌≡◌, ℕ, List}
 use Rattle.cg_command_line.specs.declared.Asked.{Asked}
-use Rattle.cg_command_line.specs.declared.Asked.TheVariants.{Replay, Explain, Show, Tree, Run, Check}
+use Rattle.cg_command_line.specs.declared.Asked.TheVariants.{Replay}
 
 -- a replay of what these two words name is asked for
 abbrev pub AsksForReplay : List ℕ → List ℕ → Asked → Type 0
 AsksForReplay world schedule (Replay w s) = (w.now ≡ world) × (s.now ≡ schedule)
-AsksForReplay world schedule (Explain how) = ⊥
-AsksForReplay world schedule (Show w p f) = ⊥
-AsksForReplay world schedule (Tree w d) = ⊥
-AsksForReplay world schedule (Run batch) = ⊥
-AsksForReplay world schedule (Check k f) = ⊥
+AsksForReplay world schedule _ = ⊥

@@ -57,6 +57,17 @@ Status:
   2  The words aren't right, or there is no world
   3  Memory, an input or an output failed";
 
+const DIFF_MORE: &str = "\
+Examples:
+  cgtx diff world-1 world-2
+  cgtx replay world schedule | sed -n '/^world/,$p' | cgtx diff world -
+
+Status:
+  0  The worlds are the same
+  1  They differ, and what changed was printed
+  2  The words aren't right, or one isn't a world
+  3  Memory, an input or an output failed";
+
 const RUN_MORE: &str = "\
 Examples:
   cgtx run world script-1 script-2
@@ -101,6 +112,11 @@ pub enum Asked<'a> {
     Tree {
         world: &'a str,
         depth: u32,
+    },
+    /// To tell what changed from the first world to the second one, which these words name.
+    Diff {
+        before: &'a str,
+        after: &'a str,
     },
     /// To run these scripts.
     Run(Batch<'a>),
@@ -165,6 +181,10 @@ pub fn read_command_line<'a, R: Print + Eprint + AllocGlobal>(
             Some(("tree", given)) => Ok(Asked::Tree {
                 world: given.get_str("WORLD").unwrap_or(STANDARD_INPUT),
                 depth: number(given, "depth", MOST_NAMES),
+            }),
+            Some(("diff", given)) => Ok(Asked::Diff {
+                before: given.get_str("WORLD-1").unwrap_or(STANDARD_INPUT),
+                after: given.get_str("WORLD-2").unwrap_or(STANDARD_INPUT),
             }),
             Some(("run", given)) => Ok(Asked::Run(batch_of(rt.alloc(), given)?)),
             Some(("check", given)) => Ok(Asked::Check {
@@ -251,6 +271,7 @@ fn command<'a>(alloc: Global) -> Result<Command<'a>, AllocError> {
         .subcommand(replay(alloc)?)?
         .subcommand(show(alloc)?)?
         .subcommand(tree(alloc)?)?
+        .subcommand(diff(alloc)?)?
         .subcommand(run(alloc)?)?
         .subcommand(check(alloc)?)
 }
@@ -296,6 +317,22 @@ fn tree<'a>(alloc: Global) -> Result<Command<'a>, AllocError> {
                 .help("How many names a group has at most that is shown, from 1 to 64"),
         )?
         .arg(word(alloc, "WORLD", WORLD_HELP))
+}
+
+fn diff<'a>(alloc: Global) -> Result<Command<'a>, AllocError> {
+    Command::new(alloc, "diff")
+        .about("Tells what changed from one world to another, a line for each change")
+        .after_help(DIFF_MORE)
+        .arg(word(
+            alloc,
+            "WORLD-1",
+            "The file of the first world, or - for standard input",
+        ))?
+        .arg(word(
+            alloc,
+            "WORLD-2",
+            "The file of the second world, or - for standard input, behind the first where that is - too",
+        ))
 }
 
 fn run<'a>(alloc: Global) -> Result<Command<'a>, AllocError> {

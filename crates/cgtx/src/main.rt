@@ -1,8 +1,9 @@
 //! Replays schedules of requests against a tree of control groups: `cgtx replay WORLD SCHEDULE` reads a world and the
 //! lines of a schedule, and writes the answers and the tree that results. With no words both come on standard input.
 //! `cgtx show WORLD PATH FILE` reads a world and writes an interface file of a group; `cgtx tree WORLD` writes its groups, one
-//! below the other. `cgtx run WORLD SCRIPT...` runs scripts, each a transaction, over a world, and writes how they ended and the
-//! world that they left. `cgtx check FILE...` tells what is wrong with worlds, schedules and scripts, and where.
+//! below the other. `cgtx diff WORLD-1 WORLD-2` reads two worlds and writes what changed from the one to the other. `cgtx run
+//! WORLD SCRIPT...` runs scripts, each a transaction, over a world, and writes how they ended and the world that they left.
+//! `cgtx check FILE...` tells what is wrong with worlds, schedules and scripts, and where.
 #![tactic(auto)]
 
 mod host;
@@ -13,6 +14,7 @@ use crate::progress::Progress;
 use cg_batch::{Watch, Words, run_named};
 use cg_checked_files::{Kind, check_named};
 use cg_command_line::{Asked, Batch, Explained, Unasked, read_command_line};
+use cg_diff::diff_named;
 use cg_explain::{Comments, explain_named};
 use cg_outline::outline_named;
 use cg_program::{FromWrite, ScriptFault, Status, replay_named, show_named, stop};
@@ -46,6 +48,7 @@ fn run<R: Threads + Wait + Eprint + Sync>(rt: &HostRuntime, workers: &R, words: 
         Ok(Asked::Explain(how)) => explain(rt, &how),
         Ok(Asked::Show { world, path, file }) => show(rt, world, path, file),
         Ok(Asked::Tree { world, depth }) => tree(rt, world, depth),
+        Ok(Asked::Diff { before, after }) => diff(rt, before, after),
         Ok(Asked::Run(batch)) => run_batch(rt, workers, &batch),
         Ok(Asked::Check { kind, files }) => check(rt, kind, files.as_slice()),
         Err(Unasked::Helped) => Status::Done.code(),
@@ -92,6 +95,13 @@ fn tree(rt: &HostRuntime, world: &str, depth: u32) -> u8 {
     let mut out = FromWrite::new(rt.stdout());
     let mut err = FromWrite::new(rt.stderr());
     outline_named(rt.alloc(), &Host(rt), world, depth, &mut out, &mut err)
+}
+
+// Tells what changed from the one world to the other, which the words name.
+fn diff(rt: &HostRuntime, before: &str, after: &str) -> u8 {
+    let mut out = FromWrite::new(rt.stdout());
+    let mut err = FromWrite::new(rt.stderr());
+    diff_named(rt.alloc(), &Host(rt), before, after, &mut out, &mut err)
 }
 
 // Checks the texts that the words name, as of this kind where one is given.
