@@ -2,6 +2,7 @@
 #![tactic(auto)]
 
 mod batches;
+mod imports;
 mod replays;
 
 ghost use Rattle.std.specs.Prelude.{◌≡◌, ◌≤◌, codes, length};
@@ -11,6 +12,7 @@ ghost use Rattle.cg_command_line.specs.Asked.{AsksForReplay};
 pub use batches::{Batch, MOST_SCRIPTS, MOST_TRIES, MOST_WATCHES, MOST_WORKERS};
 use clap::error::ErrorKind;
 use clap::{Arg, ArgAction, ArgMatches, Command, Error, value_parser};
+pub use imports::Import;
 pub use replays::Explained;
 use std::alloc::{AllocError, Global};
 
@@ -89,6 +91,19 @@ Status:
   2  The words aren't right, or a file has a fault
   3  Memory, an input or an output failed";
 
+const IMPORT_MORE: &str = "\
+Examples:
+  cgtx import > world
+  cgtx import --online 0-7 /sys/fs/cgroup | cgtx tree -
+
+Status:
+  0  The world was printed
+  2  The words aren't right, or a world can't say it all and --strict was asked for
+  3  Memory or an output failed, or the folder isn't that of a root";
+
+// Where control groups are mounted.
+const MOUNTED: &str = "/sys/fs/cgroup";
+
 // What a file may be checked as.
 const KINDS: &[&str] = &["world", "schedule", "script"];
 
@@ -125,6 +140,8 @@ pub enum Asked<'a> {
         kind: Option<&'a str>,
         files: Vec<&'a str>,
     },
+    /// To print the world of a mounted tree.
+    Import(Import<'a>),
 }
 
 /// Why the words of a command line ask for nothing.
@@ -191,6 +208,11 @@ pub fn read_command_line<'a, R: Print + Eprint + AllocGlobal>(
                 kind: given.get_str("as"),
                 files: Vec::from_slice(rt.alloc(), given.get_strs("FILE").unwrap_or_default())?,
             }),
+            Some(("import", given)) => Ok(Asked::Import(Import {
+                root: given.get_str("ROOT").unwrap_or(MOUNTED),
+                online: given.get_str("online"),
+                is_strict: given.get_flag("strict"),
+            })),
             _ => Err(Unasked::Refused),
         },
         Err(error) => Err(answer(rt, &error)),
@@ -273,7 +295,8 @@ fn command<'a>(alloc: Global) -> Result<Command<'a>, AllocError> {
         .subcommand(tree(alloc)?)?
         .subcommand(diff(alloc)?)?
         .subcommand(run(alloc)?)?
-        .subcommand(check(alloc)?)
+        .subcommand(check(alloc)?)?
+        .subcommand(import(alloc)?)
 }
 
 fn replay<'a>(alloc: Global) -> Result<Command<'a>, AllocError> {
@@ -384,6 +407,33 @@ fn check<'a>(alloc: Global) -> Result<Command<'a>, AllocError> {
                 .help("What each file is read as, whatever its lines tell"),
         )?
         .arg(word(alloc, "FILE", "The files, or - for standard input").num_args(1..))
+}
+
+fn import<'a>(alloc: Global) -> Result<Command<'a>, AllocError> {
+    Command::new(alloc, "import")
+        .about(
+            "Prints the world of a mounted tree of control groups, or of a folder that looks like one; it only reads",
+        )
+        .after_help(IMPORT_MORE)
+        .arg(
+            Arg::new(alloc, "online")
+                .long("online")
+                .value_name("LIST")
+                .help(
+                    "The CPUs that are online, instead of those that the root's folder or this computer tells",
+                ),
+        )?
+        .arg(
+            Arg::new(alloc, "strict")
+                .long("strict")
+                .action(ArgAction::SetTrue)
+                .help("Prints nothing where a world can't say it all"),
+        )?
+        .arg(
+            Arg::new(alloc, "ROOT")
+                .default_value(MOUNTED)
+                .help("The folder of the root"),
+        )
 }
 
 // A word that has to be there.

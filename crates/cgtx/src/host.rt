@@ -2,9 +2,11 @@
 ghost use Rattle.std.specs.Prelude.{None, false};
 
 use cg_batch::{CreateFault, Outputs};
+use cg_import::{Folders, Listed};
 use cg_new_file::{NewFile, is_at};
 use cg_program::{FromRead, Inputs, OpenFault};
-use std::fs::File;
+use std::alloc::Global;
+use std::fs::{DirEntry, File};
 use std::io::Read;
 use std::rt::Stdin;
 use std::{fs, io};
@@ -45,9 +47,48 @@ impl Inputs for Host<'_> {
     fn open_file(&self, name: &str) -> Result<FromRead<Input>, OpenFault> {
         match File::open(self.0, name) {
             Ok(file) => Ok(FromRead::new(Input::Opened(file))),
-            Err(fault) if fault.kind() == io::ErrorKind::OutOfMemory => Err(OpenFault::Memory),
-            Err(_) => Err(OpenFault::Unreadable),
+            Err(fault) => Err(open_fault(fault)),
         }
+    }
+}
+
+impl Folders for Host<'_> {
+    fn folders(&self, alloc: Global, name: &str) -> Result<Listed, OpenFault> {
+        let mut listed = Listed {
+            names: Vec::new(alloc),
+            has_others: false,
+        };
+        for entry in fs::read_dir(self.0, name).map_err(open_fault)? {
+            match entry {
+                Ok(entry) => list(alloc, &entry, &mut listed)?,
+                Err(fault) if fault.kind() == io::ErrorKind::InvalidFilename => {
+                    listed.has_others = true;
+                }
+                Err(fault) => return Err(open_fault(fault)),
+            }
+        }
+        Ok(listed)
+    }
+}
+
+// Lists what is a folder.
+fn list(
+    alloc: Global,
+    entry: &DirEntry<HostRuntime>,
+    listed: &mut Listed,
+) -> Result<(), OpenFault> {
+    if !entry.file_type().map_err(open_fault)?.is_dir() {
+        return Ok(());
+    }
+    let name = String::from_str(alloc, entry.file_name()).map_err(|_| OpenFault::Memory)?;
+    listed.names.push(name).map_err(|_| OpenFault::Memory)
+}
+
+// Why a file or a folder was not opened, of a fault of this computer.
+fn open_fault(fault: io::Error) -> OpenFault {
+    match fault.kind() {
+        io::ErrorKind::OutOfMemory => OpenFault::Memory,
+        _ => OpenFault::Unreadable,
     }
 }
 

@@ -3,7 +3,8 @@
 //! `cgtx show WORLD PATH FILE` reads a world and writes an interface file of a group; `cgtx tree WORLD` writes its groups, one
 //! below the other. `cgtx diff WORLD-1 WORLD-2` reads two worlds and writes what changed from the one to the other. `cgtx run
 //! WORLD SCRIPT...` runs scripts, each a transaction, over a world, and writes how they ended and the world that they left.
-//! `cgtx check FILE...` tells what is wrong with worlds, schedules and scripts, and where.
+//! `cgtx check FILE...` tells what is wrong with worlds, schedules and scripts, and where. `cgtx import` writes the world of a
+//! mounted tree.
 #![tactic(auto)]
 
 mod host;
@@ -13,9 +14,10 @@ use crate::host::Host;
 use crate::progress::Progress;
 use cg_batch::{Watch, Words, run_named};
 use cg_checked_files::{Kind, check_named};
-use cg_command_line::{Asked, Batch, Explained, Unasked, read_command_line};
+use cg_command_line::{Asked, Batch, Explained, Import, Unasked, read_command_line};
 use cg_diff::diff_named;
 use cg_explain::{Comments, explain_named};
+use cg_import::import_named;
 use cg_outline::outline_named;
 use cg_program::{FromWrite, ScriptFault, Status, replay_named, show_named, stop};
 use std::io::IsTerminal;
@@ -51,6 +53,7 @@ fn run<R: Threads + Wait + Eprint + Sync>(rt: &HostRuntime, workers: &R, words: 
         Ok(Asked::Diff { before, after }) => diff(rt, before, after),
         Ok(Asked::Run(batch)) => run_batch(rt, workers, &batch),
         Ok(Asked::Check { kind, files }) => check(rt, kind, files.as_slice()),
+        Ok(Asked::Import(asked)) => import(rt, &asked),
         Err(Unasked::Helped) => Status::Done.code(),
         Err(Unasked::Refused) => Status::Refused.code(),
         Err(Unasked::TooManyScripts | Unasked::TooManyWatches) => tell(rt, ScriptFault::Syntax),
@@ -110,6 +113,23 @@ fn check(rt: &HostRuntime, kind: Option<&str>, files: &[&str]) -> u8 {
     let mut err = FromWrite::new(rt.stderr());
     let kind = kind.and_then(Kind::read);
     check_named(rt.alloc(), &Host(rt), kind, files, &mut out, &mut err)
+}
+
+// Prints the world of a mounted tree.
+fn import(rt: &HostRuntime, asked: &Import) -> u8 {
+    let host = Host(rt);
+    let mut out = FromWrite::new(rt.stdout());
+    let mut err = FromWrite::new(rt.stderr());
+    let (root, online) = (asked.root, asked.online);
+    import_named(
+        rt.alloc(),
+        &host,
+        root,
+        online,
+        asked.is_strict,
+        &mut out,
+        &mut err,
+    )
 }
 
 // Runs the scripts that the words name.
