@@ -13,7 +13,7 @@ ghost use Rattle.cg_script.specs.declared.fault.ScriptFault.TheVariants as fault
 
 use crate::comparing::difference;
 use cg_lines::{LineReader, Sink, Source, write_all};
-use cg_program::{Inputs, Status, is_standard, open_reader, stop};
+use cg_program::{Inputs, Status, readers, stop};
 use cg_script::{ScriptFault, read_world};
 use cg_world::World;
 use std::alloc::Global;
@@ -103,28 +103,6 @@ fn difference_of<P: Inputs>(
 {
     let (mut first, mut second) = readers(alloc, inputs, before, after)?;
     difference_in(alloc, &mut first, &mut second)
-}
-
-// The readers of the two worlds; there is no second one where the second world stands behind the first.
-fn readers<P: Inputs>(
-    alloc: Global,
-    inputs: &P,
-    before: &str,
-    after: &str,
-) -> Result<(LineReader<P::Input>, Option<LineReader<P::Input>>), ScriptFault>
-    ensures before { IfOk result (λ readers. pending readers.0 ≡ named (P.standard inputs.now) (P.file inputs.now) before.now) }
-    ensures after { IfOk result (λ readers. MatchOption readers.1 (is_standard before.now && is_standard after.now ≡ true)
-        (λ r. (is_standard before.now && is_standard after.now ≡ false) × (pending r ≡ named (P.standard inputs.now) (P.file inputs.now) after.now))) }
-    ensures no_before { is_standard before.now ≡ false → P.is_missing inputs.now before.now ≡ true → IsErrOf result faults.ReadFault }
-    ensures no_after { is_standard after.now ≡ false → P.is_missing inputs.now after.now ≡ true → IsErrOf result faults.ReadFault ⊎ IsErrOf result faults.Memory }
-    ensures faults { IfErr result (λ e. (e ≡ faults.ReadFault) ⊎ (e ≡ faults.Memory)) }
-{
-    let first = open_reader(alloc, inputs, before)?;
-    if is_standard(before) && is_standard(after) {
-        return Ok((first, None));
-    }
-    let second = open_reader(alloc, inputs, after)?;
-    Ok((first, Some(second)))
 }
 
 // What changed from the world of the one reader to that of the other.

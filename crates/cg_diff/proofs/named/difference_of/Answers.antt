@@ -9,10 +9,10 @@ pub returns-clause-value : goal.returns-clause-value
 returns-clause-value g c =
     IfOk-weaker c.difference_in.result _ _
     (λ text held. done_named (HoldsWith (IsTold text.items)) (g.P.Inputs.standard c.args.inputs.now) (g.P.Inputs.file c.args.inputs.now) c.args.before.now c.args.after.now
-    (pending c.in_ok-first.first) c.in_ok-first.second c.in_ok-first.ensures.before c.in_ok-first.ensures.after held)
+    (pending c.in_ok-first.first) c.in_ok-first.second c.in_ok-first.ensures.world c.in_ok-first.ensures.schedule held)
     c.difference_in.ensures.value
 
 pub returns-clause-syntax : goal.returns-clause-syntax
 returns-clause-syntax g c = λ e.
     none_named (g.P.Inputs.standard c.args.inputs.now) (g.P.Inputs.file c.args.inputs.now) c.args.before.now c.args.after.now
-    (pending c.in_ok-first.first) c.in_ok-first.second c.in_ok-first.ensures.before c.in_ok-first.ensures.after (c.difference_in.ensures.syntax e)
+    (pending c.in_ok-first.first) c.in_ok-first.second c.in_ok-first.ensures.world c.in_ok-first.ensures.schedule (c.difference_in.ensures.syntax e)
