@@ -32,7 +32,7 @@ const REPLAY_MORE: &str = "\
 Examples:
   cgtx replay world schedule
   cat world schedule | cgtx replay - -
-  cgtx replay --echo --strict world schedule
+  cgtx replay --echo --explain --strict world schedule
 
 Status:
   0  The schedule was played, whatever single requests were answered
@@ -224,12 +224,14 @@ fn replay_of<'a>(given: &ArgMatches<'a>) -> Asked<'a> {
     let world = given.get_str("WORLD").unwrap_or(STANDARD_INPUT);
     let schedule = given.get_str("SCHEDULE").unwrap_or(STANDARD_INPUT);
     let echo = given.get_flag("echo");
+    let explain = given.get_flag("explain");
     let strict = given.get_flag("strict");
-    if echo || strict {
+    if echo || explain || strict {
         Asked::Explain(Explained {
             world,
             schedule,
             echo,
+            explain,
             strict,
         })
     } else {
@@ -307,6 +309,11 @@ fn replay<'a>(alloc: Global) -> Result<Command<'a>, AllocError> {
             alloc,
             "echo",
             "Writes each line with its number before its answer, behind a number sign",
+        ))?
+        .arg(flag(
+            alloc,
+            "explain",
+            "Writes what is in the way of a refused command behind its answer, behind a number sign",
         ))?
         .arg(flag(
             alloc,

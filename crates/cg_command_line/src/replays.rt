@@ -9,6 +9,8 @@ pub struct Explained<'a> {
     pub schedule: &'a str,
     /// Whether each answer has its line before it.
     pub echo: bool,
+    /// Whether what is in the way of a refused command stands behind its answer.
+    pub explain: bool,
     /// Whether the status is 1 where a request was refused.
     pub strict: bool,
 }

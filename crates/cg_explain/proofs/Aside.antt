@@ -1,22 +1,41 @@
 -- Comments stand aside: without them the plain answers are left.
-use Rattle.std.proofs.Common.{◌≡◌, ℕ, ◌&&◌, Bool, true, false, cond, List, [], ◌∷◌, ◌++◌, nat_le, length, codes, refl, sym, ap, subst, ◌∙◌, inl, inr, append_assoc, append-nil}
+use Rattle.std.proofs.Common.{◌≡◌, ℕ, ◌-◌, ◌&&◌, Bool, true, false, cond, List, [], ◌∷◌, ◌++◌, nat_le, nat_lt, take, filter, length, codes, Some, None, Option, refl, sym, ap, subst, ◌∙◌, inl, inr, append_assoc, append-nil}
 use Rattle.std.specs.List.{AllByRecursion, flat_map}
 use Rattle.std.specs.Fmt.{decimal}
 use Rattle.std.proofs.lemmas.Bool.{cond_both}
+use Rattle.cg_maps.specs.FiniteMap.{entries}
+use Rattle.cg_name.specs.Controller.{controller_word}
+use Rattle.cg_name.specs.Path.{Path, path_word}
 use Rattle.cg_name.specs.Refusal.{refusal_text}
+use Rattle.cg_name.specs.declared.controller.Controller.{Controller}
+use Rattle.cg_name.specs.declared.refusal.Refusal.{Refusal}
+use Rattle.cg_name.specs.declared.refusal.Refusal.TheVariants as refusals
 use Rattle.cg_name.specs.declared.refusal.Refusal.TheVariants.{Syntax}
+use Rattle.cg_text.specs.Controllers.{has, members}
+use Rattle.cg_text.specs.FileText.{names_text}
 use Rattle.cg_text.specs.Words.{lines_of}
+use Rattle.cg_text.specs.declared.limit.Limit.{Limit}
+use Rattle.cg_text.specs.declared.limit.Limit.TheVariants.{Max, UpTo}
+use Rattle.cg_text.specs.declared.settings.Settings.{Settings}
 use Rattle.cg_lines.proofs.LinesLaw.{lines_of-begins}
-use Rattle.cg_core.specs.State.{reply}
-use Rattle.cg_model.specs.History.{Answer, Begun, Gave, Saved, WentBack, Committed, Aborted, Refused}
+use Rattle.cg_core.specs.State.{CoreState, reply}
+use Rattle.cg_model.specs.Cgroups.{cgroups}
+use Rattle.cg_model.specs.Command.{Command, Create, Remove, Migrate, Subtree, Freeze, Cpus, Show, Online, MaxDescendants, MaxDepth}
+use Rattle.cg_model.specs.Derived.{processes}
+use Rattle.cg_model.specs.History.{Answer, Begun, Gave, Saved, WentBack, Committed, Aborted, Refused, Do, History, Request}
 use Rattle.cg_model.specs.System.{Done, Text}
+use Rattle.cg_model.specs.Tree.{Tree, group}
+use Rattle.cg_tree.specs.Ancestors.{ancestors, ancestors_above}
+use Rattle.cg_tree.specs.declared.ancestors.Ancestor.{Ancestor}
 use Rattle.cg_script.specs.Answer.{answer_text}
 use Rattle.cg_script.specs.Request.{newline}
 use Rattle.cg_replay.specs.Answering.{EachAnswers}
-use Rattle.cg_replay.specs.Replay.{Replay, Answers, ending_text, opened}
-use Rattle.cg_explain.specs.Explained.{comment, echo_text, is_comment, is_some_text, shown_line, told_text, uncommented, without_comments, CommentsStandAside, Explains}
+use Rattle.cg_replay.specs.Replay.{Replay, Answers, ending_text, opened, tree_now}
+use Rattle.cg_explain.specs.Comment.{comment}
+use Rattle.cg_explain.specs.Explained.{behind_answer, echo_text, is_comment, is_some_text, newest_notes, notes_text, record_notes, shown_line, told_text, uncommented, without_comments, CommentsStandAside, Explains}
+use Rattle.cg_explain.specs.Notes.{child_said, children_notes, command_notes, computer_note, control_note, deep_note, deep_where, group_notes, is_wanted, lacking_note, lacking_notes, many_note, many_where, missing_note, path_note, processes_note, share, spaced_pid}
 use Rattle.cg_explain.specs.declared.explainer.Explainer.{Explainer}
-use Rattle.cg_explain.proofs.OneLine.{IsOnLine, answer_on_line, both_on_line, lines_on_line, no_newline, number_on_line, refusal_on_line}
+use Rattle.cg_explain.proofs.OneLine.{IsOnLine, answer_on_line, both_on_line, controller_on_line, lines_on_line, names_on_line, no_newline, number_on_line, path_on_line, refusal_on_line}
 
 -- ---- a line of a text
 
@@ -75,6 +94,121 @@ told_left s t p line answer rest h a =
     ∙ echo_left (t.comments.echo && is_some_text answer) (decimal t.lines ++ 32 ∷ shown_line line) (answer ++ rest) shown
     ∙ answer_left s.player p line answer rest a
 
+-- ---- comments behind an answer
+
+-- it stands aside, whatever comes behind it
+abbrev IsAside : List ℕ → Type 0
+IsAside x = (rest : List ℕ) → without_comments (x ++ rest) ≡ without_comments rest
+
+aside_none : IsAside []
+aside_none rest = refl
+
+aside_comment : (text : List ℕ) → IsOnLine text → IsAside (comment text)
+aside_comment text h rest = comment_left text rest h
+
+aside_both : (x y : List ℕ) → IsAside x → IsAside y → IsAside (x ++ y)
+aside_both x y h k rest = ap without_comments (append_assoc x y rest) ∙ h (y ++ rest) ∙ k rest
+
+aside_each : {A : Type 0} (f : A → List ℕ) → ((a : A) → IsAside (f a)) → (xs : List A) → IsAside (flat_map f xs)
+aside_each f h [] = aside_none
+aside_each f h (x ∷ xs) = aside_both (f x) (flat_map f xs) (h x) (aside_each f h xs)
+
+aside_where : (b : Bool) (x : List ℕ) → IsAside x → IsAside (cond b x [])
+aside_where true x h = h
+aside_where false x h = aside_none
+
+aside_unless : (b : Bool) (x : List ℕ) → IsAside x → IsAside (cond b [] x)
+aside_unless true x h = aside_none
+aside_unless false x h = h
+
+note_aside : (p : Path) (said : List ℕ) → IsOnLine said → IsAside (path_note p said)
+note_aside p said h = aside_comment (path_word p ++ said) (both_on_line (path_word p) said (path_on_line p) h)
+
+share_on_line : (n : ℕ) (word : List ℕ) (most : ℕ) → IsOnLine word → IsOnLine (share n word most)
+share_on_line n word most h = both_on_line (decimal n ++ word) (decimal most) (both_on_line (decimal n) word (number_on_line n) h) (number_on_line most)
+
+missing_aside : (p : Path) (n : ℕ) (s : Option Settings) → IsAside (missing_note p n s)
+missing_aside p n None = note_aside (take n p) (codes " is no group") refl
+missing_aside p n (Some s) = aside_none
+
+lacking_aside : (c : Controller) (p : Path) (n : ℕ) (s : Option Settings) → IsAside (lacking_note c p n s)
+lacking_aside c p n None = aside_none
+lacking_aside c p n (Some s) = aside_unless (has s.control c) _ (note_aside (take n p) (codes " passes on no " ++ controller_word c) (controller_on_line c))
+
+many_aside : (p : Path) (n count : ℕ) (l : Limit) → IsAside (many_where p n count l)
+many_aside p n count Max = aside_none
+many_aside p n count (UpTo most) =
+    aside_where (nat_le most.number count) _ (note_aside (take n p) (codes " has " ++ share count (codes " descendants of ") most.number) (share_on_line count (codes " descendants of ") most.number refl))
+
+many_note_aside : (p : Path) (n count : ℕ) (s : Option Settings) → IsAside (many_note p n count s)
+many_note_aside p n count None = aside_none
+many_note_aside p n count (Some s) = many_aside p n count s.max_descendants
+
+deep_aside : (p : Path) (n : ℕ) (l : Limit) → IsAside (deep_where p n l)
+deep_aside p n Max = aside_none
+deep_aside p n (UpTo most) =
+    aside_where (nat_lt most.number (length p - n)) _ (note_aside (take n p) (codes " would have " ++ share (length p - n) (codes " levels of ") most.number) (share_on_line (length p - n) (codes " levels of ") most.number refl))
+
+deep_note_aside : (p : Path) (n : ℕ) (s : Option Settings) → IsAside (deep_note p n s)
+deep_note_aside p n None = aside_none
+deep_note_aside p n (Some s) = deep_aside p n s.max_depth
+
+pids_on_line : (pids : List ℕ) → IsOnLine (flat_map spaced_pid pids)
+pids_on_line [] = refl
+pids_on_line (k ∷ pids) = both_on_line (decimal k) (flat_map spaced_pid pids) (number_on_line k) (pids_on_line pids)
+
+processes_aside : (p : Path) (pids : List ℕ) → IsAside (processes_note p pids)
+processes_aside p pids =
+    let count : IsOnLine (decimal (length pids) ++ codes "):") = both_on_line (decimal (length pids)) (codes "):") (number_on_line (length pids)) refl in
+    note_aside p (codes " has processes (" ++ decimal (length pids) ++ codes "):" ++ flat_map spaced_pid (take 8 pids)) (both_on_line (codes " has processes (" ++ decimal (length pids) ++ codes "):") (flat_map spaced_pid (take 8 pids)) count (pids_on_line (take 8 pids)))
+
+control_aside : (p : Path) (s : Option Settings) → IsAside (control_note p s)
+control_aside p None = aside_none
+control_aside p (Some s) = note_aside p (codes " passes on " ++ names_text 44 s.control) (names_on_line (members s.control))
+
+said_on_line : (wanted : Option Controller) → IsOnLine (child_said wanted)
+said_on_line None = refl
+said_on_line (Some c) = controller_on_line c
+
+children_aside : (T : Tree) (p : Path) (wanted : Option Controller) → IsAside (children_notes T p wanted)
+children_aside T p wanted = aside_each (λ (e : Path × Settings). path_note e.0 (child_said wanted)) (λ e. note_aside e.0 (child_said wanted) (said_on_line wanted)) (take 8 (filter (is_wanted p wanted) (entries T.groups)))
+
+group_aside : (T : Tree) (p : Path) (way : List Ancestor) (r : Refusal) → IsAside (group_notes T p way r)
+group_aside T p way refusals.NoGroup = aside_each (λ (a : Ancestor). missing_note p a.depth a.settings) (λ a. missing_aside p a.depth a.settings) way
+group_aside T p way refusals.HasChildren = children_aside T p None
+group_aside T p way refusals.HasProcesses = processes_aside p (processes T p)
+group_aside T p way refusals.Controlled = control_aside p (group T p)
+group_aside T p way (refusals.Unavailable c) =
+    aside_both (lacking_notes c p (ancestors_above T p)) (computer_note T.controllers c) (aside_each (λ (a : Ancestor). lacking_note c p a.depth a.settings) (λ a. lacking_aside c p a.depth a.settings) (ancestors_above T p))
+    (aside_unless (has T.controllers c) _ (aside_comment (codes "the computer has no " ++ controller_word c) (controller_on_line c)))
+group_aside T p way (refusals.InUse c) = children_aside T p (Some c)
+group_aside T p way refusals.TooMany = aside_each (λ (a : Ancestor). many_note p a.depth a.descendants a.settings) (λ a. many_note_aside p a.depth a.descendants a.settings) (ancestors_above T p)
+group_aside T p way refusals.TooDeep = aside_each (λ (a : Ancestor). deep_note p a.depth a.settings) (λ a. deep_note_aside p a.depth a.settings) (ancestors_above T p)
+group_aside T p way _ = aside_none
+
+command_aside : (T : Tree) (c : Command) (r : Refusal) → IsAside (command_notes T c r)
+command_aside T (Create p) r = group_aside T p (ancestors_above T p) r
+command_aside T (Remove p) r = group_aside T p (ancestors T p) r
+command_aside T (Migrate k p) r = group_aside T p (ancestors T p) r
+command_aside T (Subtree p ops) r = group_aside T p (ancestors T p) r
+command_aside T (Freeze p v) r = group_aside T p (ancestors T p) r
+command_aside T (Cpus p v) r = group_aside T p (ancestors T p) r
+command_aside T (Show p f) r = group_aside T p (ancestors T p) r
+command_aside T (MaxDescendants p l) r = group_aside T p (ancestors T p) r
+command_aside T (MaxDepth p l) r = group_aside T p (ancestors T p) r
+command_aside T (Online v) r = aside_none
+
+record_aside : (T : Tree) (r : Request cgroups) (a : Answer) → IsAside (record_notes T r a)
+record_aside T (Do c) (Refused r) = command_aside T c r
+record_aside T _ _ = aside_none
+
+newest_aside : (T : Tree) (h : History cgroups) → IsAside (newest_notes T h)
+newest_aside T [] = aside_none
+newest_aside T (r ∷ h) = record_aside T r.request r.answer
+
+notes_aside : (is_wanted : Bool) (n : ℕ) (c : CoreState) → IsAside (notes_text is_wanted n c)
+notes_aside is_wanted n c = aside_where (is_wanted && nat_lt n (length c.history)) _ (newest_aside (tree_now c) c.history)
+
 -- ---- all lines
 
 -- the plain answers to lines, which are left of what is told
@@ -102,7 +236,9 @@ leaves_plain (line ∷ lines) s t told on h =
           ap (λ x. without_comments (x ++ rest)) h.5
           ∙ ap without_comments (append_assoc first others rest)
           ∙ ap (λ x. without_comments (x ++ (others ++ rest))) e.4
-          ∙ told_left s u e.1 line e.0 (others ++ rest) on.0 e.2
+          ∙ ap without_comments (append_assoc (told_text u (shown_line line) e.0) (notes_text s.comments.explain (length s.player.core.history) e.1.core) (others ++ rest))
+          ∙ told_left s u e.1 line e.0 (notes_text s.comments.explain (length s.player.core.history) e.1.core ++ (others ++ rest)) on.0 e.2
+          ∙ ap (λ x. e.0 ++ x) (notes_aside s.comments.explain (length s.player.core.history) e.1.core (others ++ rest))
           ∙ ap (λ x. e.0 ++ x) (more.left rest)
           ∙ sym (append_assoc e.0 more.plain (without_comments rest));
     }

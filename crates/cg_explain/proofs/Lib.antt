@@ -2,3 +2,4 @@ mod Aside
 mod OneLine
 mod Played
 mod RunLemmas
+mod Told

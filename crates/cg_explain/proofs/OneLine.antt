@@ -1,16 +1,17 @@
 -- What stands on one line: it has no newline.
-use Rattle.std.proofs.Common.{◌≡◌, ℕ, zero, suc, ◌+◌, ◌/◌, ◌%◌, ◌<◌, ◌==◌, Bool, true, false, not, cond, List, [], ◌∷◌, ◌++◌, get_or, codes, refl, sym, ap, subst, ◌∙◌, inl, inr, arith, true≢false}
-use Rattle.std.specs.List.{AllByRecursion, flat_map, list_all, onto_first, slice_split}
+use Rattle.std.proofs.Common.{◌≡◌, ℕ, zero, suc, ◌+◌, ◌/◌, ◌%◌, ◌<◌, ◌==◌, Bool, true, false, not, cond, map, nat_le, ◌&&◌, List, [], ◌∷◌, ◌++◌, get_or, codes, refl, sym, ap, subst, ◌∙◌, inl, inr, arith, true≢false}
+use Rattle.std.specs.List.{AllByRecursion, flat_map, join_with_byte, list_all, onto_first, slice_split}
 use Rattle.std.specs.Fmt.{digit_glyph, digits, digits_onto, decimal}
 use Rattle.std.proofs.Math.Nat.{mod-lt}
-use Rattle.std.proofs.lemmas.Bool.{cases_Bool, cond_both, eq-eqb, lt-ltb, not-true, ne_eqb}
+use Rattle.std.proofs.lemmas.Bool.{and_parts, cases_Bool, cond_both, eq-eqb, leb-true, lt-ltb, not-true, ne_eqb}
 use Rattle.std.proofs.lemmas.List.Splits.{slice_split-cons_yes, slice_split-cons_no}
 use Rattle.std.proofs.lemmas.List.Sums.{AllPass-from_list_all}
 use Rattle.cg_name.specs.Controller.{controller_word}
 use Rattle.cg_name.specs.declared.controller.Controller.{Controller}
 use Rattle.cg_name.specs.declared.controller.Controller.TheVariants.{Cpuset, Cpu, Io, Memory, Hugetlb, Pids, Rdma, Misc}
 use Rattle.cg_name.specs.Refusal.{number_of, word_of, argument_of, refusal_text}
-use Rattle.cg_name.specs.Word.{is_special, quoted_byte, quoted_text}
+use Rattle.cg_name.specs.Path.{Path, path_text, path_word}
+use Rattle.cg_name.specs.Word.{is_plain_byte, is_special, quoted_byte, quoted_text}
 use Rattle.cg_name.specs.declared.refusal.Refusal.{Refusal}
 use Rattle.cg_name.specs.declared.refusal.Refusal.TheVariants as refusals
 use Rattle.cg_text.specs.Words.{Line, is_newline, lines_of, without_empty_last}
@@ -127,6 +128,26 @@ answer_on_line (WentBack n) = number_on_line n
 answer_on_line (Committed k) = number_on_line k
 answer_on_line (Aborted t) = number_on_line t
 answer_on_line (Refused r) = refusal_on_line r
+
+-- ---- paths and controllers
+
+plain_on_line : (b : ℕ) → is_plain_byte b ≡ true → is_on_line b ≡ true
+plain_on_line b h =
+    let low = leb-true 33 b (and_parts (nat_le 33 b) (nat_le b 126) (and_parts (nat_le 33 b && nat_le b 126) (not (is_special b)) h).0).0 in
+    rw (ne_eqb b 10 (λ e. omega (arith, low, e))) refl
+
+plain_bytes_on_line : (l : List ℕ) → list_all is_plain_byte l ≡ true → IsOnLine l
+plain_bytes_on_line [] h = refl
+plain_bytes_on_line (b ∷ l) h =
+    let s = and_parts (is_plain_byte b) (list_all is_plain_byte l) h in rw (plain_on_line b s.0) (plain_bytes_on_line l s.1)
+
+pub path_on_line : (p : Path) → IsOnLine (path_word p)
+path_on_line p = cond_both (list_all is_plain_byte (path_text p)) (path_text p) (quoted_text (path_text p)) IsOnLine (λ h. plain_bytes_on_line (path_text p) h) (λ _. quoted_on_line (path_text p))
+
+pub names_on_line : (cs : List Controller) → IsOnLine (join_with_byte 44 (map controller_word cs))
+names_on_line [] = refl
+names_on_line (c ∷ []) = controller_on_line c
+names_on_line (c ∷ d ∷ cs) = both_on_line (controller_word c) (44 ∷ join_with_byte 44 (map controller_word (d ∷ cs))) (controller_on_line c) (names_on_line (d ∷ cs))
 
 -- ---- the lines of a text
 

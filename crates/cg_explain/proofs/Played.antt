@@ -1,5 +1,5 @@
 -- A schedule that is played with comments gives its explained output, and nothing else.
-use Rattle.std.proofs.Common.{◌≡◌, ℕ, Bool, List, ◌++◌, Some, None, Option, IfSome, refl, sym, ap, subst, ◌∙◌}
+use Rattle.std.proofs.Common.{◌≡◌, ℕ, Bool, List, ◌++◌, length, Some, None, Option, IfSome, refl, sym, ap, subst, ◌∙◌}
 use Rattle.std.specs.Io.KnownBytes.{Appends, Keeps}
 use Rattle.cg_text.specs.Words.{lines_of}
 use Rattle.cg_lines.specs.Device.{AppendsFront, AppendsTo}
@@ -8,7 +8,7 @@ use Rattle.cg_replay.specs.Answering.{EachAnswers, FrontAnswers}
 use Rattle.cg_replay.specs.Replay.{Replay, Answers, ending_text}
 use Rattle.cg_replay.proofs.Answered.{each_one, front_of_all, IsOneAnswer}
 use Rattle.cg_replay.proofs.Playing.{answers_one}
-use Rattle.cg_explain.specs.Explained.{behind_answer, shown_line, told_text, Explains, IsExplainedFrom}
+use Rattle.cg_explain.specs.Explained.{behind_answer, notes_text, shown_line, told_text, Explains, IsExplainedFrom}
 use Rattle.cg_explain.specs.declared.explainer.Explainer.{Explainer}
 
 -- a line is told once
@@ -16,7 +16,7 @@ pub explains_one : IsOneAnswer Explains
 explains_one s t u line a b x y =
     let same = answers_one s.player x.1 y.1 line x.0 y.0 x.2 y.2 in
     let behind : t ≡ u = x.3 ∙ (λ i. behind_answer s (same.1 i) (same.0 i)) ∙ sym y.3 in
-    (x.4 ∙ (λ i. told_text (behind i) (shown_line line) (same.0 i)) ∙ sym y.4, behind)
+    (x.4 ∙ (λ i. told_text (behind i) (shown_line line) (same.0 i) ++ notes_text s.comments.explain (length s.player.core.history) (same.1 i).core) ∙ sym y.4, behind)
 
 -- what was written is the front of any explained output of the text
 abbrev pub FrontOf : Explainer → Option (List ℕ) → Option (List ℕ) → Option (List ℕ) → Type 0
@@ -58,11 +58,8 @@ front_nothing s (Some text) a = λ is_refused out o. AppendsFront-nil a a out (k
     kept (Some xs) = refl
 
 -- what is told of a line explains it
-pub explains_told : (s u : Explainer) (p : Replay) (line written a b shown told : List ℕ) → Answers s.player line written p → a ≡ written → b ≡ written → u ≡ behind_answer s p a → shown ≡ shown_line line → told ≡ told_text u shown b → Explains s line told u
-explains_told s u p line written a b shown told answers is same behind short e =
-    (written, p, answers, behind ∙ ap (λ x. behind_answer s p x) is, e ∙ (λ i. told_text u (short i) (same i)))
-
--- and so does what was appended
-pub told_line : (s u : Explainer) (p : Replay) (line written a b shown told old new : List ℕ) → Answers s.player line written p → a ≡ written → b ≡ written → u ≡ behind_answer s p a → shown ≡ shown_line line → told ≡ told_text u shown b → new ≡ old ++ told
-    → (out : List ℕ) × (new ≡ old ++ out) × Explains s line out u
-told_line s u p line written a b shown told old new answers is same behind short e grown = (told, grown, explains_told s u p line written a b shown told answers is same behind short e)
+pub explains_told : (s u : Explainer) (p : Replay) (line written a b shown told : List ℕ) (before : ℕ) → Answers s.player line written p → a ≡ written → b ≡ written → u ≡ behind_answer s p a → shown ≡ shown_line line → before ≡ length s.player.core.history
+    → told ≡ told_text u shown b ++ notes_text u.comments.explain before u.player.core → Explains s line told u
+explains_told s u p line written a b shown told before answers is same behind short n e =
+    let state : u ≡ behind_answer s p written = behind ∙ ap (λ x. behind_answer s p x) is in
+    (written, p, answers, state, e ∙ (λ i. told_text u (short i) (same i) ++ notes_text (state i).comments.explain (n i) (state i).player.core))

@@ -1,22 +1,23 @@
 -- What a schedule's text is answered, over a world, with comments beside the answers.
-use Rattle.std.specs.Prelude.{◌≡◌, ℕ, ◌&&◌, ◌||◌, ◌==◌, Bool, true, false, cond, nat_le, List, [], ◌∷◌, ◌++◌, length, take, codes}
+use Rattle.std.specs.Prelude.{◌≡◌, ℕ, ◌&&◌, ◌||◌, ◌==◌, Bool, true, false, cond, nat_le, nat_lt, List, [], ◌∷◌, ◌++◌, length, take, codes}
 use Rattle.std.specs.List.{flat_map}
 use Rattle.std.specs.Fmt.{decimal}
 use Rattle.std.specs.Str.{bytes_eq}
 use Rattle.cg_text.specs.Words.{lines_of}
+use Rattle.cg_core.specs.State.{CoreState}
+use Rattle.cg_model.specs.Cgroups.{cgroups}
+use Rattle.cg_model.specs.History.{Answer, Do, History, Refused, Request}
 use Rattle.cg_model.specs.Tree.{Tree}
 use Rattle.cg_lines.specs.Device.{more}
 use Rattle.cg_script.specs.Request.{newline}
 use Rattle.cg_replay.specs.Answering.{EachAnswers}
-use Rattle.cg_replay.specs.Replay.{Replay, Answers, IsOutput, ending_text, opened}
+use Rattle.cg_replay.specs.Replay.{Replay, Answers, IsOutput, ending_text, opened, tree_now}
+use Rattle.cg_explain.specs.Comment.{comment}
+use Rattle.cg_explain.specs.Notes.{command_notes}
 use Rattle.cg_explain.specs.declared.explainer.Comments.{Comments}
 use Rattle.cg_explain.specs.declared.explainer.Explainer.{Explainer}
 
 -- ---- comments
-
--- a comment: a line behind a number sign and a space
-abbrev pub comment : List ℕ → List ℕ
-comment text = codes "# " ++ text ++ newline
 
 -- what is shown of a line: nothing of one that is too long
 abbrev pub shown_line : List ℕ → List ℕ
@@ -45,10 +46,25 @@ behind_answer s p answer = record { player = p; comments = s.comments; lines = m
 abbrev pub told_text : Explainer → List ℕ → List ℕ → List ℕ
 told_text t line answer = echo_text t.comments.echo t.lines line answer ++ answer
 
+-- what is told of a record: of a command that the tree refuses what is in its way
+abbrev pub record_notes : Tree → Request cgroups → Answer → List ℕ
+record_notes T (Do c) (Refused r) = command_notes T c r
+record_notes T _ _ = []
+
+-- what is told of the newest record
+abbrev pub newest_notes : Tree → History cgroups → List ℕ
+newest_notes T [] = []
+newest_notes T (r ∷ h) = record_notes T r.request r.answer
+
+-- behind an answer stands what is told of its record, where that is wanted and there is one: there were n before
+abbrev pub notes_text : Bool → ℕ → CoreState → List ℕ
+notes_text is_wanted n c = cond (is_wanted && nat_lt n (length c.history)) (newest_notes (tree_now c) c.history) []
+
 -- a line is answered as it always is, with comments beside that
 abbrev pub Explains : Explainer → List ℕ → List ℕ → Explainer → Type 0
 Explains s line out t =
-    (answer : List ℕ) × (p : Replay) × Answers s.player line answer p × (t ≡ behind_answer s p answer) × (out ≡ told_text t (shown_line line) answer)
+    (answer : List ℕ) × (p : Replay) × Answers s.player line answer p × (t ≡ behind_answer s p answer)
+    × (out ≡ told_text t (shown_line line) answer ++ notes_text s.comments.explain (length s.player.core.history) p.core)
 
 -- ---- a whole text
 

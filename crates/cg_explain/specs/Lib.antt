@@ -1,2 +1,4 @@
+pub mod Comment
 pub mod Explained
+pub mod Notes
 pub mod Run

@@ -3,16 +3,18 @@ ghost use Rattle.std.specs.Prelude.{◌≡◌, ◌⊎◌, ◌≤◌, ◌++◌, �
 ghost use Rattle.std.specs.Result.{IsErrOf};
 ghost use Rattle.std.specs.Fmt.{decimal};
 ghost use Rattle.std.specs.Io.KnownBytes.{Appends};
-ghost use Rattle.cg_explain.specs.Explained.{behind_answer, comment, is_refusal, opened_with, shown_line, told_text, Explains};
+ghost use Rattle.cg_explain.specs.Comment.{comment};
+ghost use Rattle.cg_explain.specs.Explained.{behind_answer, is_refusal, notes_text, opened_with, shown_line, told_text, Explains};
 ghost use Rattle.cg_lines.specs.Device.{AppendsFront, Failed};
 ghost use Rattle.cg_replay.specs.Replay.{ending_text};
 ghost use Rattle.cg_script.specs.declared.fault.ScriptFault.TheVariants as faults;
 
+use crate::comment::{append_comment, append_number};
+use crate::notes::append_record_notes;
 use cg_replay::{Answerer, Player, Sink, refuse};
 use cg_script::ScriptFault;
 use cg_text::LONGEST_LINE;
 use cg_world::World;
-use itoa::Buffer;
 use std::alloc::{AllocError, Global};
 
 /// Which comments stand beside the answers.
@@ -20,6 +22,8 @@ use std::alloc::{AllocError, Global};
 pub struct Comments {
     /// Before each answer the line that it is to.
     pub echo: bool,
+    /// Behind each command that the tree refuses what is in its way.
+    pub explain: bool,
 }
 
 /// A schedule being played, and what its comments tell of it.
@@ -107,6 +111,21 @@ impl Explainer {
     }
 }
 
+impl Explainer {
+    // Appends what is told of the record that the last line made, if it made one: there were so many before. After an error, where
+    // there is no memory, nothing is said of `out`.
+    fn append_notes(&self, before: usize, out: &mut Vec<u8>) -> Result<(), AllocError>
+        ensures { OnOk result (out.new.items ≡ out.old.items ++ notes_text self.now.comments.explain before self.now.player.core) }
+    {
+        let core = self.player.core();
+        let records = core.history();
+        if !self.comments.explain || records.len() <= before {
+            return Ok(());
+        }
+        append_record_notes(core.tree(), &records[records.len() - 1], out)
+    }
+}
+
 impl Answerer for Explainer {
     ghost answers = { Explains };
 
@@ -116,20 +135,24 @@ impl Answerer for Explainer {
         line: &[u8],
         out: &mut Vec<u8>,
     ) -> Result<(), AllocError> {
+        let before = self.player.core().history().len();
         let mut answer = Vec::new(alloc);
         self.player.answer(alloc, line, &mut answer)?;
         self.count(answer.as_slice());
-        let told = self.told(alloc, shown_line(line), answer.as_slice())?;
+        let mut told = self.told(alloc, shown_line(line), answer.as_slice())?;
+        self.append_notes(before, &mut told)?;
         out.extend_from_slice(told.as_slice())?;
         Ok(())
     }
 
     fn answer_long_line(&mut self, out: &mut Vec<u8>) -> Result<(), AllocError> {
         let alloc = *out.allocator();
+        let before = self.player.core().history().len();
         let mut answer = Vec::new(alloc);
         refuse(&mut answer)?;
         self.count(answer.as_slice());
-        let told = self.told(alloc, b"", answer.as_slice())?;
+        let mut told = self.told(alloc, b"", answer.as_slice())?;
+        self.append_notes(before, &mut told)?;
         out.extend_from_slice(told.as_slice())?;
         Ok(())
     }
@@ -157,11 +180,9 @@ fn is_refusal(answer: &[u8]) -> bool
 fn append_echo(number: u64, line: &[u8], out: &mut Vec<u8>) -> Result<(), AllocError>
     ensures { OnOk result (out.new.items ≡ out.old.items ++ comment (decimal number ++ 32 ∷ line.now)) }
 {
-    let mut buffer = Buffer::new();
-    out.extend_from_slice(b"# ")?;
-    out.extend_from_slice(buffer.format(number).as_bytes())?;
-    out.push(b' ')?;
-    out.extend_from_slice(line)?;
-    out.push(b'\n')?;
-    Ok(())
+    let mut text = Vec::new(*out.allocator());
+    append_number(number, &mut text)?;
+    text.push(b' ')?;
+    text.extend_from_slice(line)?;
+    append_comment(text.as_slice(), out)
 }

@@ -2,9 +2,13 @@
 //! request that is refused.
 #![tactic(auto)]
 
+mod below;
+mod comment;
 mod explainer;
 mod named;
+mod notes;
 mod playing;
+mod upward;
 
 pub use explainer::Comments;
 pub use named::explain_named;

@@ -73,7 +73,10 @@ fn replay(rt: &HostRuntime, world: &str, schedule: &str) -> u8 {
 fn explain(rt: &HostRuntime, how: &Explained) -> u8 {
     let mut out = FromWrite::new(rt.stdout());
     let mut err = FromWrite::new(rt.stderr());
-    let comments = Comments { echo: how.echo };
+    let comments = Comments {
+        echo: how.echo,
+        explain: how.explain,
+    };
     explain_named(
         rt.alloc(),
         &Host(rt),
