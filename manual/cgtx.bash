@@ -7,7 +7,7 @@ _cgtx() {
         return
     fi
     case ${COMP_WORDS[1]} in
-    replay) options='--echo --strict --help' ;;
+    replay) options='--echo --explain --strict --help' ;;
     show) options='--help' ;;
     tree) options='--depth --help' ;;
     diff) options='--help' ;;
