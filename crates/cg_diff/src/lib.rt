@@ -8,4 +8,4 @@ mod named;
 mod words;
 
 pub use comparing::difference;
-pub use named::{DIFFERENT, diff_named};
+pub use named::{DIFFERENT, diff_named, read_second};

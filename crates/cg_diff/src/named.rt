@@ -120,8 +120,8 @@ fn difference_in<S: Source>(
     Ok(difference(alloc, before.tree(), after.tree())?)
 }
 
-// The second world, behind the first where it has no reader of its own.
-fn read_second<S: Source>(
+/// Reads the second of two worlds, once the first is read: behind it where it has no reader of its own. Faults are as of `read_world`.
+pub fn read_second<S: Source>(
     alloc: Global,
     first: &mut LineReader<S>,
     second: &mut Option<LineReader<S>>,
