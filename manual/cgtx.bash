@@ -3,7 +3,7 @@ _cgtx() {
     local word=${COMP_WORDS[COMP_CWORD]} before=${COMP_WORDS[COMP_CWORD - 1]} options
     COMPREPLY=()
     if [ "$COMP_CWORD" -eq 1 ]; then
-        mapfile -t COMPREPLY < <(compgen -W 'replay show tree diff run check import --help --version' -- "$word")
+        mapfile -t COMPREPLY < <(compgen -W 'replay show tree diff plan run check import --help --version' -- "$word")
         return
     fi
     case ${COMP_WORDS[1]} in
@@ -11,6 +11,7 @@ _cgtx() {
     show) options='--help' ;;
     tree) options='--depth --help' ;;
     diff) options='--help' ;;
+    plan) options='--help' ;;
     run) options='--workers --tries --history --watch --help' ;;
     check) options='--as --help' ;;
     import) options='--online --strict --help' ;;

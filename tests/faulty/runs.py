@@ -18,9 +18,9 @@ page = None
 
 
 def chosen_cases():
-    """Cases of tests/program, each with its kind: the folders of tests/replays, the shows, the trees, the imports that leave nothing
-    out, the differences that are told, the checks of tests/checks.toml that are done, and the runs of scripts that leave a history,
-    each of these by one worker and by four, or by one alone where files are watched."""
+    """Cases of tests/program, each with its kind: the folders of tests/replays, the shows, the trees, the plans that are found, the
+    imports that leave nothing out, the differences that are told, the checks of tests/checks.toml that are done, and the runs of
+    scripts that leave a history, each of these by one worker and by four, or by one alone where files are watched."""
     for case in program.cases():
         words = [*program.words_of(case)]
         if len(words) > MOST_WORDS or is_long(case):
@@ -35,7 +35,7 @@ def chosen_cases():
             continue
         if os.path.isdir(f"{program.HERE}/replays/{case['name']}"):
             yield "replay", case
-        elif words[:1] in (["show"], ["tree"]) or words[:1] == ["import"] and not {"stderr", "streams"} & {*case}:
+        elif words[:1] in (["show"], ["tree"], ["plan"]) or words[:1] == ["import"] and not {"stderr", "streams"} & {*case}:
             yield words[0], case
         elif words[:3] == ["run", "--workers", "1"] and "h" in case.get("leaves", {}):
             if "--watch" in words:

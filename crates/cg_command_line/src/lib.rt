@@ -70,6 +70,17 @@ Status:
   2  The words aren't right, or one isn't a world
   3  Memory, an input or an output failed";
 
+const PLAN_MORE: &str = "\
+Examples:
+  cgtx plan world-1 world-2 > script
+  cgtx run world-1 script
+
+Status:
+  0  A script was printed that turns the one world into the other
+  1  None was found
+  2  The words aren't right, or one isn't a world
+  3  Memory, an input or an output failed";
+
 const RUN_MORE: &str = "\
 Examples:
   cgtx run world script-1 script-2
@@ -132,6 +143,11 @@ pub enum Asked<'a> {
     Diff {
         before: &'a str,
         after: &'a str,
+    },
+    /// To find a script that turns the first world into the second one, which these words name.
+    Plan {
+        from: &'a str,
+        to: &'a str,
     },
     /// To run these scripts.
     Run(Batch<'a>),
@@ -202,6 +218,10 @@ pub fn read_command_line<'a, R: Print + Eprint + AllocGlobal>(
             Some(("diff", given)) => Ok(Asked::Diff {
                 before: given.get_str("WORLD-1").unwrap_or(STANDARD_INPUT),
                 after: given.get_str("WORLD-2").unwrap_or(STANDARD_INPUT),
+            }),
+            Some(("plan", given)) => Ok(Asked::Plan {
+                from: given.get_str("WORLD-1").unwrap_or(STANDARD_INPUT),
+                to: given.get_str("WORLD-2").unwrap_or(STANDARD_INPUT),
             }),
             Some(("run", given)) => Ok(Asked::Run(batch_of(rt.alloc(), given)?)),
             Some(("check", given)) => Ok(Asked::Check {
@@ -296,6 +316,7 @@ fn command<'a>(alloc: Global) -> Result<Command<'a>, AllocError> {
         .subcommand(show(alloc)?)?
         .subcommand(tree(alloc)?)?
         .subcommand(diff(alloc)?)?
+        .subcommand(plan(alloc)?)?
         .subcommand(run(alloc)?)?
         .subcommand(check(alloc)?)?
         .subcommand(import(alloc)?)
@@ -350,9 +371,22 @@ fn tree<'a>(alloc: Global) -> Result<Command<'a>, AllocError> {
 }
 
 fn diff<'a>(alloc: Global) -> Result<Command<'a>, AllocError> {
-    Command::new(alloc, "diff")
+    let command = Command::new(alloc, "diff")
         .about("Tells what changed from one world to another, a line for each change")
-        .after_help(DIFF_MORE)
+        .after_help(DIFF_MORE);
+    of_two_worlds(alloc, command)
+}
+
+fn plan<'a>(alloc: Global) -> Result<Command<'a>, AllocError> {
+    let command = Command::new(alloc, "plan")
+        .about("Prints a script that is accepted and turns one world into another")
+        .after_help(PLAN_MORE);
+    of_two_worlds(alloc, command)
+}
+
+// The command, of the words of two worlds.
+fn of_two_worlds<'a>(alloc: Global, command: Command<'a>) -> Result<Command<'a>, AllocError> {
+    command
         .arg(word(
             alloc,
             "WORLD-1",

@@ -1,10 +1,10 @@
 //! Replays schedules of requests against a tree of control groups: `cgtx replay WORLD SCHEDULE` reads a world and the
 //! lines of a schedule, and writes the answers and the tree that results. With no words both come on standard input.
 //! `cgtx show WORLD PATH FILE` reads a world and writes an interface file of a group; `cgtx tree WORLD` writes its groups, one
-//! below the other. `cgtx diff WORLD-1 WORLD-2` reads two worlds and writes what changed from the one to the other. `cgtx run
-//! WORLD SCRIPT...` runs scripts, each a transaction, over a world, and writes how they ended and the world that they left.
-//! `cgtx check FILE...` tells what is wrong with worlds, schedules and scripts, and where. `cgtx import` writes the world of a
-//! mounted tree.
+//! below the other. `cgtx diff WORLD-1 WORLD-2` reads two worlds and writes what changed from the one to the other, and `cgtx plan
+//! WORLD-1 WORLD-2` a script that turns the one into the other. `cgtx run WORLD SCRIPT...` runs scripts, each a transaction, over
+//! a world, and writes how they ended and the world that they left. `cgtx check FILE...` tells what is wrong with worlds, schedules
+//! and scripts, and where. `cgtx import` writes the world of a mounted tree.
 #![tactic(auto)]
 
 mod host;
@@ -19,6 +19,7 @@ use cg_diff::diff_named;
 use cg_explain::{Comments, explain_named};
 use cg_import::import_named;
 use cg_outline::outline_named;
+use cg_plan::plan_named;
 use cg_program::{FromWrite, ScriptFault, Status, replay_named, show_named, stop};
 use std::io::IsTerminal;
 use std::process::ExitCode;
@@ -51,6 +52,7 @@ fn run<R: Threads + Wait + Eprint + Sync>(rt: &HostRuntime, workers: &R, words: 
         Ok(Asked::Show { world, path, file }) => show(rt, world, path, file),
         Ok(Asked::Tree { world, depth }) => tree(rt, world, depth),
         Ok(Asked::Diff { before, after }) => diff(rt, before, after),
+        Ok(Asked::Plan { from, to }) => plan(rt, from, to),
         Ok(Asked::Run(batch)) => run_batch(rt, workers, &batch),
         Ok(Asked::Check { kind, files }) => check(rt, kind, files.as_slice()),
         Ok(Asked::Import(asked)) => import(rt, &asked),
@@ -108,6 +110,13 @@ fn diff(rt: &HostRuntime, before: &str, after: &str) -> u8 {
     let mut out = FromWrite::new(rt.stdout());
     let mut err = FromWrite::new(rt.stderr());
     diff_named(rt.alloc(), &Host(rt), before, after, &mut out, &mut err)
+}
+
+// Writes a script that turns the one world into the other, which the words name.
+fn plan(rt: &HostRuntime, from: &str, to: &str) -> u8 {
+    let mut out = FromWrite::new(rt.stdout());
+    let mut err = FromWrite::new(rt.stderr());
+    plan_named(rt.alloc(), &Host(rt), from, to, &mut out, &mut err)
 }
 
 // Checks the texts that the words name, as of this kind where one is given.
