@@ -5,3 +5,4 @@ mod holding;
 mod rows;
 mod running;
 mod telling;
+mod watched;

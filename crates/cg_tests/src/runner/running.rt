@@ -20,8 +20,8 @@ pub(crate) fn few(scripts: Vec<Script>) -> Result<Vec<Script>, Refusal>
     Ok(scripts)
 }
 
-// The scripts that these texts spell.
-fn scripts(alloc: Global, texts: &[&str]) -> Result<Vec<Script>, Refusal>
+/// The scripts that these texts spell.
+pub(crate) fn scripts(alloc: Global, texts: &[&str]) -> Result<Vec<Script>, Refusal>
     ensures { IfOk result (λ scripts. vec_len scripts ≤ 4096) }
 {
     let mut scripts = Vec::new(alloc);
