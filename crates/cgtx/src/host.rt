@@ -8,8 +8,52 @@ use cg_program::{FromRead, Inputs, OpenFault};
 use std::alloc::Global;
 use std::fs::{DirEntry, File};
 use std::io::Read;
+use std::os::fd::{AsRawFd, IntoRawFd};
 use std::rt::Stdin;
 use std::{fs, io};
+
+// What gives nothing and takes all.
+const NULL: &str = "/dev/null";
+
+/// Has reads of standard input and writes to the standard outputs fail where these are closed. Else the files that are opened next
+/// would take their numbers, and be read or written in their place.
+pub fn hold_standard(rt: &HostRuntime) {
+    for _number in 0..3 {
+        if !hold_next(rt) {
+            return;
+        }
+    }
+}
+
+// Holds the least number that is free, where it is a standard one, by a file that can't be read as standard input or written to as an
+// output. False where none of these is free.
+fn hold_next(rt: &HostRuntime) -> bool {
+    let Ok(file) = File::open(rt, NULL) else {
+        return false;
+    };
+    match file.as_raw_fd() {
+        0 => {
+            drop(file);
+            hold_input(rt)
+        }
+        1 | 2 => {
+            let _ = file.into_raw_fd();
+            true
+        }
+        _ => false,
+    }
+}
+
+// The same of standard input, which is free.
+fn hold_input(rt: &HostRuntime) -> bool {
+    match File::options().write(true).open(rt, NULL) {
+        Ok(file) => {
+            let _ = file.into_raw_fd();
+            true
+        }
+        Err(_) => false,
+    }
+}
 
 /// Standard input or an opened file.
 #[derive(Drop)]

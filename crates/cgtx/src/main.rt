@@ -10,7 +10,7 @@
 mod host;
 mod progress;
 
-use crate::host::Host;
+use crate::host::{Host, hold_standard};
 use crate::progress::Progress;
 use cg_batch::{Watch, Words, run_named};
 use cg_checked_files::{Kind, check_named};
@@ -29,6 +29,7 @@ use std::thread::Threads;
 use std::{env, io};
 
 fn main(rt: HostRuntime) -> ExitCode {
+    hold_standard(&rt);
     ExitCode::from(match words(&rt) {
         Ok(words) => run(&rt, &rt, words.as_slice()),
         Err(fault) if fault.kind() == io::ErrorKind::OutOfMemory => tell(&rt, ScriptFault::Memory),
