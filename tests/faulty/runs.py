@@ -13,6 +13,9 @@ PROCESSES = 4
 MOST_WORDS = 20
 MOST_BYTES = 20_000
 
+# The kind of what can end in several ways: which script comes first may be otherwise in another run.
+FOUR = "run by four workers"
+
 # The page of this process.
 page = None
 
@@ -42,7 +45,7 @@ def chosen_cases():
                 yield "run with watches", case
                 continue
             yield "run by one worker", case
-            yield "run by four workers", {**case, "words": ["run", "--workers", "4", *words[3:]]}
+            yield FOUR, {**case, "words": ["run", "--workers", "4", *words[3:]]}
 
 
 def is_long(case):
@@ -64,6 +67,19 @@ def run(case, binary, **done):
         if got[0] == 0:
             wrong += program.wrong_replay(case, got[1], binary, room)
         return got, wrong, counts
+
+
+def is_front(kind, out, whole):
+    """Whether this is a front of that output; by four workers, of that of a run which began alike, whatever became of its scripts."""
+    if whole.startswith(out):
+        return True
+    ends, wanted = numbers(program.parted(out)[0]), numbers(program.parted(whole)[0])
+    return kind == FOUR and ends == wanted[: len(ends)]
+
+
+def numbers(ends):
+    """What the lines of scripts begin with."""
+    return [it.split(" ")[:2] for it in ends]
 
 
 def _begin(folder, library):
