@@ -9,7 +9,7 @@ use Rattle.json.proofs.Printed.Decimals.{IsNumber-decimal}
 use Rattle.json.proofs.Printed.Strings.{content-escape}
 use Rattle.json.proofs.Printed.Trees.{document-print}
 use Rattle.cg_json.specs.Laws.{HasDecimals, ItemsHaveDecimals, FieldsHaveDecimals, StringsEndAtTheirQuote, TextsReadBack}
-use Rattle.cg_json.specs.Text.{comma_behind, json_text, items_text, fields_text, name_text, quoted_text}
+use Rattle.cg_json.specs.Text.{comma_behind, json_text, items_text, fields_text, name_text, string_text}
 
 -- what begins a value or a field is behind a comma
 comma_before : (b : Bool) → cond (b && true) (44 ∷ []) [] ≡ comma_behind b
@@ -23,14 +23,14 @@ none_before false = refl
 
 -- a value's text is a piece of the print, behind its comma
 mutual
-  unfolding print_from quoted_text
+  unfolding print_from string_text name_text
 
   value_printed : (b : Bool) (j : Json) (ts : List Token) → print_from b (json_tokens j ++ ts) ≡ comma_behind b ++ (json_text j ++ print_from true ts)
   value_printed b json.null ts = ap (λ c. c ++ (json_text json.null ++ print_from true ts)) (comma_before b)
   value_printed b (json.boolean true) ts = ap (λ c. c ++ (json_text (json.boolean true) ++ print_from true ts)) (comma_before b)
   value_printed b (json.boolean false) ts = ap (λ c. c ++ (json_text (json.boolean false) ++ print_from true ts)) (comma_before b)
   value_printed b (json.number s) ts = ap (λ c. c ++ (s ++ print_from true ts)) (comma_before b)
-  value_printed b (json.string s) ts = ap (λ c. c ++ (quoted_text s ++ print_from true ts)) (comma_before b)
+  value_printed b (json.string s) ts = ap (λ c. c ++ (string_text s ++ print_from true ts)) (comma_before b)
   value_printed b (json.array js) ts =
       ap (λ c. c ++ (91 ∷ print_from false (items_tokens js ++ ts))) (comma_before b) ∙ ap (λ l. comma_behind b ++ (91 ∷ l)) (items_printed false js ts)
   value_printed b (json.object ms) ts =
@@ -48,7 +48,7 @@ mutual
   fields_printed : (b : Bool) (ms : Members) (ts : List Token) → print_from b (members_tokens ms ++ ts) ≡ fields_text b ms ++ print_from true ts
   fields_printed b no_members ts = ap (λ c. c ++ (125 ∷ print_from true ts)) (none_before b)
   fields_printed b (member k j ms) ts =
-      let name : List ℕ = quoted_text k ++ 58 ∷ [] in
+      let name : List ℕ = string_text k ++ 58 ∷ [] in
       let others : List ℕ = json_text j ++ fields_text true ms in
       ap (λ c. c ++ (name ++ print_from false ((json_tokens j ++ members_tokens ms) ++ ts))) (comma_before b)
       ∙ ap (λ l. comma_behind b ++ (name ++ print_from false l)) (append_assoc (json_tokens j) (members_tokens ms) ts)
@@ -82,5 +82,5 @@ pub texts_read_back : TextsReadBack
 texts_read_back j decimals shallow = ap document (sym (printed j)) ∙ document-print j (are_numbers j decimals) shallow
 
 pub strings_end_at_their_quote : StringsEndAtTheirQuote
-unfolding quoted_text
+unfolding string_text
 strings_end_at_their_quote s rest = (ap (λ l. 34 ∷ l) (append_assoc (escape s) (34 ∷ []) rest), content-escape s rest)

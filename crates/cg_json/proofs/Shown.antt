@@ -9,7 +9,7 @@ use Rattle.json.specs.Json.{Json, Items, Members, no_items, item, no_members, me
 use Rattle.json.specs.Json as json
 use Rattle.json.specs.Print.{escape, escape_byte, escape_letter}
 use Rattle.cg_json.specs.Laws.{HasDecimals, ItemsHaveDecimals, FieldsHaveDecimals, TextsAreLines}
-use Rattle.cg_json.specs.Text.{comma_behind, flag_text, json_text, items_text, fields_text, name_text, quoted_text}
+use Rattle.cg_json.specs.Text.{comma_behind, flag_text, json_text, items_text, fields_text, name_text, string_text}
 
 abbrev IsShown : List ℕ → Type 0
 IsShown l = list_all (nat_le 32) l ≡ true
@@ -73,8 +73,8 @@ bytes_shown : (s : List ℕ) → IsShown (escape s)
 bytes_shown [] = refl
 bytes_shown (x ∷ s) = both_shown (escape_byte x) (escape s) (byte_shown x) (bytes_shown s)
 
-quoted_shown : (s : List ℕ) → IsShown (quoted_text s)
-unfolding quoted_text
+quoted_shown : (s : List ℕ) → IsShown (string_text s)
+unfolding string_text
 quoted_shown s = both_shown (escape s) (34 ∷ []) (bytes_shown s) refl
 
 -- ---- values
@@ -88,7 +88,8 @@ comma_shown true = refl
 comma_shown false = refl
 
 name_shown : (b : Bool) (name : List ℕ) → IsShown (name_text b name)
-name_shown b name = both_shown (comma_behind b) (quoted_text name ++ 58 ∷ []) (comma_shown b) (both_shown (quoted_text name) (58 ∷ []) (quoted_shown name) refl)
+unfolding name_text
+name_shown b name = both_shown (comma_behind b) (string_text name ++ 58 ∷ []) (comma_shown b) (both_shown (string_text name) (58 ∷ []) (quoted_shown name) refl)
 
 mutual
   value_shown : (j : Json) → HasDecimals j → IsShown (json_text j)

@@ -7,7 +7,7 @@ use Rattle.json.specs.Json as json
 use Rattle.json.specs.Text.{content, plain}
 use Rattle.json.specs.Tree.{depth}
 use Rattle.json.specs.Print.{escape}
-use Rattle.cg_json.specs.Text.{json_text, quoted_text}
+use Rattle.cg_json.specs.Text.{json_text, string_text}
 
 -- each number of the value is the decimal digits of one below 2^64
 abbrev mutual
@@ -38,4 +38,4 @@ TextsAreLines = (j : Json) → HasDecimals j → list_all (nat_le 32) (json_text
 -- The law of strings: behind its quotation mark a string's text is read to the next bare one, which is its last byte, whatever comes
 -- behind; and what is read are the string's bytes.
 abbrev pub StringsEndAtTheirQuote : Type 0
-StringsEndAtTheirQuote = (s rest : List ℕ) → (quoted_text s ++ rest ≡ 34 ∷ (escape s ++ 34 ∷ rest)) × (content plain (escape s ++ 34 ∷ rest) ≡ Some s)
+StringsEndAtTheirQuote = (s rest : List ℕ) → (string_text s ++ rest ≡ 34 ∷ (escape s ++ 34 ∷ rest)) × (content plain (escape s ++ 34 ∷ rest) ≡ Some s)

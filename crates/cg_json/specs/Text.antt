@@ -8,16 +8,16 @@ use Rattle.json.specs.Print.{quoted}
 -- ---- the text
 
 -- a text between quotation marks, with the shortest escapes
-unfoldable pub quoted_text : List ℕ → List ℕ
-quoted_text s = quoted s
+unfoldable pub string_text : List ℕ → List ℕ
+string_text s = quoted s
 
 -- a comma behind an item or a field
 abbrev pub comma_behind : Bool → List ℕ
 comma_behind is_behind = cond is_behind (44 ∷ []) []
 
 -- the name of a field, behind another field or as the first
-abbrev pub name_text : Bool → List ℕ → List ℕ
-name_text is_behind name = comma_behind is_behind ++ (quoted_text name ++ 58 ∷ [])
+unfoldable pub name_text : Bool → List ℕ → List ℕ
+name_text is_behind name = comma_behind is_behind ++ (string_text name ++ 58 ∷ [])
 
 abbrev pub flag_text : Bool → List ℕ
 flag_text b = cond b (codes "true") (codes "false")
@@ -27,7 +27,7 @@ abbrev mutual
   json_text json.null = codes "null"
   json_text (json.boolean b) = flag_text b
   json_text (json.number digits) = digits
-  json_text (json.string s) = quoted_text s
+  json_text (json.string s) = string_text s
   json_text (json.array items) = 91 ∷ items_text false items
   json_text (json.object fields) = 123 ∷ fields_text false fields
 
@@ -63,14 +63,14 @@ abbrev pub string_or_null : Option (List ℕ) → Json
 string_or_null None = null
 string_or_null (Some s) = string s
 
-abbrev items_of : List Json → Items
+abbrev pub items_of : List Json → Items
 items_of [] = no_items
 items_of (j ∷ js) = item j (items_of js)
 
 abbrev pub array : List Json → Json
 array js = json.array (items_of js)
 
-abbrev fields_of : List (List ℕ × Json) → Members
+abbrev pub fields_of : List (List ℕ × Json) → Members
 fields_of [] = no_members
 fields_of (f ∷ fs) = member f.0 f.1 (fields_of fs)
 

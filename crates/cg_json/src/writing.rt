@@ -2,7 +2,7 @@
 ghost use Rattle.std.specs.Prelude.{◌≡◌, ◌<◌, ◌++◌, OnOk, option_copied};
 ghost use Rattle.std.specs.Char.{digit_char};
 ghost use Rattle.json.specs.Print.{escape, escape_byte, escape_letter};
-ghost use Rattle.cg_json.specs.Text.{flag, json_text, name_text, null, number, number_or_null, quoted_text, string, string_or_null};
+ghost use Rattle.cg_json.specs.Text.{flag, json_text, name_text, null, number, number_or_null, string_text, string, string_or_null};
 
 use itoa::Buffer;
 use std::alloc::AllocError;
@@ -10,6 +10,7 @@ use std::alloc::AllocError;
 // Each appends to a text; after an error, where there is no memory, nothing is said of it.
 
 /// Appends the name of a field and a colon, with a comma before them where the field stands behind another one.
+#[tactic(auto, unfolding(crate::specs::Text::name_text))]
 pub fn write_name(is_behind: bool, name: &str, out: &mut Vec<u8>) -> Result<(), AllocError>
     ensures { OnOk result (out.new.items ≡ out.old.items ++ name_text is_behind name.now) }
 {
@@ -74,9 +75,9 @@ pub fn write_null(out: &mut Vec<u8>) -> Result<(), AllocError>
 }
 
 // Appends a text between quotation marks.
-#[tactic(auto, unfolding(crate::specs::Text::quoted_text))]
+#[tactic(auto, unfolding(crate::specs::Text::string_text))]
 fn append_quoted(text: &[u8], out: &mut Vec<u8>) -> Result<(), AllocError>
-    ensures { OnOk result (out.new.items ≡ out.old.items ++ quoted_text text.now) }
+    ensures { OnOk result (out.new.items ≡ out.old.items ++ string_text text.now) }
 {
     out.push(b'"')?;
     append_escaped(text, out)?;

@@ -1,8 +1,8 @@
 pub mod Answered
-mod Endings
+pub mod Endings
 pub mod HistoryReplays
 mod MachineOutputs
 pub mod OneOutput
 mod OwnHistories
 pub mod Playing
-mod Reached
+pub mod Reached
