@@ -1,0 +1,6 @@
+mod Lines
+mod Once
+mod Pieces
+mod Plain
+mod Played
+mod RunLemmas
