@@ -13,7 +13,7 @@ use Rattle.cg_model.specs.Opens.{commits}
 use Rattle.cg_model.specs.Run.{state_after, commit_tree}
 use Rattle.cg_model.specs.Tree.{Tree}
 use Rattle.cg_view.specs.Committed.{meant, operations_of, script_operations, scripts_behind}
-use Rattle.cg_view.specs.Operations.{commanded, tree_after, StartsWith}
+use Rattle.cg_view.specs.Operations.{commanded, commits_in, tree_after, StartsWith}
 use Rattle.cg_view.specs.declared.operation.Operation.{Operation}
 use Rattle.cg_view.specs.declared.operation.Operation.TheVariants.{Does, Ends}
 
@@ -76,6 +76,33 @@ pub shown_tree : (o : Tree) (h : History cgroups) → AreCommits cgroups o h →
 shown_tree o h laws xs e =
     same_tree o xs ∙ ap (after_meant o) e ∙ ap (λ T. after_meant T (operations_of h)) (sym laws.opening)
     ∙ through o h laws 0 (commits h) (omega arith) ∙ (let all : 0 + commits h ≡ commits h = omega arith in ap (λ m. commit_tree cgroups o m h) all)
+
+-- ---- commits of operations
+
+abbrev ends_in : List (Option Command) → ℕ
+ends_in [] = 0
+ends_in (Some c ∷ l) = ends_in l
+ends_in (None ∷ l) = 1 + ends_in l
+
+same_commits : (xs : List Operation) → commits_in xs ≡ ends_in (map meant xs)
+same_commits [] = refl
+same_commits (Does c ∷ xs) = same_commits xs
+same_commits (Ends ∷ xs) = ap (λ n. 1 + n) (same_commits xs)
+
+one_end : (cs : List Command) (rest : List (Option Command)) → ends_in ((map Some cs ++ None ∷ []) ++ rest) ≡ 1 + ends_in rest
+one_end [] rest = refl
+one_end (c ∷ cs) rest = one_end cs rest
+
+each_ends : (k n : ℕ) (h : History cgroups) → ends_in (scripts_behind k n h) ≡ n
+each_ends k zero h = refl
+each_ends k (suc n) h =
+    let first = one_end (script_commands (k + 1) h) (scripts_behind (k + 1) n h) in
+    let others = each_ends (k + 1) n h in
+    omega (arith, first, others)
+
+-- as many ends as committed scripts
+pub all_counted : (h : History cgroups) (xs : List Operation) → map meant xs ≡ operations_of h → commits_in xs ≡ commits h
+all_counted h xs e = same_commits xs ∙ ap ends_in e ∙ each_ends 0 (commits h) h
 
 -- ---- fronts
 

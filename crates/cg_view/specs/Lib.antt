@@ -2,5 +2,6 @@ pub mod Committed
 pub mod Lent
 pub mod Operations
 pub mod Publishers
+pub mod Viewers
 pub mod Views
 pub mod Walks

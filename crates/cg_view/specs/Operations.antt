@@ -1,5 +1,5 @@
 -- What is published, and the tree after it.
-use Rattle.std.specs.Prelude.{◌≡◌, List, [], ◌∷◌, ◌++◌}
+use Rattle.std.specs.Prelude.{◌≡◌, ℕ, ◌+◌, List, [], ◌∷◌, ◌++◌}
 use Rattle.cg_command.specs.declared.command.Command as rust
 use Rattle.cg_command.specs.Meaning.{command_of}
 use Rattle.cg_model.specs.Cgroups.{cgroups}
@@ -22,6 +22,12 @@ operated Ends T = T
 abbrev pub tree_after : Tree → List Operation → Tree
 tree_after T [] = T
 tree_after T (x ∷ xs) = tree_after (operated x T) xs
+
+-- how many scripts were committed by operations: each has one end
+abbrev pub commits_in : List Operation → ℕ
+commits_in [] = 0
+commits_in (Does c ∷ xs) = commits_in xs
+commits_in (Ends ∷ xs) = 1 + commits_in xs
 
 -- a list begins with another
 abbrev pub StartsWith : {A : Type 0} → List A → List A → Type 0

@@ -1,6 +1,6 @@
 //! What is published: commands in the order of their commits, with a mark at the end of each script.
-ghost use Rattle.std.specs.Prelude.{◌≡◌, IfOk, OnErr, OnOk};
-ghost use Rattle.cg_view.specs.Operations.{commanded, operated};
+ghost use Rattle.std.specs.Prelude.{◌≡◌, [], ◌∷◌, IfOk, OnErr, OnOk};
+ghost use Rattle.cg_view.specs.Operations.{commanded, commits_in, operated};
 
 use cg_command::Command;
 use cg_tree::Tree;
@@ -40,6 +40,16 @@ impl Operation {
         match self {
             Operation::Does { command } => run(command, alloc, tree),
             Operation::Ends => Ok(()),
+        }
+    }
+
+    // How many scripts end by it.
+    pub(crate) fn commits(&self) -> usize
+        ensures { result ≡ commits_in (self.now ∷ []) }
+    {
+        match self {
+            Operation::Does { .. } => 0,
+            Operation::Ends => 1,
         }
     }
 }

@@ -5,9 +5,9 @@ ghost use Rattle.std.specs.Result.{IsErrOf};
 ghost use Rattle.cg_model.specs.Cgroups.{cgroups};
 ghost use Rattle.cg_model.specs.Opens.{commits};
 ghost use Rattle.cg_model.specs.Run.{commit_tree};
-ghost use Rattle.cg_name.specs.declared.refusal.Refusal.TheVariants.{Disagree, Memory};
+ghost use Rattle.cg_name.specs.declared.refusal.Refusal.TheVariants.{Disagree, Full, Memory};
 ghost use Rattle.cg_view.specs.Committed.{meant, operations_of};
-ghost use Rattle.cg_view.specs.Operations.{tree_after, StartsWith};
+ghost use Rattle.cg_view.specs.Operations.{commits_in, tree_after, StartsWith};
 ghost use Rattle.cg_view.specs.Views.{newcomer};
 ghost use Rattle.left_right.specs.Sides.{view};
 
@@ -58,10 +58,15 @@ impl Publisher {
     /// A Viewer that has seen nothing and was told of nothing. At most 8 at once: `Full` where there is no place for it.
     pub fn viewer(&mut self) -> Result<Viewer, Refusal>
         ensures new { IfOk result (λ v. (view v.reader.place ≡ newcomer) × (v.told ≡ 0)) }
+        ensures full { IfErr result (λ e. e ≡ Full) }
         ensures same { self.new ≡ self.old }
     {
         match self.writer.factory().reader() {
-            Ok(reader) => Ok(Viewer { reader, told: 0 }),
+            Ok(reader) => Ok(Viewer {
+                reader,
+                told: 0,
+                commits: 0,
+            }),
             Err(_) => Err(Refusal::Full),
         }
     }
@@ -74,6 +79,7 @@ impl Publisher {
         ensures opening { opening self.new ≡ opening self.old }
         ensures all { OnOk result (map meant (published self.new) ≡ operations_of core.now.history) }
         ensures tree { OnOk result (tree_after (opening self.new) (published self.new) ≡ commit_tree cgroups core.now.opening (commits core.now.history) core.now.history) }
+        ensures commits { OnOk result (commits_in (published self.new) ≡ commits core.now.history) }
         ensures later { StartsWith (published self.new) (published self.old) }
         ensures told { IfOk result (λ t. t.count ≡ length (published self.new)) }
         ensures spent { OnOk result (appended self.new ≡ []) }

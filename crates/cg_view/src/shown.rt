@@ -1,6 +1,6 @@
 //! What readers see: the tree after the operations that were published, beside the list of these.
 ghost use Rattle.std.specs.Prelude.{◌≡◌, [], ◌∷◌, ◌++◌, IfOk, OnOk, OnErr};
-ghost use Rattle.cg_view.specs.Operations.{tree_after};
+ghost use Rattle.cg_view.specs.Operations.{commits_in, tree_after};
 
 use crate::operation::Operation;
 use cg_tree::Tree;
@@ -8,13 +8,17 @@ use cg_world::World;
 use left_right::Absorb;
 use std::alloc::{AllocError, Global};
 
-/// A tree, the world that it began with, and the operations that changed it since, the first one first.
+/// A tree, the world that it began with, and the operations that changed it since, the first one first, with the number of
+/// scripts that they committed.
 #[derive(Drop)]
 pub struct Shown {
     alloc: Global,
     pub opening: World,
     pub tree: Tree,
     pub operations: Vec<Operation>,
+    // No more than there are operations.
+    pub commits: usize,
+    ghost counted: { commits ≡ commits_in operations.items },
     ghost kept: { tree.tree ≡ tree_after opening operations.items },
 }
 
@@ -28,11 +32,12 @@ impl Shown {
             opening: world.copy(alloc)?,
             tree: Tree::from_world(alloc, world.copy(alloc)?)?,
             operations: Vec::new(alloc),
+            commits: 0,
         })
     }
 
     // Changes the tree as the operation does, and lists it. An error, where there is no memory, changes nothing.
-    #[tactic(auto, using(crate::proofs::Operations::tree_after_push))]
+    #[tactic(auto, using(crate::proofs::Operations::tree_after_push, crate::proofs::Operations::commits_push))]
     fn take_in(&mut self, operation: &Operation) -> Result<(), AllocError>
         ensures opening { self.new.opening ≡ self.old.opening }
         ensures ok { OnOk result (self.new.operations.items ≡ self.old.operations.items ++ operation.now ∷ []) }
@@ -41,6 +46,7 @@ impl Shown {
         self.operations.reserve(1)?;
         let copy = operation.copy(self.alloc)?;
         operation.carry_out(self.alloc, &mut self.tree)?;
+        self.commits += operation.commits();
         self.operations.push_reserved(copy);
         Ok(())
     }

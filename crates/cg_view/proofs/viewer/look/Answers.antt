@@ -8,8 +8,8 @@ enter_as-requires c x = grows _ _ x x [] refl (sym (append-nil x.operations.item
 
 pub returns-in-Ok-clause-value : goal.returns-in-Ok-clause-value
 returns-in-Ok-clause-value c =
-    if_ok c.text_of-text.result _ _ (λ text e. seen_file _ _ _ _ _ _ _ _ c.in-Ok.ensures.1 c.get.ensures c.leave.ensures.1 e) c.text_of-text.ensures.value
+    if_ok c.text_of-text.result _ _ (λ text e. seen_file _ _ _ _ _ _ _ _ c.in-Ok.ensures.1 c.get-shown.ensures c.leave-reader.ensures.1 e) c.text_of-text.ensures.value
 
 pub returns-in-Ok-clause-refused : goal.returns-in-Ok-clause-refused
 returns-in-Ok-clause-refused c =
-    if_err c.text_of-text.result _ _ (λ r h. record { why = λ m n. seen_file _ _ _ _ _ _ _ _ c.in-Ok.ensures.1 c.get.ensures c.leave.ensures.1 (h m n) }) c.text_of-text.ensures.refused
+    if_err c.text_of-text.result _ _ (λ r h. record { why = λ m n. seen_file _ _ _ _ _ _ _ _ c.in-Ok.ensures.1 c.get-shown.ensures c.leave-reader.ensures.1 (h m n) }) c.text_of-text.ensures.refused
