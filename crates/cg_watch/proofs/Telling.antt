@@ -15,6 +15,7 @@ use Rattle.cg_model.specs.History.{Answer, Gave, Refused}
 use Rattle.cg_model.specs.System.{Text}
 use Rattle.cg_name.specs.declared.refusal.Refusal.{Refusal}
 use Rattle.cg_name.specs.declared.refusal.Refusal.TheVariants.{Full, Memory}
+use Rattle.cg_view.specs.Operations.{commits_in}
 use Rattle.cg_view.specs.Views.{IsFileOf, IsRefusalOf}
 use Rattle.cg_view.specs.declared.rule.View.{View}
 use Rattle.cg_script.specs.Answer.{answer_text}
@@ -35,12 +36,12 @@ texts_append [] ys = refl
 texts_append (x ∷ xs) ys = ap (λ l. x ++ l) (texts_append xs ys) ∙ sym (append_assoc x (lines_text xs) (lines_text ys))
 
 -- what a Viewer saw of a file: its text
-pub sees_text : (v : View) (p : Path) (f : FileName) (text : List ℕ) → IsFileOf v p f (Ok text) → Sees p f (Gave (Text text))
-sees_text v p f text h = record { view = v; found = Ok text; seen = h; answer_is = refl }
+pub sees_text : (v : View) (p : Path) (f : FileName) (text : List ℕ) → IsFileOf v p f (Ok text) → Sees p f (commits_in v.seen) (Gave (Text text))
+sees_text v p f text h = record { view = v; behind = refl; found = Ok text; seen = h; answer_is = refl }
 
 -- or why there is none
-pub sees_refusal : (v : View) (p : Path) (f : FileName) (e : Refusal) → IsRefusalOf v p f e → e ≢ Memory → e ≢ Full → Sees p f (Refused e)
-sees_refusal v p f e h memory full = record { view = v; found = Err e; seen = h.why memory full; answer_is = refl }
+pub sees_refusal : (v : View) (p : Path) (f : FileName) (e : Refusal) → IsRefusalOf v p f e → e ≢ Memory → e ≢ Full → Sees p f (commits_in v.seen) (Refused e)
+sees_refusal v p f e h memory full = record { view = v; behind = refl; found = Err e; seen = h.why memory full; answer_is = refl }
 
 -- nothing is told
 pub told_nothing : (p : Path) (f : FileName) (known : Option (List ℕ)) → TellsWhole p f known known
@@ -176,7 +177,7 @@ untold taken ws = zip_same (HasTold taken) (λ w. watch_front taken w w (same_wa
 
 -- a look's line, of which a write says how much was taken
 pub told_line_whole : {S T E : Type 0} (taken : S → Option (List ℕ)) (v w : Watch S) (commits : ℕ) (answer : Answer) (line : List ℕ) (r : Result T E)
-    → Sees v.path v.file answer → w.path ≡ v.path → w.file ≡ v.file → line ≡ watch_line v.path v.file commits (answer_text answer)
+    → Sees v.path v.file commits answer → w.path ≡ v.path → w.file ≡ v.file → line ≡ watch_line v.path v.file commits (answer_text answer)
     → WritesWhole (taken v.sink) (taken w.sink) r line → OnTrue (is_ok r) (HasToldWhole taken v w)
 told_line_whole taken v w commits answer line (Ok x) sees path file is written = record {
   path = path;
@@ -186,7 +187,7 @@ told_line_whole taken v w commits answer line (Ok x) sees path file is written =
 told_line_whole taken v w commits answer line (Err e) sees path file is written = tt
 
 pub told_line_front : {S T E : Type 0} (taken : S → Option (List ℕ)) (v w : Watch S) (commits : ℕ) (answer : Answer) (line : List ℕ) (r : Result T E)
-    → Sees v.path v.file answer → w.path ≡ v.path → w.file ≡ v.file → line ≡ watch_line v.path v.file commits (answer_text answer)
+    → Sees v.path v.file commits answer → w.path ≡ v.path → w.file ≡ v.file → line ≡ watch_line v.path v.file commits (answer_text answer)
     → WritesWhole (taken v.sink) (taken w.sink) r line → OnFalse (is_ok r) (HasTold taken v w)
 told_line_front taken v w commits answer line (Ok x) sees path file is written = tt
 told_line_front taken v w commits answer line (Err e) sees path file is written = record {

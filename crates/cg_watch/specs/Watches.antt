@@ -11,6 +11,7 @@ use Rattle.cg_model.specs.History.{Answer, Gave, Refused}
 use Rattle.cg_model.specs.System.{Text}
 use Rattle.cg_lines.specs.Device.{AppendsFront}
 use Rattle.cg_script.specs.Answer.{answer_text}
+use Rattle.cg_view.specs.Operations.{commits_in}
 use Rattle.cg_view.specs.Views.{IsFileOf}
 use Rattle.cg_view.specs.declared.rule.View.{View}
 use Rattle.cg_watch.specs.declared.watch.Watch.{Watch}
@@ -33,18 +34,20 @@ abbrev pub watch_line : Path → FileName → ℕ → List ℕ → List ℕ
 watch_line p f commits value =
     codes "watch " ++ path_word p ++ codes ":" ++ file_word f ++ codes " commits " ++ decimal commits ++ codes ": " ++ value ++ 10 ∷ []
 
--- the answer tells what a Viewer saw of the file: its text in the tree that was seen, or why there is none
-pub record Sees (p : Path) (f : FileName) (answer : Answer) : Type 0 where
+-- so many commits are all those of the operations that a Viewer saw, and the answer tells what it saw of the file in the tree
+-- after these: its text, or why there is none
+pub record Sees (p : Path) (f : FileName) (commits : ℕ) (answer : Answer) : Type 0 where
   pub view : View
+  pub behind : commits ≡ commits_in view.seen
   pub found : Result (List ℕ) Refusal
   pub seen : IsFileOf view p f found
   pub answer_is : answer ≡ answer_with found
 
--- a line tells what a Viewer saw of the file, as that answer
+-- a line tells what a Viewer saw of the file, as that answer, and behind how many commits
 pub record TellsOf (p : Path) (f : FileName) (line : List ℕ) : Type 0 where
   pub commits : ℕ
   pub answer : Answer
-  pub seen : Sees p f answer
+  pub seen : Sees p f commits answer
   pub line_is : line ≡ watch_line p f commits (answer_text answer)
 
 -- lines, one behind the other

@@ -5,9 +5,9 @@ ghost use Rattle.cg_watch.specs.Subscribed.{IsSubscribed, Follows};
 
 use crate::board::Board;
 use crate::looking::look;
-use crate::news::News;
 use crate::watch::{Subscription, Watch};
 use cg_lines::Sink;
+use cg_view::Told;
 use crossbeam_channel::{Sender, bounded};
 use std::alloc::Global;
 use std::sync::Wait;
@@ -24,7 +24,7 @@ pub(crate) fn subscribe_all<S: Sink>(
     watches: &mut [Watch<S>],
     board: &mut Board<'_>,
     scripts: usize,
-) -> Vec<Sender<News>>
+) -> Vec<Sender<Told>>
     ensures { AllZip (IsSubscribed S.taken) watches.old watches.new }
 {
     let mut senders = Vec::new(alloc);
@@ -41,7 +41,7 @@ fn subscribe<S: Sink>(
     watch: &mut Watch<S>,
     board: &mut Board<'_>,
     scripts: usize,
-    senders: &mut Vec<Sender<News>>,
+    senders: &mut Vec<Sender<Told>>,
 )
     ensures { IsSubscribed S.taken watch.old watch.new }
 {
@@ -55,7 +55,7 @@ fn subscribe<S: Sink>(
     let Ok(mut viewer) = board.viewer() else {
         return;
     };
-    if !look(alloc, watch, &mut viewer, News::none(), board) {
+    if !look(alloc, watch, &mut viewer) {
         return;
     }
     watch.subscription = Some(Subscription { viewer, news });
@@ -67,7 +67,6 @@ pub(crate) fn follow_all<R: Threads + Wait + Sync, S: Sink + Send>(
     rt: &R,
     alloc: Global,
     mut watches: Vec<Watch<S>>,
-    board: &Board<'_>,
 ) -> Vec<Watch<S>>
     ensures { AllZip (Follows S.taken) watches.items result.items }
 {
@@ -75,21 +74,22 @@ pub(crate) fn follow_all<R: Threads + Wait + Sync, S: Sink + Send>(
         rt,
         watches.as_mut_slice(),
         MOST_WATCHES,
-        &|_, watch: &mut Watch<S>| { follow(rt, alloc, watch, board) },
+        &|_, watch: &mut Watch<S>| { follow(rt, alloc, watch) },
     );
     watches
 }
 
 // Looks whenever there are news, until there can't be any more, or the sink takes nothing.
-fn follow<S: Sink>(rt: &impl Wait, alloc: Global, watch: &mut Watch<S>, board: &Board<'_>)
+fn follow<S: Sink>(rt: &impl Wait, alloc: Global, watch: &mut Watch<S>)
     ensures { Follows S.taken watch.old watch.new }
 {
     let Some(subscription) = watch.subscription.take() else {
         return;
     };
     let Subscription { mut viewer, news } = subscription;
-    for one in news.iter(rt) {
-        if !look(alloc, watch, &mut viewer, one, board) {
+    for told in news.iter(rt) {
+        viewer.learn(told);
+        if !look(alloc, watch, &mut viewer) {
             return;
         }
     }

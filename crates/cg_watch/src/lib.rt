@@ -5,7 +5,6 @@ mod board;
 mod following;
 mod lines;
 mod looking;
-mod news;
 mod publishing;
 mod watch;
 mod watched_run;

@@ -24,7 +24,7 @@ pub(crate) fn line_of(
     alloc: Global,
     path: &Path,
     file: FileName,
-    commits: u32,
+    commits: usize,
     value: &[u8],
 ) -> Result<Vec<u8>, AllocError>
     ensures { IfOk result (λ line. line.items ≡ watch_line path.now file commits value.now) }

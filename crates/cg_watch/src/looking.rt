@@ -2,11 +2,11 @@
 ghost use Rattle.std.specs.Prelude.{◌≡◌, IfSome};
 ghost use Rattle.std.specs.Bool.{OnFalse, OnTrue};
 ghost use Rattle.cg_history.specs.Meaning.{answer_of};
+ghost use Rattle.cg_view.specs.Operations.{commits_in};
+ghost use Rattle.cg_view.specs.Viewers.{seen_by};
 ghost use Rattle.cg_watch.specs.Watches.{HasTold, HasToldWhole, Sees};
 
-use crate::board::Board;
 use crate::lines::{line_of, value_of};
-use crate::news::News;
 use crate::watch::Watch;
 use cg_lines::{Sink, write_all};
 use cg_name::{FileName, Path, Refusal};
@@ -14,36 +14,23 @@ use cg_runner::Answer;
 use cg_view::Viewer;
 use std::alloc::Global;
 
-// Looks at the file, and tells what it holds, where that isn't what was told last. Where something else was published since the
-// news, or is being published, nothing is told: there will be news of it. Whether the sink took what was told.
+// Looks at the file, and tells what it holds, where that isn't what was told last. Whether the sink took what was told.
 #[tactic(auto, using(crate::proofs::Telling::same_watch))]
-pub(crate) fn look<S: Sink>(
-    alloc: Global,
-    watch: &mut Watch<S>,
-    viewer: &mut Viewer,
-    news: News,
-    board: &Board<'_>,
-) -> bool
+pub(crate) fn look<S: Sink>(alloc: Global, watch: &mut Watch<S>, viewer: &mut Viewer) -> bool
     ensures whole { OnTrue result (HasToldWhole S.taken watch.old watch.new) }
     ensures front { OnFalse result (HasTold S.taken watch.old watch.new) }
     ensures subscription { watch.new.subscription ≡ watch.old.subscription }
 {
-    if let Some(told) = news.told {
-        viewer.learn(told);
-    }
     let Some(answer) = answer(alloc, viewer, &watch.path, watch.file) else {
         return true;
     };
-    if !board.is_last(news) {
-        return true;
-    }
-    tell(alloc, watch, news.commits, &answer)
+    tell(alloc, watch, viewer.commits(), &answer)
 }
 
 // What a look at the file gives, as the answer to a request for it; none where it gives nothing for now.
 #[tactic(auto, using(crate::proofs::Telling::sees_text, crate::proofs::Telling::sees_refusal))]
 fn answer(alloc: Global, viewer: &mut Viewer, path: &Path, file: FileName) -> Option<Answer>
-    ensures { IfSome result (λ answer. Sees path.now file (answer_of answer)) }
+    ensures { IfSome result (λ answer. Sees path.now file (commits_in (seen_by viewer.new).seen) (answer_of answer)) }
 {
     match viewer.read(alloc, path, file) {
         Ok(text) => Some(Answer::Text(text)),
@@ -53,10 +40,10 @@ fn answer(alloc: Global, viewer: &mut Viewer, path: &Path, file: FileName) -> Op
     }
 }
 
-// Tells the answer, where it isn't what was told last. Whether the sink took it.
+// Tells the answer, which was seen behind so many commits, where it isn't what was told last. Whether the sink took it.
 #[tactic(auto, using(crate::proofs::Telling::same_watch))]
-fn tell<S: Sink>(alloc: Global, watch: &mut Watch<S>, commits: u32, answer: &Answer) -> bool
-    requires { Sees watch.old.path watch.old.file (answer_of answer.now) }
+fn tell<S: Sink>(alloc: Global, watch: &mut Watch<S>, commits: usize, answer: &Answer) -> bool
+    requires { Sees watch.old.path watch.old.file commits (answer_of answer.now) }
     ensures whole { OnTrue result (HasToldWhole S.taken watch.old watch.new) }
     ensures front { OnFalse result (HasTold S.taken watch.old watch.new) }
     ensures subscription { watch.new.subscription ≡ watch.old.subscription }

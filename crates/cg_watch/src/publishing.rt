@@ -1,8 +1,8 @@
 //! A gate that publishes each commit.
 use crate::board::Board;
-use crate::news::News;
 use cg_desk::Desk;
 use cg_runner::{Gate, ScriptEnd};
+use cg_view::Told;
 use crossbeam_channel::Sender;
 use std::alloc::Global;
 use std::sync::Wait;
@@ -14,7 +14,7 @@ pub(crate) struct Publishing<'a, 'p, G, R> {
     pub(crate) alloc: Global,
     pub(crate) gate: &'a G,
     pub(crate) board: &'a Board<'p>,
-    pub(crate) watches: Vec<Sender<News>>,
+    pub(crate) watches: Vec<Sender<Told>>,
 }
 
 impl<G: Gate, R: Wait> Gate for Publishing<'_, '_, G, R> {
@@ -28,10 +28,9 @@ impl<G: Gate, R: Wait> Gate for Publishing<'_, '_, G, R> {
 
     fn ended(&self, desk: &Desk, script: u32, end: ScriptEnd) {
         self.gate.ended(desk, script, end);
-        if let ScriptEnd::Committed { number, .. } = end {
+        if let ScriptEnd::Committed { .. } = end {
             let watches = self.watches.as_slice();
-            self.board
-                .publish(self.rt, self.alloc, desk, number, watches);
+            self.board.publish(self.rt, self.alloc, desk, watches);
         }
     }
 }

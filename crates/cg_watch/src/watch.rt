@@ -4,11 +4,10 @@ ghost use Rattle.std.specs.Result.{IsErrOf};
 ghost use Rattle.cg_script.specs.declared.fault.ScriptFault.TheVariants.{Syntax, Memory};
 ghost use Rattle.cg_watch.specs.Watches.{NamesFile, NamesNone};
 
-use crate::news::News;
 use cg_lines::Sink;
 use cg_name::{FileName, Path, Refusal};
 use cg_script::ScriptFault;
-use cg_view::Viewer;
+use cg_view::{Told, Viewer};
 use crossbeam_channel::Receiver;
 use std::alloc::Global;
 
@@ -31,7 +30,7 @@ pub struct Watch<S> {
 #[derive(Drop)]
 pub(crate) struct Subscription {
     pub(crate) viewer: Viewer,
-    pub(crate) news: Receiver<News>,
+    pub(crate) news: Receiver<Told>,
 }
 
 impl<S: Sink + Drop> Watch<S> {

@@ -87,11 +87,10 @@ fn run_beside<G: Gate + Sync, R: Threads + Wait + Sync, S: Sink + Send + Drop>(
         board: &board,
         watches: senders,
     };
-    let shared = &board;
     let subscribed = mem::replace(watches, Vec::new(alloc));
     let (seen, report) = thread::join(
         rt,
-        move || follow_all(rt, alloc, subscribed, shared),
+        move || follow_all(rt, alloc, subscribed),
         move ||
             requires few { vec_len scripts ≤ 4096 }
             requires a_worker { 1 ≤ workers }
