@@ -1,7 +1,8 @@
 //! Views of what is published.
 mod beside;
+mod counting;
 mod crowd;
 mod desks;
-mod prefixes;
-mod publishing;
+pub(crate) mod prefixes;
+pub(crate) mod publishing;
 mod reading;
