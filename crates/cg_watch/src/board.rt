@@ -1,4 +1,8 @@
 //! What is published of a run.
+ghost use Rattle.std.specs.Prelude.{◌≡◌, IfOk};
+ghost use Rattle.cg_view.specs.Viewers.{seen_by};
+ghost use Rattle.cg_view.specs.Views.{newcomer};
+
 use cg_desk::Desk;
 use cg_name::Refusal;
 use cg_view::{Publisher, Told, Viewer};
@@ -45,8 +49,10 @@ impl<'a> Board<'a> {
         }
     }
 
-    // A Viewer, where there is a place for it.
-    pub(crate) fn viewer(&mut self) -> Result<Viewer, Refusal> {
+    // A Viewer that has seen nothing, where there is a place for it.
+    pub(crate) fn viewer(&mut self) -> Result<Viewer, Refusal>
+        ensures { IfOk result (λ v. seen_by v ≡ newcomer) }
+    {
         self.published.get_mut().publisher.viewer()
     }
 }
