@@ -8,6 +8,7 @@ mod files;
 mod lists;
 mod lock_lists;
 mod locks;
+mod near_files;
 mod path_trees;
 mod paths;
 mod places;
