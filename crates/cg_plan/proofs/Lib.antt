@@ -1,1 +1,4 @@
 pub mod Accepted
+pub mod ShellLines
+pub mod ShellReading
+pub mod ShellTexts

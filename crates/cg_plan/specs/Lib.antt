@@ -1,2 +1,4 @@
 pub mod Leads
+pub mod Shell
+pub mod ShellWord
 pub mod Told

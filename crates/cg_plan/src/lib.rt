@@ -1,10 +1,15 @@
-//! Plans: scripts that turn one world into another.
+//! Plans: scripts that turn one world into another, and the same for a shell.
 #![tactic(auto)]
 
+mod form;
+pub mod laws;
 mod named;
 mod planning;
+mod quoting;
 mod running;
 mod sets;
+mod shell;
 mod steps;
 
-pub use named::{NO_PLAN, plan, plan_named};
+pub use form::PlanForm;
+pub use named::{NO_PLAN, plan, plan_as, plan_named};

@@ -19,7 +19,7 @@ use cg_diff::diff_named;
 use cg_explain::{Comments, explain_named};
 use cg_import::import_named;
 use cg_outline::outline_named;
-use cg_plan::plan_named;
+use cg_plan::{PlanForm, plan_named};
 use cg_program::{FromWrite, ScriptFault, Status, replay_named, show_named, stop};
 use std::io::IsTerminal;
 use std::process::ExitCode;
@@ -117,7 +117,8 @@ fn diff(rt: &HostRuntime, before: &str, after: &str) -> u8 {
 fn plan(rt: &HostRuntime, from: &str, to: &str) -> u8 {
     let mut out = FromWrite::new(rt.stdout());
     let mut err = FromWrite::new(rt.stderr());
-    plan_named(rt.alloc(), &Host(rt), from, to, &mut out, &mut err)
+    let form = PlanForm::Script;
+    plan_named(rt.alloc(), &Host(rt), from, to, form, &mut out, &mut err)
 }
 
 // Checks the texts that the words name, as of this kind where one is given.
