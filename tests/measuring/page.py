@@ -1,5 +1,5 @@
-"""A page of measures: of what kind the computer is, the workloads beside another program, long schedules over large worlds, the
-program's start, calls of the library for C, and views."""
+"""A page of measures: of what kind the computer is, the workloads beside another program, long schedules over large worlds, each
+command over one large world, the program's start, calls of the library for C, and views."""
 import contextlib
 import datetime
 import os
@@ -8,7 +8,7 @@ import subprocess
 import tempfile
 import time
 
-from . import views, worlds
+from . import commands, views, worlds
 from .runs import run, write
 
 HERE = os.path.dirname(os.path.realpath(__file__))
@@ -88,6 +88,8 @@ def measure(programs, workloads):
         different = workloads(programs)
     with table("Long schedules over large worlds"):
         worlds.measure(program, 200_000)
+    with table("Each command over one large world"):
+        commands.measure(program)
     with table("The program's start, and the library for C"):
         taken = starts(program)
         print(f"a start: {statistics.median(taken):.1f} ms, at least {min(taken):.1f} ms")
