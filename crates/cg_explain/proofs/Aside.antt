@@ -1,5 +1,5 @@
 -- Comments stand aside: without them the plain answers are left.
-use Rattle.std.proofs.Common.{◌≡◌, ℕ, ◌-◌, ◌&&◌, Bool, true, false, cond, List, [], ◌∷◌, ◌++◌, nat_le, nat_lt, take, filter, length, codes, Some, None, Option, refl, sym, ap, subst, ◌∙◌, inl, inr, append_assoc, append-nil}
+use Rattle.std.proofs.Common.{◌≡◌, ℕ, zero, suc, ◌-◌, ◌&&◌, Bool, get_or, true, false, cond, List, [], ◌∷◌, ◌++◌, nat_le, nat_lt, take, filter, length, codes, Some, None, Option, refl, sym, ap, subst, ◌∙◌, inl, inr, append_assoc, append-nil}
 use Rattle.std.specs.List.{AllByRecursion, flat_map}
 use Rattle.std.specs.Fmt.{decimal}
 use Rattle.std.proofs.lemmas.Bool.{cond_both}
@@ -32,7 +32,7 @@ use Rattle.cg_script.specs.Request.{newline}
 use Rattle.cg_replay.specs.Answering.{EachAnswers}
 use Rattle.cg_replay.specs.Replay.{Replay, Answers, ending_text, opened, tree_now}
 use Rattle.cg_explain.specs.Comment.{comment}
-use Rattle.cg_explain.specs.Explained.{behind_answer, echo_text, is_comment, is_some_text, newest_notes, notes_text, record_notes, shown_line, told_text, uncommented, without_comments, CommentsStandAside, Explains}
+use Rattle.cg_explain.specs.Explained.{behind_answer, begun_behind, begun_line, busy_note, echo_text, is_beginning, opened_with, refusal_notes, is_comment, is_some_text, newest_notes, notes_text, record_notes, shown_line, told_text, uncommented, without_comments, CommentsStandAside, Explains}
 use Rattle.cg_explain.specs.Notes.{child_said, children_notes, command_notes, computer_note, control_note, deep_note, deep_where, group_notes, is_wanted, lacking_note, lacking_notes, many_note, many_where, missing_note, path_note, processes_note, share, spaced_pid}
 use Rattle.cg_explain.specs.declared.explainer.Explainer.{Explainer}
 use Rattle.cg_explain.proofs.OneLine.{IsOnLine, answer_on_line, both_on_line, controller_on_line, lines_on_line, names_on_line, no_newline, number_on_line, path_on_line, refusal_on_line}
@@ -198,16 +198,48 @@ command_aside T (MaxDescendants p l) r = group_aside T p (ancestors T p) r
 command_aside T (MaxDepth p l) r = group_aside T p (ancestors T p) r
 command_aside T (Online v) r = aside_none
 
-record_aside : (T : Tree) (r : Request cgroups) (a : Answer) → IsAside (record_notes T r a)
-record_aside T (Do c) (Refused r) = command_aside T c r
-record_aside T _ _ = aside_none
+-- ---- the lines that began transactions
 
-newest_aside : (T : Tree) (h : History cgroups) → IsAside (newest_notes T h)
-newest_aside T [] = aside_none
-newest_aside T (r ∷ h) = record_aside T r.request r.answer
+-- each stands on a line
+abbrev AreOnLine : List (List ℕ) → Type 0
+AreOnLine begun = AllByRecursion IsOnLine begun
 
-notes_aside : (is_wanted : Bool) (n : ℕ) (c : CoreState) → IsAside (notes_text is_wanted n c)
-notes_aside is_wanted n c = aside_where (is_wanted && nat_lt n (length c.history)) _ (newest_aside (tree_now c) c.history)
+one_on_line : (begun : List (List ℕ)) (t : ℕ) → AreOnLine begun → IsOnLine (get_or begun t [])
+one_on_line [] t h = refl
+one_on_line (l ∷ begun) zero h = h.0
+one_on_line (l ∷ begun) (suc t) h = one_on_line begun t h.1
+
+one_more : (begun : List (List ℕ)) (l : List ℕ) → AreOnLine begun → IsOnLine l → AreOnLine (begun ++ l ∷ [])
+one_more [] l h k = (k, tt)
+one_more (x ∷ begun) l h k = (h.0, one_more begun l h.1 k)
+
+-- and so it does behind a line
+still_on_line : (begun : List (List ℕ)) (n : ℕ) (line answer : List ℕ) → AreOnLine begun → IsOnLine line → AreOnLine (begun_behind begun n line answer)
+still_on_line begun n line answer h k =
+    cond_both (is_beginning answer) (begun ++ (decimal n ++ codes ": " ++ line) ∷ []) begun AreOnLine
+    (λ _. one_more begun (decimal n ++ codes ": " ++ line) h (both_on_line (decimal n ++ codes ": ") line (both_on_line (decimal n) (codes ": ") (number_on_line n) refl) k))
+    (λ _. h)
+
+busy_aside : (begun : List (List ℕ)) (t : ℕ) → AreOnLine begun → IsAside (busy_note begun t)
+busy_aside begun t h =
+    let text : List ℕ = codes "transaction " ++ decimal t ++ codes " began on line " ++ begun_line begun t in
+    aside_where (is_some_text (begun_line begun t)) (comment text)
+    (aside_comment text (both_on_line (codes "transaction " ++ decimal t ++ codes " began on line ") (begun_line begun t) (both_on_line (codes "transaction " ++ decimal t) (codes " began on line ") (number_on_line t) refl) (one_on_line begun (t - 1) h)))
+
+refusal_aside : (begun : List (List ℕ)) (T : Tree) (c : Command) (r : Refusal) → AreOnLine begun → IsAside (refusal_notes begun T c r)
+refusal_aside begun T c (refusals.Busy t) h = busy_aside begun t.0 h
+refusal_aside begun T c r h = command_aside T c r
+
+record_aside : (begun : List (List ℕ)) (T : Tree) (r : Request cgroups) (a : Answer) → AreOnLine begun → IsAside (record_notes begun T r a)
+record_aside begun T (Do c) (Refused r) h = refusal_aside begun T c r h
+record_aside begun T _ _ h = aside_none
+
+newest_aside : (begun : List (List ℕ)) (T : Tree) (h : History cgroups) → AreOnLine begun → IsAside (newest_notes begun T h)
+newest_aside begun T [] on = aside_none
+newest_aside begun T (r ∷ h) on = record_aside begun T r.request r.answer on
+
+notes_aside : (is_wanted : Bool) (n : ℕ) (begun : List (List ℕ)) (c : CoreState) → AreOnLine begun → IsAside (notes_text is_wanted n begun c)
+notes_aside is_wanted n begun c on = aside_where (is_wanted && nat_lt n (length c.history)) _ (newest_aside begun (tree_now c) c.history on)
 
 -- ---- all lines
 
@@ -217,18 +249,21 @@ record LeavesPlain (s t : Explainer) (lines : List (List ℕ)) (told : List ℕ)
   answered : EachAnswers Answers s.player lines plain t.player
   left : (rest : List ℕ) → without_comments (told ++ rest) ≡ plain ++ without_comments rest
 
-leaves_plain : (lines : List (List ℕ)) (s t : Explainer) (told : List ℕ) → AllByRecursion IsOnLine lines → EachAnswers Explains s lines told t → LeavesPlain s t lines told
-leaves_plain [] s t told on h = record {
+leaves_plain : (lines : List (List ℕ)) (s t : Explainer) (told : List ℕ) → AreOnLine s.begun → AllByRecursion IsOnLine lines → EachAnswers Explains s lines told t → LeavesPlain s t lines told
+leaves_plain [] s t told began on h = record {
   plain = [];
   answered = (refl, ap (λ (e : Explainer). e.player) h.1);
   left = λ rest. ap (λ x. without_comments (x ++ rest)) h.0;
 }
-leaves_plain (line ∷ lines) s t told on h =
+leaves_plain (line ∷ lines) s t told began on h =
     let first : List ℕ = h.0 in
     let others : List ℕ = h.1 in
     let u : Explainer = h.2 in
     let e = h.3 in
-    let more : LeavesPlain u t lines others = leaves_plain lines u t others on.1 h.4 in
+    let begun : AreOnLine u.begun =
+    subst (λ (x : Explainer). AreOnLine x.begun) (sym e.3) (still_on_line s.begun (behind_answer s e.1 (shown_line line) e.0).lines (shown_line line) e.0 began (shown_on_line line on.0))
+    in
+    let more : LeavesPlain u t lines others = leaves_plain lines u t others begun on.1 h.4 in
     let here : u.player ≡ e.1 = ap (λ (x : Explainer). x.player) e.3 in record {
       plain = e.0 ++ more.plain;
       answered = (e.0, more.plain, e.1, e.2, subst (λ r. EachAnswers Answers r lines more.plain t.player) here more.answered, refl);
@@ -236,16 +271,16 @@ leaves_plain (line ∷ lines) s t told on h =
           ap (λ x. without_comments (x ++ rest)) h.5
           ∙ ap without_comments (append_assoc first others rest)
           ∙ ap (λ x. without_comments (x ++ (others ++ rest))) e.4
-          ∙ ap without_comments (append_assoc (told_text u (shown_line line) e.0) (notes_text s.comments.explain (length s.player.core.history) e.1.core) (others ++ rest))
-          ∙ told_left s u e.1 line e.0 (notes_text s.comments.explain (length s.player.core.history) e.1.core ++ (others ++ rest)) on.0 e.2
-          ∙ ap (λ x. e.0 ++ x) (notes_aside s.comments.explain (length s.player.core.history) e.1.core (others ++ rest))
+          ∙ ap without_comments (append_assoc (told_text u (shown_line line) e.0) (notes_text s.comments.explain (length s.player.core.history) u.begun e.1.core) (others ++ rest))
+          ∙ told_left s u e.1 line e.0 (notes_text s.comments.explain (length s.player.core.history) u.begun e.1.core ++ (others ++ rest)) on.0 e.2
+          ∙ ap (λ x. e.0 ++ x) (notes_aside s.comments.explain (length s.player.core.history) u.begun e.1.core begun (others ++ rest))
           ∙ ap (λ x. e.0 ++ x) (more.left rest)
           ∙ sym (append_assoc e.0 more.plain (without_comments rest));
     }
 
 pub comments_stand_aside : CommentsStandAside
 comments_stand_aside comments T limit text is_refused out o =
-    let left = leaves_plain (lines_of text) _ o.last o.told (lines_on_line text) o.answered in
+    let left = leaves_plain (lines_of text) (opened_with comments T limit) o.last o.told tt (lines_on_line text) o.answered in
     let plain : without_comments o.told ≡ left.plain = ap without_comments (sym (append-nil o.told)) ∙ left.left [] ∙ append-nil left.plain in (
       o.told,
       ending_text o.last.player.core,

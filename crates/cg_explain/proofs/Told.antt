@@ -48,21 +48,22 @@ last_of_all (r ∷ q ∷ rs) d some =
           ∙ sym (ap (λ k. r ∷ (more.0 ++ get_or (r ∷ q ∷ rs) k d ∷ [])) there),
     )
 
-pub newest_told : (T : Tree) (rs : List Record) (d : Record) → 0 < length rs → newest_notes T (history_of rs) ≡ record_notes T (request_of (get_or rs (length rs - 1) d).request) (answer_of (get_or rs (length rs - 1) d).answer)
-newest_told T rs d some =
+pub newest_told : (begun : List (List ℕ)) (T : Tree) (rs : List Record) (d : Record) → 0 < length rs
+    → newest_notes begun T (history_of rs) ≡ record_notes begun T (request_of (get_or rs (length rs - 1) d).request) (answer_of (get_or rs (length rs - 1) d).answer)
+newest_told begun T rs d some =
     let last = last_of_all rs d some in
-    ap (λ l. newest_notes T (history_of l)) last.1 ∙ ap (newest_notes T) (newest last.0 (get_or rs (length rs - 1) d))
+    ap (λ l. newest_notes begun T (history_of l)) last.1 ∙ ap (newest_notes begun T) (newest last.0 (get_or rs (length rs - 1) d))
 
 -- so many records
 pub as_many : (rs : List Record) (h : History cgroups) → history_of rs ≡ h → length rs ≡ length h
 as_many rs h e = sym (same_length rs) ∙ ap length e
 
 -- what is told of the newest record, where there is one more than before and that is wanted
-pub notes_are : (is_wanted : Bool) (n : ℕ) (c : CoreState) (rs : List Record) (d : Record) (T : Tree) → is_wanted ≡ true → history_of rs ≡ c.history → n < length rs → T ≡ tree_now c
-    → notes_text is_wanted n c ≡ record_notes T (request_of (get_or rs (length rs - 1) d).request) (answer_of (get_or rs (length rs - 1) d).answer)
-notes_are is_wanted n c rs d T wanted h more same =
-    ap (λ b. cond (b && nat_lt n (length c.history)) (newest_notes (tree_now c) c.history) []) wanted
-    ∙ ap (λ b. cond b (newest_notes (tree_now c) c.history) []) (lt-ltb n (length c.history) (subst (λ k. n < k) (as_many rs c.history h) more))
-    ∙ ap (λ t. newest_notes t c.history) (sym same)
-    ∙ ap (newest_notes T) (sym h)
-    ∙ newest_told T rs d (omega (arith, more))
+pub notes_are : (is_wanted : Bool) (n : ℕ) (begun : List (List ℕ)) (c : CoreState) (rs : List Record) (d : Record) (T : Tree) → is_wanted ≡ true → history_of rs ≡ c.history → n < length rs → T ≡ tree_now c
+    → notes_text is_wanted n begun c ≡ record_notes begun T (request_of (get_or rs (length rs - 1) d).request) (answer_of (get_or rs (length rs - 1) d).answer)
+notes_are is_wanted n begun c rs d T wanted h more same =
+    ap (λ b. cond (b && nat_lt n (length c.history)) (newest_notes begun (tree_now c) c.history) []) wanted
+    ∙ ap (λ b. cond b (newest_notes begun (tree_now c) c.history) []) (lt-ltb n (length c.history) (subst (λ k. n < k) (as_many rs c.history h) more))
+    ∙ ap (λ t. newest_notes begun t c.history) (sym same)
+    ∙ ap (newest_notes begun T) (sym h)
+    ∙ newest_told begun T rs d (omega (arith, more))

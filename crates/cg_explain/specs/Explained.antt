@@ -1,14 +1,17 @@
 -- What a schedule's text is answered, over a world, with comments beside the answers.
-use Rattle.std.specs.Prelude.{◌≡◌, ℕ, ◌&&◌, ◌||◌, ◌==◌, Bool, true, false, cond, nat_le, nat_lt, List, [], ◌∷◌, ◌++◌, length, take, codes}
+use Rattle.std.specs.Prelude.{◌≡◌, ℕ, ◌-◌, ◌&&◌, ◌||◌, ◌==◌, Bool, true, false, cond, nat_le, nat_lt, List, [], ◌∷◌, ◌++◌, length, take, get_or, codes}
 use Rattle.std.specs.List.{flat_map}
 use Rattle.std.specs.Fmt.{decimal}
 use Rattle.std.specs.Str.{bytes_eq}
 use Rattle.cg_text.specs.Words.{lines_of}
 use Rattle.cg_core.specs.State.{CoreState}
 use Rattle.cg_model.specs.Cgroups.{cgroups}
+use Rattle.cg_model.specs.Command.{Command}
 use Rattle.cg_model.specs.History.{Answer, Do, History, Refused, Request}
 use Rattle.cg_model.specs.Tree.{Tree}
 use Rattle.cg_lines.specs.Device.{more}
+use Rattle.cg_name.specs.declared.refusal.Refusal.{Refusal}
+use Rattle.cg_name.specs.declared.refusal.Refusal.TheVariants.{Busy}
 use Rattle.cg_script.specs.Request.{newline}
 use Rattle.cg_replay.specs.Answering.{EachAnswers}
 use Rattle.cg_replay.specs.Replay.{Replay, Answers, IsOutput, ending_text, opened, tree_now}
@@ -36,40 +39,73 @@ echo_text is_wanted n line answer = cond (is_wanted && is_some_text answer) (com
 abbrev pub is_refusal : List ℕ → Bool
 is_refusal answer = bytes_eq (take 7 answer) (codes "refused")
 
+-- the answer begins a transaction
+abbrev pub is_beginning : List ℕ → Bool
+is_beginning answer = bytes_eq (take 6 answer) (codes "begun ")
+
+-- ---- the lines that began transactions
+
+-- the n-th line behind those that began transactions before, where this is its answer
+abbrev pub begun_behind : List (List ℕ) → ℕ → List ℕ → List ℕ → List (List ℕ)
+begun_behind begun n line answer = cond (is_beginning answer) (begun ++ (decimal n ++ codes ": " ++ line) ∷ []) begun
+
+-- the line that began this transaction, behind its number; nothing where none did
+abbrev pub begun_line : List (List ℕ) → ℕ → List ℕ
+begun_line begun t = get_or begun (t - 1) []
+
+-- the line that began a transaction
+abbrev pub began_note : ℕ → List ℕ → List ℕ
+began_note t line = comment (codes "transaction " ++ decimal t ++ codes " began on line " ++ line)
+
+-- of a transaction that is in the way that line is told
+abbrev pub busy_note : List (List ℕ) → ℕ → List ℕ
+busy_note begun t = cond (is_some_text (begun_line begun t)) (began_note t (begun_line begun t)) []
+
 -- ---- one line
 
 -- the state behind a line that was answered so, where the schedule stands thus then
-abbrev pub behind_answer : Explainer → Replay → List ℕ → Explainer
-behind_answer s p answer = record { player = p; comments = s.comments; lines = more s.lines; is_refused = s.is_refused || is_refusal answer }
+abbrev pub behind_answer : Explainer → Replay → List ℕ → List ℕ → Explainer
+behind_answer s p line answer = record {
+  player = p;
+  comments = s.comments;
+  lines = more s.lines;
+  is_refused = s.is_refused || is_refusal answer;
+  begun = begun_behind s.begun (more s.lines) line answer;
+}
 
 -- what is written for a line that was answered so, in the state behind it
 abbrev pub told_text : Explainer → List ℕ → List ℕ → List ℕ
 told_text t line answer = echo_text t.comments.echo t.lines line answer ++ answer
 
--- what is told of a record: of a command that the tree refuses what is in its way
-abbrev pub record_notes : Tree → Request cgroups → Answer → List ℕ
-record_notes T (Do c) (Refused r) = command_notes T c r
-record_notes T _ _ = []
+-- what is told of a refused command: who is in the way, or else what is in its way in the tree
+abbrev pub refusal_notes : List (List ℕ) → Tree → Command → Refusal → List ℕ
+refusal_notes begun T c (Busy t) = busy_note begun t.0
+refusal_notes begun T c r = command_notes T c r
+
+-- what is told of a record: of a command that is refused what is in its way
+abbrev pub record_notes : List (List ℕ) → Tree → Request cgroups → Answer → List ℕ
+record_notes begun T (Do c) (Refused r) = refusal_notes begun T c r
+record_notes begun T _ _ = []
 
 -- what is told of the newest record
-abbrev pub newest_notes : Tree → History cgroups → List ℕ
-newest_notes T [] = []
-newest_notes T (r ∷ h) = record_notes T r.request r.answer
+abbrev pub newest_notes : List (List ℕ) → Tree → History cgroups → List ℕ
+newest_notes begun T [] = []
+newest_notes begun T (r ∷ h) = record_notes begun T r.request r.answer
 
 -- behind an answer stands what is told of its record, where that is wanted and there is one: there were n before
-abbrev pub notes_text : Bool → ℕ → CoreState → List ℕ
-notes_text is_wanted n c = cond (is_wanted && nat_lt n (length c.history)) (newest_notes (tree_now c) c.history) []
+abbrev pub notes_text : Bool → ℕ → List (List ℕ) → CoreState → List ℕ
+notes_text is_wanted n begun c = cond (is_wanted && nat_lt n (length c.history)) (newest_notes begun (tree_now c) c.history) []
 
 -- a line is answered as it always is, with comments beside that
 abbrev pub Explains : Explainer → List ℕ → List ℕ → Explainer → Type 0
 Explains s line out t =
-    (answer : List ℕ) × (p : Replay) × Answers s.player line answer p × (t ≡ behind_answer s p answer)
-    × (out ≡ told_text t (shown_line line) answer ++ notes_text s.comments.explain (length s.player.core.history) p.core)
+    (answer : List ℕ) × (p : Replay) × Answers s.player line answer p × (t ≡ behind_answer s p (shown_line line) answer)
+    × (out ≡ told_text t (shown_line line) answer ++ notes_text s.comments.explain (length s.player.core.history) t.begun p.core)
 
 -- ---- a whole text
 
 abbrev pub opened_with : Comments → Tree → ℕ → Explainer
-opened_with comments T l = record { player = opened T l; comments = comments; lines = 0; is_refused = false }
+opened_with comments T l = record { player = opened T l; comments = comments; lines = 0; is_refused = false; begun = [] }
 
 -- what is written for a schedule's text from here on, and whether a request was refused
 pub record IsExplainedFrom (s : Explainer) (text : List ℕ) (is_refused : Bool) (out : List ℕ) : Type 0 where

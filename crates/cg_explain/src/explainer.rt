@@ -4,11 +4,12 @@ ghost use Rattle.std.specs.Result.{IsErrOf};
 ghost use Rattle.std.specs.Fmt.{decimal};
 ghost use Rattle.std.specs.Io.KnownBytes.{Appends};
 ghost use Rattle.cg_explain.specs.Comment.{comment};
-ghost use Rattle.cg_explain.specs.Explained.{behind_answer, is_refusal, notes_text, opened_with, shown_line, told_text, Explains};
+ghost use Rattle.cg_explain.specs.Explained.{behind_answer, is_beginning, is_refusal, notes_text, opened_with, shown_line, told_text, Explains};
 ghost use Rattle.cg_lines.specs.Device.{AppendsFront, Failed};
 ghost use Rattle.cg_replay.specs.Replay.{ending_text};
 ghost use Rattle.cg_script.specs.declared.fault.ScriptFault.TheVariants as faults;
 
+use crate::begun::Begun;
 use crate::comment::{append_comment, append_number};
 use crate::notes::append_record_notes;
 use cg_replay::{Answerer, Player, Sink, refuse};
@@ -33,6 +34,7 @@ pub(crate) struct Explainer {
     // How many lines there were, up to 2^64 - 1.
     lines: u64,
     is_refused: bool,
+    begun: Begun,
 }
 
 // By hand, so that whoever drops one calls this, and doesn't drop each thing in it: that makes proofs shorter.
@@ -43,6 +45,7 @@ impl Drop for Explainer {
             comments: _,
             lines: _,
             is_refused: _,
+            begun: _,
         } = self;
     }
 }
@@ -64,6 +67,7 @@ impl Explainer {
             comments,
             lines: 0,
             is_refused: false,
+            begun: Begun::none(alloc),
         })
     }
 
@@ -90,12 +94,16 @@ impl Explainer {
         self.player.write_end(alloc, waiting, sink)
     }
 
-    // Counts a line that was answered so.
-    fn count(&mut self, answer: &[u8])
-        ensures { self.new ≡ behind_answer self.old self.old.player answer.now }
+    // Counts a line that was answered so; `line` is what is shown of it.
+    fn count(&mut self, line: &[u8], answer: &[u8]) -> Result<(), AllocError>
+        ensures { OnOk result (self.new ≡ behind_answer self.old self.old.player line.now answer.now) }
     {
         self.lines = self.lines.saturating_add(1);
         self.is_refused = self.is_refused || is_refusal(answer);
+        if is_beginning(answer) {
+            self.begun.add(self.lines, line)?;
+        }
+        Ok(())
     }
 
     // What is written for the line that was answered so and counted; `line` is what is shown of it.
@@ -115,14 +123,14 @@ impl Explainer {
     // Appends what is told of the record that the last line made, if it made one: there were so many before. After an error, where
     // there is no memory, nothing is said of `out`.
     fn append_notes(&self, before: usize, out: &mut Vec<u8>) -> Result<(), AllocError>
-        ensures { OnOk result (out.new.items ≡ out.old.items ++ notes_text self.now.comments.explain before self.now.player.core) }
+        ensures { OnOk result (out.new.items ≡ out.old.items ++ notes_text self.now.comments.explain before self.now.begun self.now.player.core) }
     {
         let core = self.player.core();
         let records = core.history();
         if !self.comments.explain || records.len() <= before {
             return Ok(());
         }
-        append_record_notes(core.tree(), &records[records.len() - 1], out)
+        append_record_notes(&self.begun, core.tree(), &records[records.len() - 1], out)
     }
 }
 
@@ -138,8 +146,9 @@ impl Answerer for Explainer {
         let before = self.player.core().history().len();
         let mut answer = Vec::new(alloc);
         self.player.answer(alloc, line, &mut answer)?;
-        self.count(answer.as_slice());
-        let mut told = self.told(alloc, shown_line(line), answer.as_slice())?;
+        let shown = shown_line(line);
+        self.count(shown, answer.as_slice())?;
+        let mut told = self.told(alloc, shown, answer.as_slice())?;
         self.append_notes(before, &mut told)?;
         out.extend_from_slice(told.as_slice())?;
         Ok(())
@@ -150,7 +159,7 @@ impl Answerer for Explainer {
         let before = self.player.core().history().len();
         let mut answer = Vec::new(alloc);
         refuse(&mut answer)?;
-        self.count(answer.as_slice());
+        self.count(b"", answer.as_slice())?;
         let mut told = self.told(alloc, b"", answer.as_slice())?;
         self.append_notes(before, &mut told)?;
         out.extend_from_slice(told.as_slice())?;
@@ -174,6 +183,13 @@ fn is_refusal(answer: &[u8]) -> bool
     ensures { result ≡ is_refusal answer.now }
 {
     answer.starts_with(b"refused")
+}
+
+// Whether the answer begins a transaction.
+fn is_beginning(answer: &[u8]) -> bool
+    ensures { result ≡ is_beginning answer.now }
+{
+    answer.starts_with(b"begun ")
 }
 
 // Appends a line with its number, as a comment. After an error, where there is no memory, nothing is said of `out`.

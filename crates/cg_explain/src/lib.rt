@@ -2,6 +2,7 @@
 //! request that is refused.
 #![tactic(auto)]
 
+mod begun;
 mod below;
 mod comment;
 mod explainer;

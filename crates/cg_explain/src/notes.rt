@@ -1,36 +1,78 @@
 //! What is in the way of a command that the tree refuses.
 ghost use Rattle.std.specs.Prelude.{◌≡◌, ◌++◌, OnOk};
 ghost use Rattle.cg_command.specs.Meaning.{command_of};
-ghost use Rattle.cg_explain.specs.Explained.{record_notes};
+ghost use Rattle.cg_explain.specs.Explained.{began_note, busy_note, record_notes, refusal_notes};
 ghost use Rattle.cg_history.specs.Meaning.{answer_of, request_of};
 ghost use Rattle.cg_explain.specs.Notes.{command_notes, computer_note, control_note, group_notes, unavailable_notes};
 
+use crate::begun::Begun;
 use crate::below::{append_children, append_processes};
-use crate::comment::{append_comment, append_note};
+use crate::comment::{append_comment, append_note, append_number};
 use crate::upward::{append_deep, append_lacking, append_many, append_missing};
 use cg_command::Command;
 use cg_history::{Answer, Record, Request};
-use cg_name::{Controller, Path, Refusal};
+use cg_name::{Controller, Path, Refusal, TxnNumber};
 use cg_text::{Controllers, Settings, write_names};
 use cg_tree::{Ancestors, Tree};
 use std::alloc::AllocError;
 
 // Each appends to a text; after an error, where there is no memory, nothing is said of it.
 
-/// Appends what is told of a record: of a command that the tree refuses what is in its way.
+/// Appends what is told of a record: of a command that is refused what is in its way.
 pub(crate) fn append_record_notes(
+    begun: &Begun,
     tree: &Tree,
     newest: &Record,
     out: &mut Vec<u8>,
 ) -> Result<(), AllocError>
-    ensures { OnOk result (out.new.items ≡ out.old.items ++ record_notes tree.now.tree (request_of newest.now.request) (answer_of newest.now.answer)) }
+    ensures { OnOk result (out.new.items ≡ out.old.items ++ record_notes begun.now tree.now.tree (request_of newest.now.request) (answer_of newest.now.answer)) }
 {
     match (&newest.request, &newest.answer) {
         (Request::Do(command), Answer::Refused(refusal)) => {
-            append_command_notes(tree, command, *refusal, out)
+            append_refusal_notes(begun, tree, command, *refusal, out)
         }
         _ => Ok(()),
     }
+}
+
+// Appends who is in the way of a refused command, or else what is in its way in the tree.
+fn append_refusal_notes(
+    begun: &Begun,
+    tree: &Tree,
+    command: &Command,
+    refusal: Refusal,
+    out: &mut Vec<u8>,
+) -> Result<(), AllocError>
+    ensures { OnOk result (out.new.items ≡ out.old.items ++ refusal_notes begun.now tree.now.tree (command_of command.now) refusal) }
+{
+    match refusal {
+        Refusal::Busy(transaction) => append_busy(begun, transaction, out),
+        _ => append_command_notes(tree, command, refusal, out),
+    }
+}
+
+// Appends the line that began the transaction, where one did.
+fn append_busy(begun: &Begun, transaction: TxnNumber, out: &mut Vec<u8>) -> Result<(), AllocError>
+    ensures { OnOk result (out.new.items ≡ out.old.items ++ busy_note begun.now transaction.0) }
+{
+    let line = begun.line(transaction);
+    if line.is_empty() {
+        return Ok(());
+    }
+    append_began(transaction, line, out)
+}
+
+// Appends the line that began a transaction.
+fn append_began(transaction: TxnNumber, line: &[u8], out: &mut Vec<u8>) -> Result<(), AllocError>
+    ensures { OnOk result (out.new.items ≡ out.old.items ++ began_note transaction.0 line.now) }
+{
+    let TxnNumber(number) = transaction;
+    let mut said = Vec::new(*out.allocator());
+    said.extend_from_slice(b"transaction ")?;
+    append_number(number as u64, &mut said)?;
+    said.extend_from_slice(b" began on line ")?;
+    said.extend_from_slice(line)?;
+    append_comment(said.as_slice(), out)
 }
 
 // Appends what is in the way of a command that the tree refuses so.

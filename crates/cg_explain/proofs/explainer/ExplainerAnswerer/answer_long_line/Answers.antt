@@ -20,11 +20,11 @@ returns-clause-ok c =
     let is = c.in_ok-refuse.ensures.ok ∙ ap (λ x. x ++ written) c.new-answer.ensures.items in
     let u = c.count.new.self in
     let n = length c.history-before.result.now in
-    let told = c.in_ok-append_notes.ensures ∙ ap (λ x. x ++ notes_text u.comments.explain n u.player.core) c.in_ok-told.ensures in
+    let told = c.in_ok-append_notes.ensures ∙ ap (λ x. x ++ notes_text u.comments.explain n u.begun u.player.core) c.in_ok-told.ensures in
     let before = as_many c.history-before.result.now c.args.self.now.player.core.history (c.history-before.ensures ∙ ap (λ (k : CoreState). k.history) c.core.ensures) in (
       c.as_slice-3.result.now,
       c.in_ok-extend_from_slice.ensures.items,
       λ line long.
           explains_told c.args.self.now u c.args.self.now.player line written c.as_slice.result.now c.as_slice-2.result.now [] c.as_slice-3.result.now n
-          (long_answered c.args.self.now.player line long) (c.as_slice.ensures.value ∙ is) (c.as_slice-2.ensures.value ∙ is) c.count.ensures (nothing_shown line long) before (c.as_slice-3.ensures.value ∙ told),
+          (long_answered c.args.self.now.player line long) (c.as_slice.ensures.value ∙ is) (c.as_slice-2.ensures.value ∙ is) c.in_ok-count.ensures (nothing_shown line long) before (c.as_slice-3.ensures.value ∙ told),
     )
