@@ -3,22 +3,22 @@ _cgtx() {
     local word=${COMP_WORDS[COMP_CWORD]} before=${COMP_WORDS[COMP_CWORD - 1]} options
     COMPREPLY=()
     if [ "$COMP_CWORD" -eq 1 ]; then
-        mapfile -t COMPREPLY < <(compgen -W 'replay show tree diff plan run check import --help --version' -- "$word")
+        mapfile -t COMPREPLY < <(compgen -W 'replay show tree diff plan run check import --verbose --help --version' -- "$word")
         return
     fi
     case ${COMP_WORDS[1]} in
-    replay) options='--echo --explain --strict --help' ;;
-    show) options='--help' ;;
-    tree) options='--depth --help' ;;
-    diff) options='--help' ;;
-    plan) options='--help' ;;
-    run) options='--workers --tries --history --watch --help' ;;
-    check) options='--as --help' ;;
-    import) options='--online --strict --help' ;;
+    replay) options='--echo --explain --json --strict --verbose --quiet --help' ;;
+    show) options='--verbose --quiet --help' ;;
+    tree) options='--depth --verbose --quiet --help' ;;
+    diff) options='--verbose --quiet --help' ;;
+    plan) options='--shell --root --verbose --quiet --help' ;;
+    run) options='--workers --tries --history --watch --strict --verbose --quiet --help' ;;
+    check) options='--as --verbose --quiet --help' ;;
+    import) options='--online --strict --quiet --help' ;;
     *) return ;;
     esac
     case $before in
-    --depth|--workers|--tries|--watch|--as|--online) return ;;
+    --depth|--root|--workers|--tries|--watch|--as|--online) return ;;
     esac
     if [[ $word == -* ]]; then
         mapfile -t COMPREPLY < <(compgen -W "$options" -- "$word")

@@ -21,12 +21,13 @@ page = None
 
 
 def chosen_cases():
-    """Cases of tests/program, each with its kind: the folders of tests/replays, the shows, the trees, the plans that are found, the
-    imports that leave nothing out, the differences that are told, the checks of tests/checks.toml that are done, and the runs of
-    scripts that leave a history, each of these by one worker and by four, or by one alone where files are watched."""
+    """Cases of tests/program, each with its kind: the folders of tests/replays, a replay told as JSON, the shows, the trees, the
+    plans that are found, the imports that leave nothing out, the differences that are told, the checks of tests/checks.toml
+    that are done, and the runs of scripts that leave a history, each of these by one worker and by four, or by one alone
+    where files are watched."""
     for case in program.cases():
         words = [*program.words_of(case)]
-        if len(words) > MOST_WORDS or is_long(case):
+        if len(words) > MOST_WORDS or is_long(case) or {"-q", "--quiet"} & {*words}:
             continue
         if words[:1] == ["check"] and case.get("status") != 3 and not case["name"].startswith("check of "):
             yield "check", case
@@ -38,6 +39,8 @@ def chosen_cases():
             continue
         if os.path.isdir(f"{program.HERE}/replays/{case['name']}"):
             yield "replay", case
+        elif words[:2] == ["replay", "--json"]:
+            yield "replay as JSON", case
         elif words[:1] in (["show"], ["tree"], ["plan"]) or words[:1] == ["import"] and not {"stderr", "streams"} & {*case}:
             yield words[0], case
         elif words[:3] == ["run", "--workers", "1"] and "h" in case.get("leaves", {}):

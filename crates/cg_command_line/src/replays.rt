@@ -1,4 +1,4 @@
-//! A replay with comments as the words of a command line ask for it.
+//! Replays as the words of a command line ask for them.
 
 /// A schedule that is to be replayed with comments beside the answers, or so that a refused request tells in the status.
 #[derive(Clone, Copy, Debug)]

@@ -7,17 +7,27 @@
 //! and scripts, and where. `cgtx import` writes the world of a mounted tree.
 #![tactic(auto)]
 
+mod colour;
 mod host;
+mod paths;
 mod progress;
+mod reasons;
+mod telling;
 
+use crate::colour::{Coloured, is_coloured};
 use crate::host::{Host, hold_standard};
+use crate::paths::quoted;
 use crate::progress::Progress;
+use crate::reasons::{tell_failures, tell_words};
+use crate::telling::Console;
 use cg_batch::{Watch, Words, run_named};
-use cg_checked_files::{Kind, check_named};
-use cg_command_line::{Asked, Batch, Explained, Import, Unasked, read_command_line};
+use cg_check::Kind;
+use cg_checked_files::check_named;
+use cg_command_line::{Asked, Batch, Explained, Import, Plan, Telling, Unasked, read_command_line};
 use cg_diff::diff_named;
 use cg_explain::{Comments, explain_named};
 use cg_import::import_named;
+use cg_json_replay::json_named;
 use cg_outline::outline_named;
 use cg_plan::{PlanForm, plan_named};
 use cg_program::{FromWrite, ScriptFault, Status, replay_named, show_named, stop};
@@ -27,6 +37,9 @@ use std::rt::Stderr;
 use std::sync::Wait;
 use std::thread::Threads;
 use std::{env, io};
+
+// The status of a run of scripts that didn't all commit, where that was asked for.
+const UNMET: u8 = 1;
 
 fn main(rt: HostRuntime) -> ExitCode {
     hold_standard(&rt);
@@ -48,15 +61,13 @@ fn words(rt: &HostRuntime) -> io::Result<Vec<String>> {
 // Does what the words ask, with threads of `workers` where they ask for any, and gives the status.
 fn run<R: Threads + Wait + Eprint + Sync>(rt: &HostRuntime, workers: &R, words: &[String]) -> u8 {
     match read_command_line(rt, words) {
-        Ok(Asked::Replay { world, schedule }) => replay(rt, world, schedule),
-        Ok(Asked::Explain(how)) => explain(rt, &how),
-        Ok(Asked::Show { world, path, file }) => show(rt, world, path, file),
-        Ok(Asked::Tree { world, depth }) => tree(rt, world, depth),
-        Ok(Asked::Diff { before, after }) => diff(rt, before, after),
-        Ok(Asked::Plan { from, to }) => plan(rt, from, to),
-        Ok(Asked::Run(batch)) => run_batch(rt, workers, &batch),
-        Ok(Asked::Check { kind, files }) => check(rt, kind, files.as_slice()),
-        Ok(Asked::Import(asked)) => import(rt, &asked),
+        Ok(line) => {
+            let console = Console {
+                rt,
+                telling: line.telling,
+            };
+            answer(console, workers, &line.asked)
+        }
         Err(Unasked::Helped) => Status::Done.code(),
         Err(Unasked::Refused) => Status::Refused.code(),
         Err(Unasked::TooManyScripts | Unasked::TooManyWatches) => tell(rt, ScriptFault::Syntax),
@@ -65,22 +76,47 @@ fn run<R: Threads + Wait + Eprint + Sync>(rt: &HostRuntime, workers: &R, words: 
     }
 }
 
+// Does what is asked, and gives the status.
+fn answer<R: Threads + Wait + Eprint + Sync>(
+    console: Console<'_>,
+    workers: &R,
+    asked: &Asked<'_>,
+) -> u8 {
+    match asked {
+        Asked::Replay { world, schedule } => replay(console, world, schedule),
+        Asked::Explain(how) => explain(console, how),
+        Asked::Json {
+            world,
+            schedule,
+            is_strict,
+        } => json(console, world, schedule, *is_strict),
+        Asked::Show { world, path, file } => show(console, world, path, file),
+        Asked::Tree { world, depth } => tree(console, world, *depth),
+        Asked::Diff { before, after } => diff(console, before, after),
+        Asked::Plan(asked) => plan(console, asked),
+        Asked::Run(batch) => run_batch(console, workers, batch),
+        Asked::Check { kind, files } => check(console, *kind, files.as_slice()),
+        Asked::Import(asked) => import(console, asked),
+    }
+}
+
 // Replays what the two words name.
-fn replay(rt: &HostRuntime, world: &str, schedule: &str) -> u8 {
-    let mut out = FromWrite::new(rt.stdout());
-    let mut err = FromWrite::new(rt.stderr());
-    replay_named(rt.alloc(), &Host(rt), world, schedule, &mut out, &mut err)
+fn replay(console: Console<'_>, world: &str, schedule: &str) -> u8 {
+    let rt = console.rt;
+    let (mut out, mut err) = (console.out(), console.err());
+    let status = replay_named(rt.alloc(), &Host(rt), world, schedule, &mut out, &mut err);
+    replayed(console, status, world, schedule)
 }
 
 // Replays as the words ask, with comments.
-fn explain(rt: &HostRuntime, how: &Explained) -> u8 {
-    let mut out = FromWrite::new(rt.stdout());
-    let mut err = FromWrite::new(rt.stderr());
+fn explain(console: Console<'_>, how: &Explained) -> u8 {
+    let rt = console.rt;
+    let (mut out, mut err) = (console.out(), console.err());
     let comments = Comments {
         echo: how.echo,
         explain: how.explain,
     };
-    explain_named(
+    let status = explain_named(
         rt.alloc(),
         &Host(rt),
         how.world,
@@ -89,54 +125,109 @@ fn explain(rt: &HostRuntime, how: &Explained) -> u8 {
         how.strict,
         &mut out,
         &mut err,
-    )
+    );
+    replayed(console, status, how.world, how.schedule)
+}
+
+// Replays what the two words name, and tells of it as JSON.
+fn json(console: Console<'_>, world: &str, schedule: &str, is_strict: bool) -> u8 {
+    let rt = console.rt;
+    let (mut out, mut err) = (console.out(), console.err());
+    let status = json_named(
+        rt.alloc(),
+        &Host(rt),
+        world,
+        schedule,
+        is_strict,
+        &mut out,
+        &mut err,
+    );
+    replayed(console, status, world, schedule)
+}
+
+// The status of a replay of what the words name.
+fn replayed(console: Console<'_>, status: u8, world: &str, schedule: &str) -> u8 {
+    console.ended(status, &[world], Kind::Schedule, &[schedule])
 }
 
 // Shows the file that the words name.
-fn show(rt: &HostRuntime, world: &str, path: &str, file: &str) -> u8 {
-    let mut out = FromWrite::new(rt.stdout());
-    let mut err = FromWrite::new(rt.stderr());
-    show_named(rt.alloc(), &Host(rt), world, path, file, &mut out, &mut err)
+fn show(console: Console<'_>, world: &str, path: &str, file: &str) -> u8 {
+    let rt = console.rt;
+    let (mut out, mut err) = (console.out(), console.err());
+    let Ok(quoted) = quoted(rt.alloc(), path) else {
+        return stop(ScriptFault::Memory, &mut err);
+    };
+    let path = match &quoted {
+        Some(word) => word.as_str(),
+        None => path,
+    };
+    let status = show_named(rt.alloc(), &Host(rt), world, path, file, &mut out, &mut err);
+    if console.telling == Telling::Verbose && status == Status::Refused.code() {
+        if tell_words(rt, path, file) {
+            return status;
+        }
+    }
+    console.ended(status, &[world], Kind::Schedule, &[])
 }
 
-// Shows the groups of the world that the word names.
-fn tree(rt: &HostRuntime, world: &str, depth: u32) -> u8 {
-    let mut out = FromWrite::new(rt.stdout());
-    let mut err = FromWrite::new(rt.stderr());
-    outline_named(rt.alloc(), &Host(rt), world, depth, &mut out, &mut err)
+// Shows the groups of the world that the word names, their paths in bold where a terminal shows them.
+fn tree(console: Console<'_>, world: &str, depth: u32) -> u8 {
+    let rt = console.rt;
+    let mut err = console.err();
+    let status = if is_coloured(rt) {
+        let mut out = FromWrite::new(Coloured::new(rt.stdout()));
+        outline_named(rt.alloc(), &Host(rt), world, depth, &mut out, &mut err)
+    } else {
+        outline_named(
+            rt.alloc(),
+            &Host(rt),
+            world,
+            depth,
+            &mut console.out(),
+            &mut err,
+        )
+    };
+    console.ended(status, &[world], Kind::Schedule, &[])
 }
 
 // Tells what changed from the one world to the other, which the words name.
-fn diff(rt: &HostRuntime, before: &str, after: &str) -> u8 {
-    let mut out = FromWrite::new(rt.stdout());
-    let mut err = FromWrite::new(rt.stderr());
-    diff_named(rt.alloc(), &Host(rt), before, after, &mut out, &mut err)
+fn diff(console: Console<'_>, before: &str, after: &str) -> u8 {
+    let rt = console.rt;
+    let (mut out, mut err) = (console.out(), console.err());
+    let status = diff_named(rt.alloc(), &Host(rt), before, after, &mut out, &mut err);
+    console.ended(status, &[before, after], Kind::Schedule, &[])
 }
 
 // Writes a script that turns the one world into the other, which the words name.
-fn plan(rt: &HostRuntime, from: &str, to: &str) -> u8 {
-    let mut out = FromWrite::new(rt.stdout());
-    let mut err = FromWrite::new(rt.stderr());
-    let form = PlanForm::Script;
-    plan_named(rt.alloc(), &Host(rt), from, to, form, &mut out, &mut err)
+fn plan(console: Console<'_>, asked: &Plan) -> u8 {
+    let rt = console.rt;
+    let (mut out, mut err) = (console.out(), console.err());
+    let (from, to) = (asked.from, asked.to);
+    let form = match asked.shell {
+        Some(root) => PlanForm::Shell { root },
+        None => PlanForm::Script,
+    };
+    let status = plan_named(rt.alloc(), &Host(rt), from, to, form, &mut out, &mut err);
+    console.ended(status, &[from, to], Kind::Schedule, &[])
 }
 
 // Checks the texts that the words name, as of this kind where one is given.
-fn check(rt: &HostRuntime, kind: Option<&str>, files: &[&str]) -> u8 {
-    let mut out = FromWrite::new(rt.stdout());
-    let mut err = FromWrite::new(rt.stderr());
+fn check(console: Console<'_>, kind: Option<&str>, files: &[&str]) -> u8 {
+    let rt = console.rt;
+    let (mut out, mut err) = (console.out(), console.err());
     let kind = kind.and_then(Kind::read);
-    check_named(rt.alloc(), &Host(rt), kind, files, &mut out, &mut err)
+    let status = check_named(rt.alloc(), &Host(rt), kind, files, &mut out, &mut err);
+    // As of schedules, of which no fault is told once more.
+    console.ended(status, &[], Kind::Schedule, files)
 }
 
 // Prints the world of a mounted tree.
-fn import(rt: &HostRuntime, asked: &Import) -> u8 {
-    let host = Host(rt);
-    let mut out = FromWrite::new(rt.stdout());
-    let mut err = FromWrite::new(rt.stderr());
+fn import(console: Console<'_>, asked: &Import) -> u8 {
+    let host = Host(console.rt);
+    let (mut out, mut err) = (console.out(), console.err());
     let (root, online) = (asked.root, asked.online);
     import_named(
-        rt.alloc(),
+        console.rt.alloc(),
         &host,
         root,
         online,
@@ -148,25 +239,25 @@ fn import(rt: &HostRuntime, asked: &Import) -> u8 {
 
 // Runs the scripts that the words name.
 fn run_batch<R: Threads + Wait + Eprint + Sync>(
-    rt: &HostRuntime,
+    console: Console<'_>,
     workers: &R,
     batch: &Batch,
 ) -> u8 {
+    let rt = console.rt;
     let mut watches = match watches(rt, batch.watches.as_slice()) {
         Ok(watches) => watches,
-        Err(fault) => return tell(rt, fault),
+        Err(fault) => return stop(fault, &mut console.err()),
     };
+    let scripts = batch.scripts.as_slice();
     let words = Words {
         world: batch.world,
-        scripts: batch.scripts.as_slice(),
+        scripts,
         history: batch.history,
     };
-    // The line of the progress is rewritten, and would stand between those of watches.
-    let is_shown = watches.is_empty() && rt.stderr().is_terminal();
-    let progress = Progress::new(workers, is_shown, batch.scripts.len());
-    let mut out = FromWrite::new(rt.stdout());
-    let mut err = FromWrite::new(rt.stderr());
-    run_named(
+    let is_shown = shows_progress(console, watches.as_slice());
+    let mut progress = Progress::new(workers, rt.alloc(), is_shown, scripts.len());
+    let (mut out, mut err) = (console.out(), console.err());
+    let status = run_named(
         workers,
         rt.alloc(),
         &mut Host(rt),
@@ -177,7 +268,21 @@ fn run_batch<R: Threads + Wait + Eprint + Sync>(
         batch.tries,
         &mut out,
         &mut err,
-    )
+    );
+    if status == Status::Done.code() {
+        if console.telling == Telling::Verbose {
+            tell_failures(rt, scripts, progress.failures());
+        }
+        if batch.is_strict && !progress.are_all_committed() {
+            return UNMET;
+        }
+    }
+    console.ended(status, &[batch.world], Kind::Script, scripts)
+}
+
+// Whether a terminal shows how far a run is. Its line is rewritten, and would stand between those of watches.
+fn shows_progress<S>(console: Console<'_>, watches: &[Watch<S>]) -> bool {
+    watches.is_empty() && console.telling != Telling::Quiet && console.rt.stderr().is_terminal()
 }
 
 // The watches of the files that the words name.
