@@ -63,8 +63,7 @@ fn append_pid(pid: u32, out: &mut Vec<u8>) -> Result<(), AllocError>
     append_number(pid as u64, out)
 }
 
-/// Appends the first children of the group, or of those that pass the controller on where one is asked for. It goes over all
-/// groups.
+/// Appends the first children of the group, or of those that pass the controller on where one is asked for.
 pub(crate) fn append_children(
     tree: &Tree,
     path: &Path,
@@ -75,15 +74,14 @@ pub(crate) fn append_children(
 {
     let said = child_said(*out.allocator(), wanted)?;
     let mut left = MOST_NAMED;
-    for (child, settings) in tree.present_groups(*out.allocator())? {
-        left = append_wanted(path, wanted, &child, &settings, said.as_slice(), left, out)?;
+    for (child, settings) in tree.children(*out.allocator(), path)? {
+        left = append_wanted(wanted, &child, &settings, said.as_slice(), left, out)?;
     }
     Ok(())
 }
 
-// Appends what is said of the group, where it is wanted and so many more are told; and gives how many more are told then.
+// Appends what is said of the child, where it is wanted and so many more are told; and gives how many more are told then.
 fn append_wanted(
-    path: &Path,
     wanted: Option<Controller>,
     child: &PathRef<'_>,
     settings: &Settings,
@@ -91,10 +89,10 @@ fn append_wanted(
     left: usize,
     out: &mut Vec<u8>,
 ) -> Result<usize, AllocError>
-    ensures { IfOk result (λ rest. (groups : List (Path × Settings)) → out.new.items ++ first_notes (is_wanted path.now wanted) said.now rest groups
-        ≡ out.old.items ++ first_notes (is_wanted path.now wanted) said.now left ((child.now, settings.now) ∷ groups)) }
+    ensures { IfOk result (λ rest. (others : List (Path × Settings)) → out.new.items ++ first_notes (is_wanted wanted) said.now rest others
+        ≡ out.old.items ++ first_notes (is_wanted wanted) said.now left ((child.now, settings.now) ∷ others)) }
 {
-    if left == 0 || !is_wanted(path, wanted, child, settings) {
+    if left == 0 || !is_wanted(wanted, settings) {
         return Ok(left);
     }
     append_child(child, said, out)?;
@@ -116,19 +114,13 @@ fn child_said(alloc: Global, wanted: Option<Controller>) -> Result<Vec<u8>, Allo
     Ok(said)
 }
 
-// Whether the group is a child of the one at the path, and passes the controller on where one is asked for.
-fn is_wanted(
-    path: &Path,
-    wanted: Option<Controller>,
-    child: &PathRef<'_>,
-    settings: &Settings,
-) -> bool
-    ensures { result ≡ is_wanted path.now wanted (child.now, settings.now) }
+// Whether a child with these settings passes the controller on, where one is asked for.
+fn is_wanted(wanted: Option<Controller>, settings: &Settings) -> bool
+    ensures { (path : Path) → result ≡ is_wanted wanted (path, settings.now) }
 {
-    let is_child = child.begins_with(path) && child.depth() == path.depth() + 1;
     match wanted {
-        None => is_child,
-        Some(controller) => is_child && settings.control.contains(controller),
+        None => true,
+        Some(controller) => settings.control.contains(controller),
     }
 }
 

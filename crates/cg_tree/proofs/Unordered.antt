@@ -10,13 +10,13 @@ use Rattle.cg_model.specs.Control.{used_below}
 use Rattle.cg_name.specs.Order.{path_cmp_total, path_cmp_exact}
 use Rattle.cg_name.specs.Path.{Path, path_cmp}
 use Rattle.cg_path_tree.specs.declared.node.NodeKey.{NodeKey}
-use Rattle.cg_path_tree.specs.Nodes.{Nodes, HaveOnePath}
+use Rattle.cg_path_tree.specs.Nodes.{Nodes, ArePassing, HaveOnePath}
 use Rattle.cg_text.specs.Controllers.{has, such_that}
 use Rattle.cg_text.specs.declared.controllers.Controllers.{Controllers}
 use Rattle.cg_text.specs.declared.settings.Settings.{Settings}
 use Rattle.cg_tree.specs.declared.entry.Entry.{Entry}
 use Rattle.cg_tree.specs.Entries.{groups_in, path_at, settings_of}
-use Rattle.cg_tree.specs.Listing.{listed, settings_at}
+use Rattle.cg_tree.specs.Listing.{listed, settings_at, AreKeys}
 use Rattle.cg_tree.specs.Present.{present, with_held}
 use Rattle.cg_tree.proofs.Climbing.{at_path}
 use Rattle.cg_tree.proofs.Presence.{get-present}
@@ -52,6 +52,17 @@ are_where n test ks one both has = record {
   each = λ i k at. (has k).0 (i, slice_get_within ks i k at, get_or_from_slice_get ks i k k at);
   all = λ q k passes held. let at = (has k).1 (q, held, passes) in (at.0, slice_get_read ks (length ks) at.0 k refl at.1 (sym at.2));
 }
+
+-- they are just the nodes of the paths that pass
+pub where_pass : (n : Nodes Entry) (test : Path → Bool) (ks : List NodeKey) → AreWhere n test ks → ArePassing n.keys test ks
+where_pass n test ks w q k is = (
+  λ e. let at = w.all q k e is in (at.0, slice_get_within ks at.0 k at.1, get_or_from_slice_get ks at.0 k k at.1),
+  λ has. let f = w.each has.0 k (slice_get_read ks _ has.0 k refl has.1 (sym has.2)) in ap test (w.one_path q f.0 k is f.1) ∙ f.2,
+)
+
+-- and nodes
+pub where_keys : (n : Nodes Entry) (test : Path → Bool) (ks : List NodeKey) → AreWhere n test ks → AreKeys n ks
+where_keys n test ks w i k at = let f = w.each i k at in (f.0, f.1)
 
 module _ (n : Nodes Entry) (t : Path × Settings → Bool) where
   any_with : (p : Path) (w : Option Settings) (rest : List (Path × Settings)) → list_any t (with_held p w rest) ≡ true → ((s : Settings) × (w ≡ Some s) × (t (p, s) ≡ true)) ⊎ (list_any t rest ≡ true)

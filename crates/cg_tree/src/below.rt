@@ -19,6 +19,14 @@ impl Tree {
         self.groups().present_groups(alloc)
     }
 
+    /// The children of the group at the path, with their settings, in the order of their names; an error where there is no memory
+    /// for the list. It costs nothing for groups elsewhere.
+    pub fn children(&self, alloc: Global, path: &Path) -> Result<Listed<'_>, AllocError>
+        ensures { IfOk result (λ l. l ≡ children self.now.tree path.now) }
+    {
+        self.groups().children(alloc, path)
+    }
+
     /// The children of the group at the path that ask for CPUs, with their settings, in the order of their names; an error
     /// where there is no memory for the list. Goes over all children, and puts these alone in order.
     pub fn children_with_cpus(&self, alloc: Global, path: &Path) -> Result<Listed<'_>, AllocError>

@@ -189,6 +189,18 @@ impl Groups {
         Ok(Listed::new(&self.nodes, keys))
     }
 
+    // The groups right below the path, in the order of their paths.
+    pub(crate) fn children(&self, alloc: Global, path: &Path) -> Result<Listed<'_>, AllocError>
+        ensures { IfOk result (λ l. l ≡ entries (retain (present self.now.groups) (is_parent path.now))) }
+    {
+        self.nodes.laws();
+        let Some(key) = self.nodes.find(path) else {
+            return Ok(Listed::new(&self.nodes, Vec::new(alloc)));
+        };
+        let keys = self.nodes.sort(alloc, self.nodes.children(key))?;
+        Ok(Listed::new(&self.nodes, keys))
+    }
+
     // The groups right below the path that ask for CPUs, in the order of their paths. Only these are put in order.
     pub(crate) fn children_with_cpus(
         &self,

@@ -6,5 +6,5 @@ use Rattle.cg_explain.proofs.below.append_wanted.Goals as goal
 pub returns : goal.returns
 returns c =
     let some : 0 < c.args.left = search rules in
-    let passes : is_wanted c.args.path.now c.args.wanted (c.args.child.now, c.args.settings.now) ≡ true = search rules in
-    λ groups. told_next (is_wanted c.args.path.now c.args.wanted) c.args.said.now c.args.out.now.items c.append_child.new.out.items c.args.left (c.args.child.now, c.args.settings.now) groups some passes c.in_ok-append_child.ensures
+    let passes : is_wanted c.args.wanted (c.args.child.now, c.args.settings.now) ≡ true = search rules in
+    λ others. told_next (is_wanted c.args.wanted) c.args.said.now c.args.out.now.items c.append_child.new.out.items c.args.left (c.args.child.now, c.args.settings.now) others some passes c.in_ok-append_child.ensures
