@@ -1,1 +1,5 @@
+pub mod Files
 pub mod Imported
+pub mod Mounted
+pub mod Taking
+pub mod Values

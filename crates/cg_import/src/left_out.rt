@@ -1,5 +1,5 @@
 //! What a world can't say, and is left out.
-ghost use Rattle.std.specs.Prelude.{◌≡◌, ◌↔◌, [], IsTrue};
+ghost use Rattle.std.specs.Prelude.{◌≡◌, ◌↔◌, [], IsTrue, OnOk};
 
 use cg_name::Path;
 use std::alloc::{AllocError, Global};
@@ -33,7 +33,9 @@ impl LeftOut {
     }
 
     // One more, of the group at this path.
-    pub(crate) fn add(&mut self, path: &Path, what: &str) -> Result<(), AllocError> {
+    pub(crate) fn add(&mut self, path: &Path, what: &str) -> Result<(), AllocError>
+        ensures { OnOk result (¬ (self.new.lines.items ≡ [])) }
+    {
         path.write(&mut self.lines)?;
         self.lines.extend_from_slice(b": ")?;
         self.lines.extend_from_slice(what.as_bytes())?;

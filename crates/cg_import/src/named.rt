@@ -1,5 +1,5 @@
 //! The world of the tree at a folder that a word names.
-ghost use Rattle.std.specs.Prelude.{◌≡◌, ◌⊎◌, true, is_some, IfErr, IfOk, IfSome};
+ghost use Rattle.std.specs.Prelude.{◌≡◌, ◌⊎◌, true, is_some, IfErr, IfOk, IfSome, MatchOption};
 ghost use Rattle.std.specs.Result.{IsErrOf};
 ghost use Rattle.std.specs.Io.KnownBytes.{Appends};
 ghost use Rattle.cg_cpus.specs.CpuList.{SpellsCpus};
@@ -11,7 +11,8 @@ ghost use Rattle.cg_program.specs.Program.{status_of, fault_line, WritesUnlessFa
 ghost use Rattle.cg_program.specs.declared.status.Status.TheVariants as statuses;
 ghost use Rattle.cg_script.specs.declared.fault.ScriptFault.{ScriptFault};
 ghost use Rattle.cg_script.specs.declared.fault.ScriptFault.TheVariants as faults;
-ghost use Rattle.cg_import.specs.Imported.{IsWorldWith, MayLeaveOut};
+ghost use Rattle.cg_import.specs.Imported.{IsWorldOf, MayLeaveOut};
+ghost use Rattle.cg_import.specs.Mounted.{AreOnline, IsMountedAt, IsWhole};
 
 use crate::folders::Folders;
 use crate::left_out::LeftOut;
@@ -48,8 +49,9 @@ pub fn import_named<P: Folders, O: Sink, E: Sink>(
     out: &mut O,
     err: &mut E,
 ) -> u8
-    // A world is written, with the CPUs that are asked for, and nothing is left out where that isn't allowed;
-    ensures done { result ≡ 0 → (T : Tree) × Sound T × IfSome online.entry (λ list. SpellsCpus list.now T.online) × Appends (O.taken out.old) (O.taken out.new) (world_text T) }
+    // The world of the folders is written, with the CPUs that are asked for, or else those that are online, and nothing is left out where
+    // that isn't allowed;
+    ensures done { result ≡ 0 → (T : Tree) × Sound T × MatchOption online.entry (AreOnline (P.file inputs.now) (P.is_missing inputs.now) root.now T.online) (λ list. SpellsCpus list.now T.online) × Appends (O.taken out.old) (O.taken out.new) (world_text T) × IsMountedAt (P.file inputs.now) (P.is_missing inputs.now) root.now T × (is_strict ≡ true → IsWhole (P.file inputs.now) (P.is_missing inputs.now) root.now T) }
     ensures strict { result ≡ 0 → is_strict ≡ true → err.new ≡ err.old }
 
     // or none;
@@ -78,7 +80,7 @@ fn write_import<P: Folders, O: Sink>(
     is_strict: bool,
     out: &mut O,
 ) -> Result<LeftOut, ScriptFault>
-    ensures done { IfOk result (λ left_out. MayLeaveOut is_strict left_out.lines.items → (T : Tree) × Sound T × IfSome online.entry (λ list. SpellsCpus list.now T.online) × Appends (O.taken out.old) (O.taken out.new) (world_text T)) }
+    ensures done { IfOk result (λ left_out. MayLeaveOut is_strict left_out.lines.items → (T : Tree) × Sound T × MatchOption online.entry (AreOnline (P.file inputs.now) (P.is_missing inputs.now) root.now T.online) (λ list. SpellsCpus list.now T.online) × Appends (O.taken out.old) (O.taken out.new) (world_text T) × IsMountedAt (P.file inputs.now) (P.is_missing inputs.now) root.now T × (is_strict ≡ true → IsWhole (P.file inputs.now) (P.is_missing inputs.now) root.now T)) }
     ensures refused { IfOk result (λ left_out. ¬ (MayLeaveOut is_strict left_out.lines.items) → out.new ≡ out.old) }
     ensures kept { IfErr result (λ e. (out.new ≡ out.old) ⊎ (e ≡ faults.WriteFault)) }
     ensures writes { IsErrOf result faults.WriteFault → Failed (O.failed out.old) (O.failed out.new) }
@@ -134,7 +136,7 @@ fn read_steadily<P: Folders>(
     root: &str,
     online: &Option<CpuSet>,
 ) -> Result<Imported, ScriptFault>
-    ensures world { IfOk result (λ imported. IsWorldWith online.now imported.text.items) }
+    ensures world { IfOk result (λ imported. IsWorldOf (P.file inputs.now) (P.is_missing inputs.now) root.now online.now imported.text.items imported.left_out.lines.items) }
     ensures faults { IfErr result (λ e. (e ≡ faults.Memory) ⊎ (e ≡ faults.ReadFault)) }
 {
     let mut last = read_once(alloc, inputs, root, online)?;
@@ -165,7 +167,7 @@ fn read_once<P: Folders>(
     root: &str,
     online: &Option<CpuSet>,
 ) -> Result<Imported, ScriptFault>
-    ensures world { IfOk result (λ imported. IsWorldWith online.now imported.text.items) }
+    ensures world { IfOk result (λ imported. IsWorldOf (P.file inputs.now) (P.is_missing inputs.now) root.now online.now imported.text.items imported.left_out.lines.items) }
     ensures faults { IfErr result (λ e. (e ≡ faults.Memory) ⊎ (e ≡ faults.ReadFault)) }
 {
     let (tree, left_out) = read_tree(alloc, inputs, root, online)?;
