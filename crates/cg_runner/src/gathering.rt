@@ -1,6 +1,7 @@
 //! What all workers tell, put in order.
-ghost use Rattle.std.specs.Prelude.{◌≡◌, [], ◌∷◌, None, IfOk, OnOk, Some, map};
+ghost use Rattle.std.specs.Prelude.{◌≡◌, ℕ, [], ◌∷◌, None, IfErr, IfOk, OnErr, OnOk, Some, map, slice_get};
 ghost use Rattle.std.specs.List.{AllByRecursion};
+ghost use Rattle.std.specs.Result.{IsErrOf};
 ghost use Rattle.cg_runner.specs.Workers.{told_by, AreEnds, ArePut};
 
 use crate::end::ScriptEnd;
@@ -29,7 +30,8 @@ pub(crate) fn gather(
 
 // Puts each end at its script's place, where there is none yet.
 fn put_all(places: &mut [Option<ScriptEnd>], finished: &[Finished]) -> Result<(), RunFault>
-    ensures { OnOk result (ArePut finished.now places.old places.new) }
+    ensures put { OnOk result (ArePut finished.now places.old places.new) }
+    ensures fault { IfErr result (λ f. f ≡ RunFault.Disagree) }
 {
     for one in finished {
         put(places, one)?;
@@ -37,9 +39,11 @@ fn put_all(places: &mut [Option<ScriptEnd>], finished: &[Finished]) -> Result<()
     Ok(())
 }
 
-// Puts an end at its script's place, where there is none yet.
+// Puts an end at its script's place, where there is none yet; else, and where there is no such place, it is `Disagree`.
 fn put(places: &mut [Option<ScriptEnd>], finished: &Finished) -> Result<(), RunFault>
-    ensures { OnOk result (ArePut (finished.now ∷ []) places.old places.new) }
+    ensures put { OnOk result (ArePut (finished.now ∷ []) places.old places.new) }
+    ensures taken { OnErr result (¬ (slice_get places.old finished.now.place ≡ Some None)) }
+    ensures fault { IfErr result (λ f. f ≡ RunFault.Disagree) }
 {
     let Some(None) = places.get(finished.place) else {
         return Err(RunFault::Disagree);
@@ -48,9 +52,10 @@ fn put(places: &mut [Option<ScriptEnd>], finished: &Finished) -> Result<(), RunF
     Ok(())
 }
 
-// The ends at all places, where each has one.
+// The ends at all places, where each has one; it is `Disagree` only where one has none.
 fn ends_of(alloc: Global, places: &[Option<ScriptEnd>]) -> Result<Vec<ScriptEnd>, RunFault>
-    ensures { IfOk result (λ ends. map Some ends.items ≡ places.now) }
+    ensures ends { IfOk result (λ ends. map Some ends.items ≡ places.now) }
+    ensures missing { IsErrOf result RunFault.Disagree → (i : ℕ) × (slice_get places.now i ≡ Some None) }
 {
     let mut ends = Vec::with_capacity(alloc, places.len())?;
     for place in places {

@@ -76,7 +76,7 @@ fn write_location(
     Ok(())
 }
 
-// Appends the paths of the children that ask for CPUs of the group at the path.
+// Appends the paths of the children of the group at the path that ask for CPUs, and of all, each list with a colon behind it.
 fn write_children(
     alloc: Global,
     tree: &Tree,
@@ -86,6 +86,11 @@ fn write_children(
     for (child, _) in tree.children_with_cpus(alloc, path)? {
         child.write(out)?;
     }
+    out.push(b':')?;
+    for (child, _) in tree.children(alloc, path)? {
+        child.write(out)?;
+    }
+    out.push(b':')?;
     Ok(())
 }
 
@@ -177,7 +182,7 @@ fn write_trees(alloc: Global, out: &mut Vec<u8>) -> Result<(), Refusal> {
 const SHOWN: &str = "/
 /
 
-/
+::/
 10
 11
 10
@@ -190,7 +195,7 @@ const SHOWN: &str = "/
 /
 /a/b
 
-/a//a/a/b/b3c
+/a:/a/b://a/a/b/b3c
 10
 11
 10

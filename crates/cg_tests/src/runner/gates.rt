@@ -15,9 +15,12 @@ impl Gate for Open {
     fn after(&self, _script: u32, _call: u32) {}
 }
 
-/// Holds no call, and counts the scripts that have ended, and how often they were begun.
+/// Holds no call, and counts the calls that were asked for and that were answered, the scripts that have ended, and how often these
+/// were begun.
 #[derive(Drop)]
 pub(crate) struct Counting {
+    pub(crate) asked: AtomicU32,
+    pub(crate) answered: AtomicU32,
     pub(crate) ended: AtomicU32,
     pub(crate) begun: AtomicU32,
 }
@@ -25,6 +28,8 @@ pub(crate) struct Counting {
 impl Counting {
     pub(crate) fn new() -> Counting {
         Counting {
+            asked: AtomicU32::new(0),
+            answered: AtomicU32::new(0),
             ended: AtomicU32::new(0),
             begun: AtomicU32::new(0),
         }
@@ -32,9 +37,13 @@ impl Counting {
 }
 
 impl Gate for Counting {
-    fn before(&self, _script: u32, _call: u32) {}
+    fn before(&self, _script: u32, _call: u32) {
+        self.asked.fetch_add(1, Ordering::SeqCst);
+    }
 
-    fn after(&self, _script: u32, _call: u32) {}
+    fn after(&self, _script: u32, _call: u32) {
+        self.answered.fetch_add(1, Ordering::SeqCst);
+    }
 
     fn ended(&self, _desk: &Desk, _script: u32, end: ScriptEnd) {
         self.ended.fetch_add(1, Ordering::SeqCst);

@@ -36,18 +36,31 @@ fn run<R: Threads + Wait + Sync>(
     })
 }
 
-// How many scripts the gate was told of, and how often these were begun.
-fn told<R: Threads + Wait + Sync>(rt: &R, alloc: Global) -> Result<(u32, u32), Refusal> {
+// What a gate was told: of how many scripts, and how often these were begun.
+fn ends_told(gate: &Counting) -> (u32, u32) {
+    (
+        gate.ended.load(Ordering::SeqCst),
+        gate.begun.load(Ordering::SeqCst),
+    )
+}
+
+// And before and behind how many calls.
+fn calls_told(gate: &Counting) -> (u32, u32) {
+    (
+        gate.asked.load(Ordering::SeqCst),
+        gate.answered.load(Ordering::SeqCst),
+    )
+}
+
+// Whether the gate is told of each script, and of its three calls: Begin, one request, and what ends it.
+fn is_told_of_all<R: Threads + Wait + Sync>(rt: &R, alloc: Global) -> Result<bool, Refusal> {
     let gate = Counting::new();
     let report = run(rt, alloc, &gate)?;
     drop(report);
-    Ok((
-        gate.ended.load(Ordering::SeqCst),
-        gate.begun.load(Ordering::SeqCst),
-    ))
+    Ok(ends_told(&gate) == (4, 4) && calls_told(&gate) == (12, 12))
 }
 
 #[test]
-fn a_gate_is_told_of_each_end_beside_a_watch(rt: HostRuntime) {
-    assert!(rt; told(&rt, rt.alloc()) == Ok((4, 4)));
+fn a_gate_is_told_of_each_call_and_end_beside_a_watch(rt: HostRuntime) {
+    assert!(rt; is_told_of_all(&rt, rt.alloc()) == Ok(true));
 }

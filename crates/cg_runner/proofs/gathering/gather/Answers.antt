@@ -20,7 +20,7 @@ loop-worker-preserved c =
     let new = c.put_all.new.places in
     let put : ArePut w.finished.items old new =
     subst (λ finished. ArePut finished old new) c.as_slice.ensures.value
-    (subst (λ places. ArePut c.as_slice.result.now places new) c.as_mut_slice.ensures.value c.in_ok-put_all.ensures) in
+    (subst (λ places. ArePut c.as_slice.result.now places new) c.as_mut_slice.ensures.value c.in_ok-put_all.ensures.put) in
     let all : ArePut (told_by (take (i + 1) workers)) none new =
     subst (λ finished. ArePut finished none new) (sym (told_behind workers i w c.loop-worker-test.true c.worker-item.is))
     (put_more (told_by (take i workers)) w.finished.items none old new c.loop-worker.invariant.0 put) in
@@ -40,4 +40,4 @@ returns-clause-ends c =
     let whole : take c.loop-worker.worker-index workers ≡ workers = ap (λ k. take k workers) all ∙ take-length workers in
     let put : ArePut (told_by workers) none places = subst (λ ws. ArePut (told_by ws) none places) whole c.loop-worker.invariant.0 in
     IfOk-weaker c.ends_of.result (λ ends. map Some ends.items ≡ c.as_slice-2.result.now) (λ ends. AreEnds c.args.scripts (told_by workers) ends.items)
-    (λ ends is. are_ends c.args.scripts (told_by workers) places ends.items put (is ∙ c.as_slice-2.ensures.value)) c.ends_of.ensures
+    (λ ends is. are_ends c.args.scripts (told_by workers) places ends.items put (is ∙ c.as_slice-2.ensures.value)) c.ends_of.ensures.ends

@@ -11,4 +11,4 @@ loop-one-preserved c =
     subst
     (λ finished. ArePut finished c.args.places.now c.put.new.places)
     (sym (take_more c.args.finished.now i _ c.loop-one-test.true))
-    (put_more (take i c.args.finished.now) (_ ∷ []) c.args.places.now c.loop-one.places c.put.new.places c.loop-one.invariant c.in_ok-put.ensures)
+    (put_more (take i c.args.finished.now) (_ ∷ []) c.args.places.now c.loop-one.places c.put.new.places c.loop-one.invariant c.in_ok-put.ensures.put)
