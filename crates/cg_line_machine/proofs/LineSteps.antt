@@ -1,15 +1,27 @@
 -- What a session's request is given, its line is given, and a replay writes that.
-use Rattle.std.proofs.Common.{◌≡◌, ℕ, List, Option, Some, None, Result, Ok, Err, IfOk, refl, ap, ◌∙◌, subst, inl, inr}
+use Rattle.std.proofs.Common.{ℕ, List, Option, Some, None, Result, Ok, Err, IfOk, refl, sym, ap, subst, inl, inr}
 use Rattle.std.specs.Option.{option_map}
+use Rattle.std.proofs.lemmas.Option.{none-some}
 use Rattle.cg_history.specs.Meaning.{answer_of}
 use Rattle.cg_history.specs.declared.record.Answer as code
 use Rattle.cg_model.specs.Cgroups.{cgroups}
-use Rattle.cg_model.specs.History.{Request, Answer}
-use Rattle.cg_replay.specs.Replay.{Replay, Answers}
+use Rattle.cg_model.specs.History.{Request, Answer, Refused}
+use Rattle.cg_name.specs.declared.refusal.Refusal.TheVariants.{Syntax}
+use Rattle.cg_replay.specs.Replay.{Replay, Answers, IsAnswered}
 use Rattle.cg_script.proofs.OneLine.{line_one}
 use Rattle.cg_script.specs.Request.{SpellsLine}
 use Rattle.cg_script.specs.Turns.{IsOneTooMany}
 use Rattle.cg_line_machine.specs.Steps.{Asked, Steps, line_of}
+
+-- what a player answers is given
+pub asked_answered : (s t : Replay) (n : List ℕ) (r : Request cgroups) (a : Answer) → IsAnswered s n r (Some a) t → Asked s n r (Some a) t
+asked_answered s t n r a (inl h) = inl h
+asked_answered s t n r a (inr h) = absurd (none-some a (sym h.1))
+
+-- and a name too many is refused
+pub asked_too_many : (s t : Replay) (n : List ℕ) (r : Request cgroups) → IsAnswered s n r None t → Asked s n r (Some (Refused Syntax)) t
+asked_too_many s t n r (inl h) = absurd (none-some _ h.1.1)
+asked_too_many s t n r (inr h) = inr (h.0, refl, h.2)
 
 steps_asked : (s t : Replay) (line n : List ℕ) (r : Request cgroups) (given : Option Answer) → SpellsLine line (Some (n, r)) → Asked s n r given t → Steps s line given t
 steps_asked s t line n r given spelled (inl asked) = inr (inl (n, r, asked.0, spelled, asked.1))

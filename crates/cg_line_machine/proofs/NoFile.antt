@@ -1,5 +1,5 @@
 -- Why a file is not told.
-use Rattle.std.proofs.Common.{◌≡◌, ◌≢◌, ◌⊎◌, ℕ, List, Result, Ok, Err, IfErr, refl, sym, ◌∙◌, ap, subst}
+use Rattle.std.proofs.Common.{◌≡◌, ◌≢◌, ◌⊎◌, ℕ, List, Result, Ok, Err, IfErr, refl, sym, ◌∙◌, ap}
 use Rattle.cg_model.specs.File.{file}
 use Rattle.cg_model.specs.Tree.{Tree}
 use Rattle.cg_name.specs.FileName.{file_word}

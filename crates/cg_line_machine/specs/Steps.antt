@@ -7,23 +7,18 @@ use Rattle.cg_model.specs.History.{Request, Answer, Abort, Refused}
 use Rattle.cg_model.specs.Machine.{step}
 use Rattle.cg_model.specs.Opens.{opens}
 use Rattle.cg_name.specs.declared.refusal.Refusal.TheVariants.{Syntax}
-use Rattle.cg_replay.specs.Replay.{Replay}
+use Rattle.cg_replay.specs.Replay.{Replay, IsAnsweredAs}
 use Rattle.cg_script.specs.Answer.{answer_text}
 use Rattle.cg_script.specs.Request.{SpellsLine, newline}
-use Rattle.cg_script.specs.Turns.{IsOneTooMany, session_number, with_name}
+use Rattle.cg_script.specs.Turns.{IsOneTooMany, session_number}
 
 -- A line says nothing, and is given no answer;
 abbrev pub Skips : Replay → List ℕ → Option Answer → Replay → Type 0
 Skips s line given t = SpellsLine line None × (given ≡ None) × (t ≡ s)
 
 -- or it is the request of the session with this number: the machine answers, as that of the definitions does, and goes on;
-abbrev pub AsksAs : Replay → List ℕ → Request cgroups → ℕ → Option Answer → Replay → Type 0
-AsksAs s n r k given t =
-    (session_number s.names n ≡ Some k) × (given ≡ Some (reply s.core k r)) × (t ≡ record { names = with_name s.names n; core = after s.core k r })
-    × (step cgroups (machine s.core) k r ≡ (machine t.core, reply s.core k r))
-
 abbrev pub Asks : Replay → List ℕ → Option Answer → Replay → Type 0
-Asks s line given t = (n : List ℕ) × (r : Request cgroups) × (k : ℕ) × SpellsLine line (Some (n, r)) × AsksAs s n r k given t
+Asks s line given t = (n : List ℕ) × (r : Request cgroups) × (k : ℕ) × SpellsLine line (Some (n, r)) × IsAnsweredAs s n r k given t
 
 -- or it is in the grammar only with a name too many, or not at all, and is refused.
 abbrev pub Fails : Replay → List ℕ → Option Answer → Replay → Type 0
@@ -37,7 +32,7 @@ Steps s line given t = Skips s line given t ⊎ (Asks s line given t ⊎ Fails s
 -- a session's request is answered, or refused since its name is one too many
 abbrev pub Asked : Replay → List ℕ → Request cgroups → Option Answer → Replay → Type 0
 Asked s n r given t =
-    ((k : ℕ) × AsksAs s n r k given t) ⊎ ((session_number s.names n ≡ None) × (given ≡ Some (Refused Syntax)) × (t ≡ s))
+    ((k : ℕ) × IsAnsweredAs s n r k given t) ⊎ ((session_number s.names n ≡ None) × (given ≡ Some (Refused Syntax)) × (t ≡ s))
 
 -- what a replay writes for the line: that of the answer
 abbrev pub line_of : Option Answer → List ℕ

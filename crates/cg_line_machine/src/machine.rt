@@ -22,38 +22,31 @@ ghost use Rattle.cg_name.specs.Refusal.{IsSyntaxOrMemory};
 ghost use Rattle.cg_name.specs.declared.refusal.Refusal.TheVariants as refusals;
 ghost use Rattle.cg_replay.specs.Replay.{Answers, opened, tree_now};
 ghost use Rattle.cg_script.specs.HistoryText.{IsAsked, history_text};
-ghost use Rattle.cg_script.specs.Turns.{session_number, with_name};
 ghost use Rattle.cg_world_text.specs.World.{SpellsWorld, world_text};
 
-use cg_core::{Answer, Core, Request, SessionId};
+use cg_core::{Answer, Request};
 use cg_name::{FileName, Path, Refusal};
+use cg_replay::Player;
 use cg_script::{SessionName, read_line, write_history};
 use cg_world::World;
 use cg_world_text::{ReadWorld, WriteWorld};
-use indexmap::IndexSet;
 use std::alloc::{AllocError, Global};
 use std::marker::Model;
 use std::str::from_utf8;
 
-// The most names of sessions, as in a schedule.
-const MOST_NAMES: usize = 4_096;
-
 /// A machine that is asked by the lines of a schedule, and the names of its sessions in the order in which they first asked.
 pub struct LineMachine {
-    names: IndexSet<SessionName>,
-    core: Core,
+    player: Player,
 }
 
 // By hand, so that whoever drops one calls this, and doesn't drop each thing in it: that makes proofs shorter.
 impl Drop for LineMachine {
     fn drop(self) {
-        let LineMachine { names: _, core: _ } = self;
+        let LineMachine { player: _ } = self;
     }
 }
 
 impl Model for LineMachine {
-    ghost use Rattle.std.specs.Prelude.{◌≤◌};
-    ghost use Rattle.indexmap.specs.IndexSet.{index_set_len};
     ghost use Rattle.cg_replay.specs.Replay.{Replay};
     ghost use Rattle.cg_replay.specs.ReplayCode.{replay_code};
 
@@ -61,9 +54,7 @@ impl Model for LineMachine {
 
     ghost coded = { replay_code };
 
-    ghost view = { λ m. record { names = m.names.keys; core = m.core } };
-
-    ghost invariant = { λ m. index_set_len m.names ≤ 4096 };
+    ghost view = { λ m. m.player };
 }
 
 impl LineMachine {
@@ -77,21 +68,12 @@ impl LineMachine {
         ensures refusals { IfErr result IsSyntaxOrMemory }
     {
         match World::read(alloc, world) {
-            Ok(world) => Ok(LineMachine::over(alloc, world, limit)?),
+            Ok(world) => {
+                let player = Player::open(alloc, world, limit)?;
+                Ok(LineMachine { player })
+            }
             Err(refusal) => Err(refusal),
         }
-    }
-
-    // A machine on a world, which nobody has asked yet.
-    fn over(alloc: Global, world: World, limit: u32) -> Result<LineMachine, AllocError>
-        requires low { 2 ≤ limit }
-        requires high { limit ≤ 1048576 }
-        ensures { IfOk result (λ m. m ≡ opened world limit) }
-    {
-        Ok(LineMachine {
-            names: IndexSet::new(alloc),
-            core: Core::open(alloc, world, limit)?,
-        })
     }
 
     /// Answers a line of a schedule: no answer for a line that says nothing, and the refusal `Syntax` for one outside the grammar,
@@ -119,56 +101,33 @@ impl LineMachine {
         ensures asked { IfOk result (λ a. Asked self.old name (request_of request) (option_map answer_of a) self.new) }
         ensures memory { OnErr result (self.new ≡ self.old) }
     {
-        let known = self.names.len();
-        let Some(session) = self.session(name)? else {
+        let Some(answer) = self.player.ask(alloc, name, request)? else {
             return Ok(Some(Answer::Refused(Refusal::Syntax)));
         };
-        let answer = self.core.step(alloc, session, request);
-        if let Answer::Refused(Refusal::Memory) = answer {
-            self.names.truncate(known);
-            return Err(AllocError);
-        }
         Ok(Some(answer))
-    }
-
-    // The session of this name, which gets the next number where it is new: none where it is one too many.
-    fn session(&mut self, name: SessionName) -> Result<Option<SessionId>, AllocError>
-        ensures number { IfOk result (λ s. option_map (λ k. k.0) s ≡ session_number self.old.names name) }
-        ensures names { IfOk result (λ s. MatchOption s (self.new ≡ self.old) (λ _. self.new ≡ record self.old { names = with_name self.old.names name })) }
-        ensures memory { OnErr result (self.new ≡ self.old) }
-    {
-        if let Some(index) = self.names.get_index_of(&name) {
-            return Ok(Some(SessionId(index as u32 + 1)));
-        }
-        let count = self.names.len();
-        if count >= MOST_NAMES {
-            return Ok(None);
-        }
-        self.names.insert(name)?;
-        Ok(Some(SessionId(count as u32 + 1)))
     }
 
     /// Aborts the open transaction with the least number, as its session's request does; none where no transaction is open. Takes
     /// no memory.
-    pub fn abort_oldest(&mut self, alloc: Global) -> Option<Answer>
+    pub fn abort_oldest(&mut self) -> Option<Answer>
         ensures { AbortsOldest self.old (option_map answer_of result) self.new }
     {
-        let session = self.core.oldest()?;
-        Some(self.core.step(alloc, session, Request::Abort))
+        let session = self.player.core().oldest()?;
+        Some(self.player.abort(session))
     }
 
     /// How many transactions are open.
     pub fn open_count(&self) -> u32
         ensures { result ≡ length (opens self.now.core.history) }
     {
-        self.core.open_count()
+        self.player.core().open_count()
     }
 
     /// How many transactions committed.
     pub fn commit_count(&self) -> u32
         ensures { result ≡ commits self.now.core.history }
     {
-        self.core.commit_count()
+        self.player.core().commit_count()
     }
 
     /// Appends the tree as it stands, as the text of a world. An error, where there is no memory, leaves `out` as it was.
@@ -176,7 +135,7 @@ impl LineMachine {
         ensures ok { OnOk result (out.new.items ≡ out.old.items ++ world_text (tree_now self.now.core)) }
         ensures err { OnErr result (out.new.items ≡ out.old.items) }
     {
-        self.core.tree().write(out)
+        self.player.core().tree().write(out)
     }
 
     /// Appends the text of the history: a schedule that asks for the same again, with each answer in a comment. An error, where
@@ -186,7 +145,7 @@ impl LineMachine {
         ensures asked { OnOk result (AllByRecursion IsAsked self.now.core.history) }
         ensures err { OnErr result (out.new.items ≡ out.old.items) }
     {
-        write_history(self.core.history(), out)
+        write_history(self.player.core().history(), out)
     }
 
     /// The text of an interface file of a group in the tree as it stands: the path of the group and the name of the file are one
@@ -198,7 +157,7 @@ impl LineMachine {
         ensures refused { IfErr result (λ e. e ≢ refusals.Memory → e ≢ refusals.Syntax → IsFileAsked self.now path.now name.now (Err e)) }
     {
         let (path, name) = read_words(alloc, path, name)?;
-        cg_derive::file(alloc, self.core.tree(), &path, name)
+        cg_derive::file(alloc, self.player.core().tree(), &path, name)
     }
 
     /// Tells what holds of any machine, whatever was asked of it: what `Core::laws` says. Does nothing: it is called for what its
@@ -217,7 +176,7 @@ impl LineMachine {
         ensures busy { IsBusyExactly self.now.core.opening (machine self.now.core) }
         ensures commits { AreCommits cgroups self.now.core.opening self.now.core.history }
     {
-        self.core.laws();
+        self.player.core().laws();
     }
 }
 

@@ -110,7 +110,7 @@ impl Teller {
     pub fn abort_oldest(&mut self, alloc: Global) -> Status
         ensures { AbortsTold self.old result self.new }
     {
-        let answer = self.machine.abort_oldest(alloc);
+        let answer = self.machine.abort_oldest();
         self.tell_as(Status::NoneOpen, answer)
     }
 

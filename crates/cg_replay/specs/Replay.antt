@@ -5,10 +5,11 @@ use Rattle.cg_name.specs.declared.refusal.Refusal.TheVariants.{Syntax}
 use Rattle.cg_text.specs.Words.{lines_of}
 use Rattle.cg_model.specs.Tree.{Tree}
 use Rattle.cg_model.specs.Cgroups.{cgroups}
-use Rattle.cg_model.specs.History.{Request, Abort, History}
+use Rattle.cg_model.specs.History.{Request, Answer, Abort, History}
+use Rattle.cg_model.specs.Machine.{step}
 use Rattle.cg_model.specs.Opens.{opens}
 use Rattle.cg_model.specs.Run.{tree_of}
-use Rattle.cg_core.specs.State.{CoreState, reply, after}
+use Rattle.cg_core.specs.State.{CoreState, machine, reply, after}
 use Rattle.cg_world_text.specs.World.{world_text}
 use Rattle.cg_replay.specs.Answering.{EachAnswers, PassedAnswers}
 use Rattle.cg_script.specs.Answer.{answer_text}
@@ -40,6 +41,16 @@ abbrev pub Fails : Replay → List ℕ → List ℕ → Replay → Type 0
 Fails s line out t =
     ((call : Option (List ℕ × Request cgroups)) → SpellsLine line call → IsOneTooMany s.names call)
     × (out ≡ refusal_text Syntax ++ newline) × (t ≡ s)
+
+-- the session with this number is answered by the machine, as that of the definitions answers, and both go on
+abbrev pub IsAnsweredAs : Replay → List ℕ → Request cgroups → ℕ → Option Answer → Replay → Type 0
+IsAnsweredAs s n r k answer t =
+    (session_number s.names n ≡ Some k) × (answer ≡ Some (reply s.core k r)) × (t ≡ record { names = with_name s.names n; core = after s.core k r })
+    × (step cgroups (machine s.core) k r ≡ (machine t.core, reply s.core k r))
+
+-- a session's request is answered so, or its name is one too many
+abbrev pub IsAnswered : Replay → List ℕ → Request cgroups → Option Answer → Replay → Type 0
+IsAnswered s n r answer t = ((k : ℕ) × IsAnsweredAs s n r k answer t) ⊎ ((session_number s.names n ≡ None) × (answer ≡ None) × (t ≡ s))
 
 -- a session's request is answered, or refused since its name is one too many
 abbrev pub Asked : Replay → List ℕ → Request cgroups → List ℕ → Replay → Type 0

@@ -1,5 +1,5 @@
 //! A schedule being played: its sessions' names and the machine.
-ghost use Rattle.std.specs.Prelude.{◌≡◌, ◌⊎◌, ◌≤◌, ◌<◌, ◌++◌, List, ℕ, MatchOption, IfOk, IfErr, OnOk, OnErr, length, take, true, false};
+ghost use Rattle.std.specs.Prelude.{◌≡◌, ◌⊎◌, ◌≤◌, ◌<◌, ◌-◌, ◌++◌, List, ℕ, MatchOption, IfOk, IfErr, OnOk, OnErr, length, slice_get, take, true, false};
 ghost use Rattle.cg_name.specs.declared.refusal.Refusal.TheVariants.{Syntax};
 ghost use Rattle.std.specs.Option.{option_map};
 ghost use Rattle.std.specs.Result.{IsErrOf};
@@ -8,10 +8,14 @@ ghost use Rattle.cg_lines.specs.Device.{AppendsFront, Failed};
 ghost use Rattle.cg_script.specs.declared.fault.ScriptFault.TheVariants as faults;
 ghost use Rattle.cg_name.specs.Refusal.{refusal_text};
 ghost use Rattle.cg_history.specs.Meaning.{answer_of, request_of};
+ghost use Rattle.cg_model.specs.Machine.{step};
 ghost use Rattle.cg_model.specs.Opens.{opens};
 ghost use Rattle.cg_world_text.specs.World.{world_text};
 ghost use Rattle.cg_script.specs.Answer.{answer_text};
-ghost use Rattle.cg_replay.specs.Replay.{Answers, Asked, ending_text, opened, tree_now};
+ghost use Rattle.cg_core.specs.State.{after, machine, reply};
+ghost use Rattle.cg_model.specs.Cgroups.{cgroups};
+ghost use Rattle.cg_model.specs.History.{Abort};
+ghost use Rattle.cg_replay.specs.Replay.{Answers, Asked, IsAnswered, ending_text, opened, tree_now};
 ghost use Rattle.cg_script.specs.Request.{newline};
 ghost use Rattle.cg_script.specs.Turns.{session_number, with_name};
 
@@ -83,7 +87,7 @@ impl Player {
     {
         match read_line(alloc, line) {
             Ok(None) => Ok(()),
-            Ok(Some((name, request))) => self.ask(alloc, name, request, out),
+            Ok(Some((name, request))) => self.tell(alloc, name, request, out),
             Err(Refusal::Syntax) => refuse(out),
             Err(_) => Err(AllocError),
         }
@@ -94,6 +98,86 @@ impl Player {
         ensures { result.now ≡ self.now.core }
     {
         &self.core
+    }
+
+    /// The session of this name, which gets the next number where it is new: none where it is one too many. An error, where there is
+    /// no memory, leaves all as it was.
+    pub fn session(&mut self, name: SessionName) -> Result<Option<SessionId>, AllocError>
+        ensures number { IfOk result (λ s. option_map (λ k. k.0) s ≡ session_number self.old.names name) }
+        ensures names { IfOk result (λ s. MatchOption s (self.new ≡ self.old) (λ _. self.new ≡ record self.old { names = with_name self.old.names name })) }
+        ensures memory { OnErr result (self.new ≡ self.old) }
+    {
+        if let Some(index) = self.names.get_index_of(&name) {
+            return Ok(Some(SessionId(index as u32 + 1)));
+        }
+        let count = self.names.len();
+        if count >= MOST_NAMES {
+            return Ok(None);
+        }
+        self.names.insert(name)?;
+        Ok(Some(SessionId(count as u32 + 1)))
+    }
+
+    /// The name of the session with this number, where one has it.
+    pub fn name_of(&self, session: SessionId) -> Option<SessionName>
+        ensures { result ≡ slice_get self.now.names (session.0 - 1) }
+    {
+        self.names
+            .get_index(session.0.saturating_sub(1) as usize)
+            .copied()
+    }
+
+    /// Answers the request of the session with this name: no answer where that is one too many. An error, where there is no memory,
+    /// leaves all as it was.
+    pub fn ask(
+        &mut self,
+        alloc: Global,
+        name: SessionName,
+        request: Request,
+    ) -> Result<Option<Answer>, AllocError>
+        ensures asked { IfOk result (λ a. IsAnswered self.old name (request_of request) (option_map answer_of a) self.new) }
+        ensures memory { OnErr result (self.new ≡ self.old) }
+    {
+        let known = self.names.len();
+        let Some(session) = self.session(name)? else {
+            return Ok(None);
+        };
+        match self.step(alloc, session, request) {
+            Ok(answer) => Ok(Some(answer)),
+            Err(AllocError) => {
+                self.names.truncate(known);
+                Err(AllocError)
+            }
+        }
+    }
+
+    /// Answers the request of the session with this number. An error, where there is no memory, leaves all as it was.
+    pub fn step(
+        &mut self,
+        alloc: Global,
+        session: SessionId,
+        request: Request,
+    ) -> Result<Answer, AllocError>
+        ensures answer { IfOk result (λ a. answer_of a ≡ reply self.old.core session.0 (request_of request)) }
+        ensures state { OnOk result (self.new ≡ record self.old { core = after self.old.core session.0 (request_of request) }) }
+        ensures machine { OnOk result (step cgroups (machine self.old.core) session.0 (request_of request) ≡ (machine self.new.core, reply self.old.core session.0 (request_of request))) }
+        ensures memory { OnErr result (self.new ≡ self.old) }
+    {
+        let answer = self.core.step(alloc, session, request);
+        if let Answer::Refused(Refusal::Memory) = answer {
+            return Err(AllocError);
+        }
+        Ok(answer)
+    }
+
+    /// Answers the abort of the session with this number. Takes no memory.
+    pub fn abort(&mut self, session: SessionId) -> Answer
+        ensures answer { answer_of result ≡ reply self.old.core session.0 Abort }
+        ensures state { self.new ≡ record self.old { core = after self.old.core session.0 Abort } }
+        ensures machine { step cgroups (machine self.old.core) session.0 Abort ≡ (machine self.new.core, reply self.old.core session.0 Abort) }
+    {
+        let (answer, _) = self.core.step_without_memory(session, Request::Abort);
+        answer
     }
 
     /// Writes what waits, and then what the end of the schedule is answered.
@@ -120,21 +204,21 @@ impl Player {
         ensures err { OnErr result (out.new.items ≡ out.old.items) }
     {
         let start = out.len();
-        let ended = self.append_end(alloc, out);
+        let ended = self.append_end(out);
         or_truncate(ended, start, out)
     }
 
     // The same, where an error leaves what stood there at the front.
-    fn append_end(&mut self, alloc: Global, out: &mut Vec<u8>) -> Result<(), AllocError>
+    fn append_end(&mut self, out: &mut Vec<u8>) -> Result<(), AllocError>
         ensures ok { OnOk result (out.new.items ≡ out.old.items ++ ending_text self.old.core) }
         ensures kept { OnErr result (take (length out.old.items) out.new.items ≡ out.old.items) }
     {
-        'ends: while self.append_abort(alloc, out)? {}
+        'ends: while self.append_abort(out)? {}
         self.core.tree().write(out)
     }
 
     // Aborts the open transaction with the least number, and appends the answer's line. False where none is open.
-    fn append_abort(&mut self, alloc: Global, out: &mut Vec<u8>) -> Result<bool, AllocError>
+    fn append_abort(&mut self, out: &mut Vec<u8>) -> Result<bool, AllocError>
         ensures aborted { IfOk result (λ more. more ≡ true → (line : List ℕ) × (out.new.items ≡ out.old.items ++ line) × (ending_text self.old.core ≡ line ++ ending_text self.new.core)) }
         ensures ended { IfOk result (λ more. more ≡ false → (self.new ≡ self.old) × (out.new.items ≡ out.old.items) × (ending_text self.old.core ≡ world_text (tree_now self.old.core))) }
         ensures fewer { IfOk result (λ more. more ≡ true → length (opens self.new.core.history) < length (opens self.old.core.history)) }
@@ -144,29 +228,13 @@ impl Player {
             return Ok(false);
         };
         self.core.laws();
-        let answer = self.core.step(alloc, session, Request::Abort);
+        let answer = self.abort(session);
         end_line(&answer, out)?;
         Ok(true)
     }
 
-    // The session of this name, which gets the next number where it is new: none where it is one too many.
-    fn session(&mut self, name: SessionName) -> Result<Option<SessionId>, AllocError>
-        ensures number { IfOk result (λ s. option_map (λ k. k.0) s ≡ session_number self.old.names name) }
-        ensures names { IfOk result (λ s. MatchOption s (self.new ≡ self.old) (λ _. self.new ≡ record self.old { names = with_name self.old.names name })) }
-    {
-        if let Some(index) = self.names.get_index_of(&name) {
-            return Ok(Some(SessionId(index as u32 + 1)));
-        }
-        let count = self.names.len();
-        if count >= MOST_NAMES {
-            return Ok(None);
-        }
-        self.names.insert(name)?;
-        Ok(Some(SessionId(count as u32 + 1)))
-    }
-
     // Answers a session's request.
-    fn ask(
+    fn tell(
         &mut self,
         alloc: Global,
         name: SessionName,
@@ -176,14 +244,10 @@ impl Player {
         ensures ok { OnOk result ((written : List ℕ) × (out.new.items ≡ out.old.items ++ written) × Asked self.old name (request_of request) written self.new) }
         ensures err { OnErr result (out.new.items ≡ out.old.items) }
     {
-        let Some(session) = self.session(name)? else {
-            return refuse(out);
-        };
-        let answer = self.core.step(alloc, session, request);
-        if let Answer::Refused(Refusal::Memory) = answer {
-            return Err(AllocError);
+        match self.ask(alloc, name, request)? {
+            Some(answer) => end_line(&answer, out),
+            None => refuse(out),
         }
-        end_line(&answer, out)
     }
 }
 

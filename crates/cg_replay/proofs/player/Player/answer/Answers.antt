@@ -10,9 +10,9 @@ pub returns-in-Ok-Some-clause-ok : goal.returns-in-Ok-Some-clause-ok
 returns-in-Ok-Some-clause-ok c =
     let s = c.args.self.now in
     let spelled = subst (λ call. SpellsLine c.args.line.now (option_map (λ k. (k.0, request_of k.1)) call)) c.in-Ok-Some.field-0-is c.in-Ok-Some.ensures.value in
-    on_ok_map c.ask.result
-    (λ w. (w.0, w.1, answers_asked s c.ask.new.self c.args.line.now c.in-Ok-Some.name w.0 (request_of c.in-Ok-Some.request) spelled w.2))
-    c.ask.ensures.ok
+    on_ok_map c.tell.result
+    (λ w. (w.0, w.1, answers_asked s c.tell.new.self c.args.line.now c.in-Ok-Some.name w.0 (request_of c.in-Ok-Some.request) spelled w.2))
+    c.tell.ensures.ok
 
 pub returns-in-Err-Syntax-clause-ok : goal.returns-in-Err-Syntax-clause-ok
 returns-in-Err-Syntax-clause-ok c =
