@@ -3,30 +3,32 @@ use Rattle.std.proofs.Common.{◌≡◌, ℕ, ◌+◌, ◌<◌, List, [], ◌∷
 use Rattle.std.specs.List.{AllZip}
 use Rattle.std.proofs.lemmas.List.{take_more}
 use Rattle.std.proofs.lemmas.Slice.Zip.{all_zipped_more}
+use Rattle.cg_json.specs.declared.form.Form.{Form}
 use Rattle.cg_runner.specs.declared.end.ScriptEnd.{ScriptEnd}
 use Rattle.cg_batch.specs.Ends.{end_line, end_lines}
 
 -- the lines of ends and of one more
-lines_more : (n : ℕ) (es : List ScriptEnd) (e : ScriptEnd) → end_lines n (es ++ e ∷ []) ≡ end_lines n es ++ end_line (n + length es) e
-lines_more n [] e = append-nil (end_line n e) ∙ ap (λ k. end_line k e) (omega arith)
-lines_more n (x ∷ es) e =
-    ap (λ t. end_line n x ++ t) (lines_more (n + 1) es e)
-    ∙ sym (append_assoc (end_line n x) (end_lines (n + 1) es) (end_line (n + 1 + length es) e))
-    ∙ ap (λ k. (end_line n x ++ end_lines (n + 1) es) ++ end_line k e) (omega arith)
+lines_more : (form : Form) (n : ℕ) (es : List ScriptEnd) (e : ScriptEnd) → end_lines form n (es ++ e ∷ []) ≡ end_lines form n es ++ end_line form (n + length es) e
+lines_more form n [] e = append-nil (end_line form n e) ∙ ap (λ k. end_line form k e) (omega arith)
+lines_more form n (x ∷ es) e =
+    ap (λ t. end_line form n x ++ t) (lines_more form (n + 1) es e)
+    ∙ sym (append_assoc (end_line form n x) (end_lines form (n + 1) es) (end_line form (n + 1 + length es) e))
+    ∙ ap (λ k. (end_line form n x ++ end_lines form (n + 1) es) ++ end_line form k e) (omega arith)
 
-lines_next : (es : List ScriptEnd) (i : ℕ) (d : ScriptEnd) → i < length es → end_lines 1 (take (i + 1) es) ≡ end_lines 1 (take i es) ++ end_line (i + 1) (get_or es i d)
-lines_next es i d inside =
-    ap (end_lines 1) (take_more es i d inside)
-    ∙ lines_more 1 (take i es) (get_or es i d)
-    ∙ ap (λ k. end_lines 1 (take i es) ++ end_line k (get_or es i d)) (omega (arith, length-take i es))
+lines_next : (form : Form) (es : List ScriptEnd) (i : ℕ) (d : ScriptEnd) → i < length es → end_lines form 1 (take (i + 1) es) ≡ end_lines form 1 (take i es) ++ end_line form (i + 1) (get_or es i d)
+lines_next form es i d inside =
+    ap (end_lines form 1) (take_more es i d inside)
+    ∙ lines_more form 1 (take i es) (get_or es i d)
+    ∙ ap (λ k. end_lines form 1 (take i es) ++ end_line form k (get_or es i d)) (omega (arith, length-take i es))
 
 -- a text of so many lines, and of one more
-pub lines_step : (es : List ScriptEnd) (i n : ℕ) (d : ScriptEnd) (old new : List ℕ) → i < length es → n ≡ i → old ≡ end_lines 1 (take i es) → new ≡ old ++ end_line (n + 1) (get_or es i d) → new ≡ end_lines 1 (take (i + 1) es)
-lines_step es i n d old new inside same before now =
+pub lines_step : (form : Form) (es : List ScriptEnd) (i n : ℕ) (d : ScriptEnd) (old new : List ℕ)
+    → i < length es → n ≡ i → old ≡ end_lines form 1 (take i es) → new ≡ old ++ end_line form (n + 1) (get_or es i d) → new ≡ end_lines form 1 (take (i + 1) es)
+lines_step form es i n d old new inside same before now =
     now
-    ∙ ap (λ m. old ++ end_line (m + 1) (get_or es i d)) same
-    ∙ ap (λ t. t ++ end_line (i + 1) (get_or es i d)) before
-    ∙ sym (lines_next es i d inside)
+    ∙ ap (λ m. old ++ end_line form (m + 1) (get_or es i d)) same
+    ∙ ap (λ t. t ++ end_line form (i + 1) (get_or es i d)) before
+    ∙ sym (lines_next form es i d inside)
 
 -- the second list grows by what fits the next item of the first
 pub zip_next : {A B : Type 0} (R : A → B → Type 0) (xs : List A) (ys : List B) (i : ℕ) (d : A) (y : B) → i < length xs → AllZip R (take i xs) ys → R (get_or xs i d) y → AllZip R (take (i + 1) xs) (ys ++ y ∷ [])

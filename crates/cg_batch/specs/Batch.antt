@@ -2,10 +2,14 @@
 use Rattle.std.specs.Prelude.{◌≡◌, ◌<◌, ◌≤◌, ◌⊎◌, ℕ, Bool, true, false, List, ◌++◌, length, Option, Some, None, IfSome, ⊤}
 use Rattle.std.specs.List.{AllZip, Any}
 use Rattle.std.specs.Io.KnownBytes.{Appends}
+use Rattle.cg_json.specs.declared.form.Form.{Form}
+use Rattle.cg_json.specs.declared.form.Form.TheVariants.{Plain, Json}
+use Rattle.cg_json_world.specs.WorldValue.{world_line}
 use Rattle.cg_name.specs.declared.refusal.Refusal.{Refusal}
 use Rattle.cg_name.specs.declared.refusal.Refusal.TheVariants.{Syntax, Memory, Disagree, ReadFault, WriteFault}
 use Rattle.cg_model.specs.Cgroups.{cgroups}
 use Rattle.cg_model.specs.History.{History}
+use Rattle.cg_model.specs.Run.{tree_of}
 use Rattle.cg_model.specs.Sound.{Sound}
 use Rattle.cg_model.specs.Tree.{Tree}
 use Rattle.cg_core_laws.specs.MachineOf.{Reached}
@@ -43,8 +47,9 @@ EndSo workers tries texts ends h =
     (scripts : List Script) × AllZip SpellsAs texts scripts × AllZip (CanEnd tries) scripts ends × HaveHappened workers tries scripts ends h
 
 -- what is told of a batch: how each script ended, and the world that they left
-abbrev pub batch_text : List ScriptEnd → Tree → History cgroups → List ℕ
-batch_text ends opening h = end_lines 1 ends ++ text_left opening h
+abbrev pub batch_text : Form → List ScriptEnd → Tree → History cgroups → List ℕ
+batch_text Plain ends opening h = end_lines Plain 1 ends ++ text_left opening h
+batch_text Json ends opening h = end_lines Json 1 ends ++ world_line (tree_of cgroups opening h)
 
 -- the text was appended where a sink is given for it
 abbrev pub AppendsGiven : {K : Type 0} → (K → Option (List ℕ)) → Option K → Option K → List ℕ → Type 0
@@ -73,12 +78,13 @@ pub record Batch (workers tries : ℕ) (texts : List (List ℕ)) : Type 0 where
   pub closed : IsClosed workers history
   pub sound : Sound opening
   pub bound : ℕ
+  pub low : 2 ≤ bound
   pub within : bound ≤ 1048576
   pub reached : Reached opening bound history
 
--- such a batch was run, and this done with what is told of it and with the text of its history
-abbrev pub Tells : ℕ → ℕ → List (List ℕ) → (List ℕ → List ℕ → Type 0) → Type 0
-Tells workers tries texts P = (b : Batch workers tries texts) × P (batch_text b.ends b.opening b.history) (history_text b.history)
+-- such a batch was run, and this done with what is told of it in this form and with the text of its history
+abbrev pub Tells : Form → ℕ → ℕ → List (List ℕ) → (List ℕ → List ℕ → Type 0) → Type 0
+Tells form workers tries texts P = (b : Batch workers tries texts) × P (batch_text form b.ends b.opening b.history) (history_text b.history)
 
 -- the telling of a batch stopped: at the front of what is told, with nothing of the history; or in the history, behind all of it
 abbrev pub StopsIn : {K : Type 0} → Option (List ℕ) → Option (List ℕ) → (K → Option (List ℕ)) → Option K → Option K → List ℕ → List ℕ → Type 0

@@ -1,4 +1,5 @@
 pub mod Batch
+pub mod EndValue
 pub mod Ends
 pub mod Fault
 pub mod Files

@@ -1,6 +1,7 @@
 //! Whole runs of scripts over sources and sinks, and the words that name these.
 #![tactic(auto)]
 
+mod end_value;
 mod ends;
 mod fault;
 mod named_scripts;

@@ -1,5 +1,5 @@
 //! A run of scripts whose texts, world and history words name.
-ghost use Rattle.std.specs.Prelude.{◌≡◌, ◌≢◌, ◌≤◌, ◌⊎◌, true, List, ℕ, IfOk, IfSome, IsErr, IsSome, MatchOption, None, length, map};
+ghost use Rattle.std.specs.Prelude.{◌≡◌, ◌≢◌, ◌≤◌, ◌⊎◌, false, true, List, ℕ, IfOk, IfSome, IsErr, IsSome, MatchOption, None, length, map};
 ghost use Rattle.std.specs.List.{list_any, AllZip};
 ghost use Rattle.std.specs.Option.{option_map};
 ghost use Rattle.std.specs.Io.KnownBytes.{Appends};
@@ -12,13 +12,14 @@ ghost use Rattle.cg_script.specs.declared.fault.ScriptFault.TheVariants as fault
 ghost use Rattle.cg_batch.specs.Files.{IsFileNamed, IsInput, IsNotNamed, IsWorld};
 ghost use Rattle.cg_batch.specs.Batch.{stops_run, AreTexts, BeginsWithWorld, SomeTooLong, SpellNothing, Tells};
 ghost use Rattle.cg_watch.specs.Watches.{HasTold};
-ghost use Rattle.cg_program.specs.Named.{named};
+ghost use Rattle.cg_program.specs.Named.{is_standard, named};
 ghost use Rattle.cg_program.specs.Program.{WritesUnlessFailed};
 ghost use Rattle.cg_program.specs.Status.{refusal_line, status_where};
 
 use crate::outputs::{CreateFault, Outputs};
 use crate::running::run_to;
 use crate::scripts::read_all;
+use cg_json::Form;
 use cg_lines::{LineReader, Sink};
 use cg_program::{Inputs, Status, is_standard, open_reader, stop};
 use cg_runner::Gate;
@@ -60,6 +61,7 @@ pub fn run_named<
     words: Words,
     workers: u32,
     tries: u32,
+    form: Form,
     out: &mut O,
     err: &mut E,
 ) -> u8
@@ -70,7 +72,7 @@ pub fn run_named<
     requires few_tries { tries ≤ 1000 }
     // All scripts ended, all is told, and the history is the file of its name;
     ensures done { result ≡ 0 → (texts : List (List ℕ)) × AreTexts (P.file files.old) (map (λ w. w.now) words.entry.scripts.now) texts
-        × Tells workers tries texts (λ told past. Appends (O.taken out.old) (O.taken out.new) told × IsFileNamed P.nothing (P.file files.new) (option_map (λ w. w.now) words.entry.history) past) }
+        × Tells form workers tries texts (λ told past. Appends (O.taken out.old) (O.taken out.new) told × IsFileNamed P.nothing (P.file files.new) (option_map (λ w. w.now) words.entry.history) past) }
     ensures read { result ≡ 0 → BeginsWithWorld (named (P.standard files.old) (P.file files.old) words.entry.world.now) }
     ensures quiet { result ≡ 0 → err.new ≡ err.old }
 
@@ -82,12 +84,17 @@ pub fn run_named<
     ensures refused { result ≡ 2 → (out.new ≡ out.old) × (SomeTooLong (P.file files.old) (map (λ w. w.now) words.entry.scripts.now)
         ⊎ SpellNothing (named (P.standard files.old) (P.file files.old) words.entry.world.now) (P.file files.old) (map (λ w. w.now) words.entry.scripts.now)) }
     ensures front { result ≡ 3 → (out.new ≡ out.old) ⊎ ((texts : List (List ℕ)) × AreTexts (P.file files.old) (map (λ w. w.now) words.entry.scripts.now) texts
-        × Tells workers tries texts (λ told past. AppendsFront (O.taken out.old) (O.taken out.new) told)) }
+        × Tells form workers tries texts (λ told past. AppendsFront (O.taken out.old) (O.taken out.new) told)) }
     ensures unchanged { result ≢ 0 → P.file files.new ≡ P.file files.old }
 
     // No file has changed but the history, which is none of the inputs.
     ensures others { (name : List ℕ) → IsNotNamed (option_map (λ w. w.now) words.entry.history) name → P.file files.new name ≡ P.file files.old name }
     ensures inputs { IfSome words.entry.history (λ name. IsInput (P.is_read files.old name.now) (P.is_same files.old name.now) words.entry.world.now (map (λ w. w.now) words.entry.scripts.now) → (result ≢ 0) × (out.new ≡ out.old)) }
+
+    // A file that can't be opened or made: nothing is written.
+    ensures no_script { list_any (P.is_missing files.old) (map (λ w. w.now) words.entry.scripts.now) ≡ true → (result ≢ 0) × (out.new ≡ out.old) }
+    ensures no_world { is_standard words.entry.world.now ≡ false → P.is_missing files.old words.entry.world.now ≡ true → (result ≢ 0) × (out.new ≡ out.old) }
+    ensures barred { IfSome words.entry.history (λ name. P.is_barred files.old name.now ≡ true → (result ≢ 0) × (out.new ≡ out.old)) }
 
     // What each watch told is what a Viewer saw of its file.
     ensures watched { AllZip (HasTold S.taken) watches.old.items watches.new.items }
@@ -103,6 +110,7 @@ pub fn run_named<
                 texts,
                 workers,
                 tries,
+                form,
                 &mut history,
                 out,
                 err,
@@ -125,6 +133,9 @@ fn open_all<P: Outputs>(
     ensures writes { IsErrOf result faults.WriteFault → IsSome words.entry.history }
     ensures history { IfOk result (λ opened. MatchOption opened.2 (words.entry.history ≡ None) (λ output. IsSome words.entry.history × (P.Output.taken output ≡ P.nothing))) }
     ensures inputs { IfSome words.entry.history (λ name. IsInput (P.is_read files.now name.now) (P.is_same files.now name.now) words.entry.world.now (map (λ w. w.now) words.entry.scripts.now) → IsErr result) }
+    ensures no_script { list_any (P.is_missing files.now) (map (λ w. w.now) words.entry.scripts.now) ≡ true → IsErr result }
+    ensures no_world { is_standard words.entry.world.now ≡ false → P.is_missing files.now words.entry.world.now ≡ true → IsErr result }
+    ensures barred { IfSome words.entry.history (λ name. P.is_barred files.now name.now ≡ true → IsErr result) }
 {
     let texts = read_named(alloc, files, words.scripts)?;
     let world = open_reader(alloc, files, words.world)?;
@@ -138,6 +149,7 @@ fn open_all<P: Outputs>(
 fn create_history<P: Outputs>(files: &P, name: &str, words: Words) -> Result<P::Output, CreateFault>
     ensures empty { IfOk result (λ output. P.Output.taken output ≡ P.nothing) }
     ensures inputs { IsInput (P.is_read files.now name.now) (P.is_same files.now name.now) words.entry.world.now (map (λ w. w.now) words.entry.scripts.now) → IsErr result }
+    ensures barred { P.is_barred files.now name.now ≡ true → IsErr result }
 {
     if is_world(files, name, words.world) || is_script(files, name, words.scripts) {
         return Err(CreateFault::Unwritable);
@@ -209,6 +221,7 @@ fn read_named<P: Inputs>(
     ensures syntax { IsErrOf result faults.Syntax → SomeTooLong (P.file files.now) (map (λ w. w.now) names.now) }
     ensures writes { ¬ (IsErrOf result faults.WriteFault) }
     ensures texts { IfOk result (λ texts. AreTexts (P.file files.now) (map (λ w. w.now) names.now) (map (λ t. t.items) texts.items)) }
+    ensures missing { list_any (P.is_missing files.now) (map (λ w. w.now) names.now) ≡ true → IsErr result }
 {
     let mut texts = Vec::with_capacity(alloc, names.len())?;
     for name in names {

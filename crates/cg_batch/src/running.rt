@@ -23,22 +23,24 @@ ghost use Rattle.cg_batch.specs.declared.fault.BatchFault.TheVariants.{Stopped};
 use crate::ends::lines_of;
 use crate::fault::BatchFault;
 use crate::scripts::read_scripts;
+use cg_json::Form;
+use cg_json_world::write_world;
 use cg_lines::{LineReader, Sink, Source, write_all};
 use cg_program::{Status, stop};
 use cg_runner::{Core, Gate, RunReport};
 use cg_script::{ScriptFault, read_world, write_history};
 use cg_watch::{Watch, run_watched};
 use cg_world_text::WriteWorld;
-use std::alloc::Global;
+use std::alloc::{AllocError, Global};
 use std::sync::Wait;
 use std::thread::Threads;
 
 /// Reads the world from `world`, and runs the scripts of these texts, at most 4,096, over it, by 1 to 64 workers; a script that
 /// meets `Busy` is begun anew, 1 to 1,000 times in all. A line for each script, which tells how it ended, goes to `out`, and
-/// behind them the world that they left; then the text of their history to `history`, where there is one. What `watches` see meanwhile
-/// they tell their own sinks, as `run_watched` says, and nothing else depends on it. The status is 0 when all
-/// is written, whatever the ends are; 2 when the world or a script isn't in its grammar, and then nothing is written; and 3 when
-/// memory, the source or a sink fails, or what the workers tell disagrees. For 2 and 3 the refusal stands on a line in `err`.
+/// behind them the world that they left, as plain text or as JSON; then the text of their history to `history`, where there is one.
+/// What `watches` see meanwhile they tell their own sinks, as `run_watched` says, and nothing else depends on it. The status is 0
+/// when all is written, whatever the ends are; 2 when the world or a script isn't in its grammar, and then nothing is written; and 3
+/// when memory, the source or a sink fails, or what the workers tell disagrees. For 2 and 3 the refusal stands on a line in `err`.
 pub fn run_to<
     G: Gate + Sync,
     R: Threads + Wait + Sync,
@@ -56,6 +58,7 @@ pub fn run_to<
     scripts: Vec<Vec<u8>>,
     workers: u32,
     tries: u32,
+    form: Form,
     history: &mut Option<H>,
     out: &mut O,
     err: &mut E,
@@ -66,7 +69,7 @@ pub fn run_to<
     requires a_try { 1 ≤ tries }
     requires few_tries { tries ≤ 1000 }
     // All scripts ended, and all is told;
-    ensures done { result ≡ 0 → Tells workers tries (map (λ t. t.items) scripts.items) (λ told past. Appends (O.taken out.old) (O.taken out.new) told × AppendsGiven H.taken history.old history.new past) }
+    ensures done { result ≡ 0 → Tells form workers tries (map (λ t. t.items) scripts.items) (λ told past. Appends (O.taken out.old) (O.taken out.new) told × AppendsGiven H.taken history.old history.new past) }
     ensures quiet { result ≡ 0 → err.new ≡ err.old }
 
     ensures read { result ≡ 0 → BeginsWithWorld (pending world.old) }
@@ -78,7 +81,7 @@ pub fn run_to<
         × (refusal ≡ refusals.ReadFault → IsBroken world.new)
         × (refusal ≡ refusals.WriteFault → Failed (O.failed out.old) (O.failed out.new) ⊎ FailedGiven H.failed history.old history.new)) }
     ensures front { result ≡ 3 → ((out.new ≡ out.old) × (history.new ≡ history.old))
-        ⊎ Tells workers tries (map (λ t. t.items) scripts.items) (λ told past. StopsIn (O.taken out.old) (O.taken out.new) H.taken history.old history.new told past) }
+        ⊎ Tells form workers tries (map (λ t. t.items) scripts.items) (λ told past. StopsIn (O.taken out.old) (O.taken out.new) H.taken history.old history.new told past) }
     ensures refused { result ≡ 2 → (IfSome (pending world.old) HasNoWorld ⊎ SomeSpellsNone (map (λ t. t.items) scripts.items)) × (out.new ≡ out.old) × (history.new ≡ history.old) }
 
     // What each watch told is what a Viewer saw of its file.
@@ -94,7 +97,7 @@ pub fn run_to<
         workers,
         tries,
     ) {
-        Ok(report) => finish(alloc, &report, history, out, err),
+        Ok(report) => finish(alloc, form, &report, history, out, err),
         Err(fault) => fault.tell(err),
     }
 }
@@ -118,6 +121,7 @@ fn run<G: Gate + Sync, R: Threads + Wait + Sync, S: Sink + Send + Drop, W: Sourc
     ensures ends { IfOk result (λ r. EndSo workers tries (map (λ t. t.items) texts.now) r.ends.items r.core.history) }
     ensures closed { IfOk result (λ r. IsClosed workers r.core.history) }
     ensures sound { IfOk result (λ r. Sound r.core.opening) }
+    ensures low { IfOk result (λ r. 2 ≤ r.core.bound) }
     ensures within { IfOk result (λ r. r.core.bound ≤ 1048576) }
     ensures reached { IfOk result (λ r. Reached r.core.opening r.core.bound r.core.history) }
     ensures syntax { IsErrOf result (Stopped faults.Syntax) → IfSome (pending world.old) HasNoWorld ⊎ SomeSpellsNone (map (λ t. t.items) texts.now) }
@@ -137,12 +141,13 @@ fn run<G: Gate + Sync, R: Threads + Wait + Sync, S: Sink + Send + Drop, W: Sourc
 // Tells what was run, and gives the status.
 fn finish<O: Sink, H: Sink, E: Sink>(
     alloc: Global,
+    form: Form,
     report: &RunReport,
     history: &mut Option<H>,
     out: &mut O,
     err: &mut E,
 ) -> u8
-    ensures told { result ≡ 0 → Appends (O.taken out.old) (O.taken out.new) (batch_text report.now.ends.items report.now.core.opening report.now.core.history) }
+    ensures told { result ≡ 0 → Appends (O.taken out.old) (O.taken out.new) (batch_text form report.now.ends.items report.now.core.opening report.now.core.history) }
     ensures past { result ≡ 0 → AppendsGiven H.taken history.old history.new (history_text report.now.core.history) }
     ensures quiet { result ≡ 0 → err.new ≡ err.old }
     ensures failed { (result ≡ 0) ⊎ ((refusal : Refusal) × (result ≡ status_where refusal)
@@ -150,10 +155,10 @@ fn finish<O: Sink, H: Sink, E: Sink>(
         × (stops_run refusal ≡ true)
         × ¬ (refusal ≡ refusals.ReadFault)
         × (refusal ≡ refusals.WriteFault → Failed (O.failed out.old) (O.failed out.new) ⊎ FailedGiven H.failed history.old history.new)) }
-    ensures front { result ≢ 0 → StopsIn (O.taken out.old) (O.taken out.new) H.taken history.old history.new (batch_text report.now.ends.items report.now.core.opening report.now.core.history) (history_text report.now.core.history) }
+    ensures front { result ≢ 0 → StopsIn (O.taken out.old) (O.taken out.new) H.taken history.old history.new (batch_text form report.now.ends.items report.now.core.opening report.now.core.history) (history_text report.now.core.history) }
     ensures status { result ≢ 2 }
 {
-    match tell(alloc, report, history, out) {
+    match tell(alloc, form, report, history, out) {
         Ok(()) => Status::Done.code(),
         Err(fault) => stop(fault, err),
     }
@@ -162,23 +167,35 @@ fn finish<O: Sink, H: Sink, E: Sink>(
 // Writes how the scripts ended, the world that they left, and their history.
 fn tell<O: Sink, H: Sink>(
     alloc: Global,
+    form: Form,
     report: &RunReport,
     history: &mut Option<H>,
     out: &mut O,
 ) -> Result<(), ScriptFault>
-    ensures told { OnOk result (Appends (O.taken out.old) (O.taken out.new) (batch_text report.now.ends.items report.now.core.opening report.now.core.history)) }
+    ensures told { OnOk result (Appends (O.taken out.old) (O.taken out.new) (batch_text form report.now.ends.items report.now.core.opening report.now.core.history)) }
     ensures past { OnOk result (AppendsGiven H.taken history.old history.new (history_text report.now.core.history)) }
-    ensures front { OnErr result (StopsIn (O.taken out.old) (O.taken out.new) H.taken history.old history.new (batch_text report.now.ends.items report.now.core.opening report.now.core.history) (history_text report.now.core.history)) }
+    ensures front { OnErr result (StopsIn (O.taken out.old) (O.taken out.new) H.taken history.old history.new (batch_text form report.now.ends.items report.now.core.opening report.now.core.history) (history_text report.now.core.history)) }
     ensures writes { IsErrOf result faults.WriteFault → Failed (O.failed out.old) (O.failed out.new) ⊎ FailedGiven H.failed history.old history.new }
     ensures refusals { IfErr result (λ e. (e ≡ faults.Memory) ⊎ (e ≡ faults.WriteFault)) }
 {
-    let mut text = lines_of(alloc, report.ends.as_slice())?.into_bytes();
-    report.core.tree().write(&mut text)?;
+    let text = text_of(alloc, form, report)?;
     write_all(out, text.as_slice())?;
     match history {
         None => Ok(()),
         Some(sink) => tell_history(alloc, &report.core, sink),
     }
+}
+
+// The text that tells how the scripts ended, and the world that they left.
+fn text_of(alloc: Global, form: Form, report: &RunReport) -> Result<Vec<u8>, AllocError>
+    ensures { IfOk result (λ text. text.items ≡ batch_text form report.now.ends.items report.now.core.opening report.now.core.history) }
+{
+    let mut text = lines_of(alloc, form, report.ends.as_slice())?;
+    match form {
+        Form::Plain => report.core.tree().write(&mut text)?,
+        Form::Json => write_world(report.core.tree(), &mut text)?,
+    }
+    Ok(text)
 }
 
 // Writes the text of the history.

@@ -28,6 +28,8 @@ pub struct Batch<'a> {
     pub history: Option<&'a str>,
     /// The files that are to be watched meanwhile, each as PATH:FILE; at most 8.
     pub watches: Vec<&'a str>,
+    /// Whether the ends and the world are told as lines of JSON.
+    pub is_json: bool,
     /// Whether the status is 1 where a script was not committed.
     pub is_strict: bool,
     pub ghost some: { 1 ≤ vec_len scripts },

@@ -78,14 +78,19 @@ const SHOW: CommandForm = CommandForm {
     name: "show",
     about: "Shows an interface file of a group of a world",
     more: "\
-Example:
+Examples:
   cgtx show world /batch/job-1 cgroup.procs
+  cgtx show --json world /batch/job-1 cgroup.procs
 
 Status:
   0  The file was printed
   2  The words aren't right, or there is no world, or no such group or file
   3  Memory, an input or an output failed",
     words: &[
+        Flag(
+            "json",
+            "Writes the file as a line of JSON, with its group's path and its name",
+        ),
         VERBOSE,
         QUIET,
         WORLD,
@@ -100,6 +105,7 @@ const TREE: CommandForm = CommandForm {
     more: "\
 Examples:
   cgtx tree world
+  cgtx tree --json world
   cgtx replay world schedule | sed -n '/^world/,$p' | cgtx tree --depth 2 -
 
 Status:
@@ -114,6 +120,7 @@ Status:
             MOST_NAMES,
             "64",
         ),
+        Flag("json", "Writes each group as a line of JSON"),
         VERBOSE,
         QUIET,
         WORLD,
@@ -154,6 +161,7 @@ Examples:
   cgtx plan world-1 world-2 > script
   cgtx run world-1 script
   cgtx plan --shell world-1 world-2
+  cgtx plan --json world-1 world-2
 
 Status:
   0  A script was printed that turns the one world into the other
@@ -161,6 +169,11 @@ Status:
   2  The words aren't right, or one isn't a world
   3  Memory, an input or an output failed",
     words: &[
+        FlagApart(
+            "json",
+            "Prints each request of the script as a line of JSON",
+            &["shell"],
+        ),
         Flag(
             "shell",
             "Prints the script as lines for a shell, to be read and run by whoever may",
@@ -186,6 +199,7 @@ Examples:
   cgtx run world script-1 script-2
   cgtx run --workers 1 --history history world script
   cgtx run --watch /batch:cgroup.procs world script
+  cgtx run --json world script-1 script-2
 
 Status:
   0  The scripts ran, however each ended
@@ -208,6 +222,10 @@ Status:
             "8",
         ),
         Value("history", "The file that the history is written to", "FILE"),
+        Flag(
+            "json",
+            "Writes each end and the world that results as a line of JSON",
+        ),
         Values(
             "watch",
             "Tells the values of a group's file on standard error, at most 8 times",
@@ -234,6 +252,7 @@ const CHECK: CommandForm = CommandForm {
 Examples:
   cgtx check world schedule script
   cgtx check --as script - < script
+  cgtx check --json world
 
 Status:
   0  No file has a fault
@@ -245,6 +264,10 @@ Status:
             "What each file is read as, whatever its lines tell",
             "KIND",
             KINDS,
+        ),
+        Flag(
+            "json",
+            "Writes each fault, and how many a file has, as a line of JSON",
         ),
         VERBOSE,
         QUIET,

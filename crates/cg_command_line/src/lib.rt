@@ -68,16 +68,18 @@ pub enum Asked<'a> {
         schedule: &'a str,
         is_strict: bool,
     },
-    /// To show this file of the group at this path, in the world that the first word names.
+    /// To show this file of the group at this path, in the world that the first word names, as JSON or as it is.
     Show {
         world: &'a str,
         path: &'a str,
         file: &'a str,
+        is_json: bool,
     },
-    /// To show the groups of at most so many names, from 1 to 64, in the world that this word names.
+    /// To show the groups of at most so many names, from 1 to 64, in the world that this word names, as lines of JSON or as an outline.
     Tree {
         world: &'a str,
         depth: u32,
+        is_json: bool,
     },
     /// To tell what changed from the first world to the second one, which these words name.
     Diff {
@@ -88,10 +90,12 @@ pub enum Asked<'a> {
     Plan(Plan<'a>),
     /// To run these scripts.
     Run(Batch<'a>),
-    /// To check the texts that these words name, as of this kind where one is given: `world`, `schedule` or `script`.
+    /// To check the texts that these words name, as of this kind where one is given: `world`, `schedule` or `script`; and to tell of them
+    /// as lines of JSON or as compilers do.
     Check {
         kind: Option<&'a str>,
         files: Vec<&'a str>,
+        is_json: bool,
     },
     /// To print the world of a mounted tree.
     Import(Import<'a>),
@@ -177,10 +181,12 @@ fn what_of<'a>(alloc: Global, name: &str, given: &ArgMatches<'a>) -> Result<Aske
             world: world_of(given, "WORLD"),
             path: given.get_str("PATH").unwrap_or_default(),
             file: given.get_str("FILE").unwrap_or_default(),
+            is_json: is_json(given),
         }),
         "tree" => Ok(Asked::Tree {
             world: world_of(given, "WORLD"),
             depth: number(given, "depth", MOST_NAMES),
+            is_json: is_json(given),
         }),
         "diff" => Ok(Asked::Diff {
             before: world_of(given, "WORLD-1"),
@@ -191,6 +197,7 @@ fn what_of<'a>(alloc: Global, name: &str, given: &ArgMatches<'a>) -> Result<Aske
         "check" => Ok(Asked::Check {
             kind: given.get_str("as"),
             files: Vec::from_slice(alloc, given.get_strs("FILE").unwrap_or_default())?,
+            is_json: is_json(given),
         }),
         "import" => Ok(Asked::Import(Import {
             root: given.get_str("ROOT").unwrap_or(MOUNTED),
@@ -206,6 +213,11 @@ fn world_of<'a>(given: &ArgMatches<'a>, name: &str) -> &'a str {
     given.get_str(name).unwrap_or(STANDARD_INPUT)
 }
 
+// Whether JSON is asked for.
+fn is_json(given: &ArgMatches<'_>) -> bool {
+    given.get_flag("json")
+}
+
 // What the words behind `replay` ask for.
 fn replay_of<'a>(given: &ArgMatches<'a>) -> Asked<'a> {
     let world = world_of(given, "WORLD");
@@ -213,7 +225,7 @@ fn replay_of<'a>(given: &ArgMatches<'a>) -> Asked<'a> {
     let echo = given.get_flag("echo");
     let explain = given.get_flag("explain");
     let strict = given.get_flag("strict");
-    if given.get_flag("json") {
+    if is_json(given) {
         Asked::Json {
             world,
             schedule,
@@ -243,6 +255,7 @@ fn plan_of<'a>(given: &ArgMatches<'a>) -> Plan<'a> {
         from: world_of(given, "WORLD-1"),
         to: world_of(given, "WORLD-2"),
         shell,
+        is_json: is_json(given),
     }
 }
 
@@ -266,6 +279,7 @@ fn batch_of<'a>(alloc: Global, given: &ArgMatches<'a>) -> Result<Batch<'a>, Unas
         tries: number(given, "tries", MOST_TRIES),
         history: given.get_str("history"),
         watches: Vec::from_slice(alloc, watches)?,
+        is_json: is_json(given),
         is_strict: given.get_flag("strict"),
     })
 }

@@ -9,4 +9,6 @@ pub struct Plan<'a> {
     pub to: &'a str,
     /// The folder of the root, where the script is to be printed as lines for a shell.
     pub shell: Option<&'a str>,
+    /// Whether its requests are to be printed as lines of JSON; not for a shell then.
+    pub is_json: bool,
 }

@@ -3,7 +3,6 @@ use Rattle.std.proofs.Common.{◌≡◌, ℕ, zero, suc, ◌-◌, ◌&&◌, Bool
 use Rattle.std.specs.List.{AllByRecursion, flat_map}
 use Rattle.std.specs.Fmt.{decimal}
 use Rattle.std.proofs.lemmas.Bool.{cond_both}
-use Rattle.cg_maps.specs.FiniteMap.{entries}
 use Rattle.cg_name.specs.Controller.{controller_word}
 use Rattle.cg_name.specs.Path.{Path, path_word}
 use Rattle.cg_name.specs.Refusal.{refusal_text}
@@ -21,7 +20,7 @@ use Rattle.cg_lines.proofs.LinesLaw.{lines_of-begins}
 use Rattle.cg_core.specs.State.{CoreState, reply}
 use Rattle.cg_model.specs.Cgroups.{cgroups}
 use Rattle.cg_model.specs.Command.{Command, Create, Remove, Migrate, Subtree, Freeze, Cpus, Show, Online, MaxDescendants, MaxDepth}
-use Rattle.cg_model.specs.Derived.{processes}
+use Rattle.cg_model.specs.Derived.{children, processes}
 use Rattle.cg_model.specs.History.{Answer, Begun, Gave, Saved, WentBack, Committed, Aborted, Refused, Do, History, Request}
 use Rattle.cg_model.specs.System.{Done, Text}
 use Rattle.cg_model.specs.Tree.{Tree, group}
@@ -171,7 +170,7 @@ said_on_line None = refl
 said_on_line (Some c) = controller_on_line c
 
 children_aside : (T : Tree) (p : Path) (wanted : Option Controller) → IsAside (children_notes T p wanted)
-children_aside T p wanted = aside_each (λ (e : Path × Settings). path_note e.0 (child_said wanted)) (λ e. note_aside e.0 (child_said wanted) (said_on_line wanted)) (take 8 (filter (is_wanted p wanted) (entries T.groups)))
+children_aside T p wanted = aside_each (λ (e : Path × Settings). path_note e.0 (child_said wanted)) (λ e. note_aside e.0 (child_said wanted) (said_on_line wanted)) (take 8 (filter (is_wanted wanted) (children T p)))
 
 group_aside : (T : Tree) (p : Path) (way : List Ancestor) (r : Refusal) → IsAside (group_notes T p way r)
 group_aside T p way refusals.NoGroup = aside_each (λ (a : Ancestor). missing_note p a.depth a.settings) (λ a. missing_aside p a.depth a.settings) way

@@ -1,5 +1,4 @@
 mod Aside
 mod OneLine
 mod Played
-mod RunLemmas
 mod Told

@@ -1,10 +1,9 @@
 -- What is told of a command that the tree refuses: what is in its way.
-use Rattle.std.specs.Prelude.{ℕ, ◌+◌, ◌-◌, ◌==◌, ◌&&◌, Bool, cond, nat_le, nat_lt, List, [], ◌∷◌, ◌++◌, filter, take, length, Option, Some, None, codes}
+use Rattle.std.specs.Prelude.{ℕ, ◌+◌, ◌-◌, Bool, true, cond, nat_le, nat_lt, List, [], ◌∷◌, ◌++◌, filter, take, length, Option, Some, None, codes}
 use Rattle.std.specs.List.{flat_map}
 use Rattle.std.specs.Fmt.{decimal}
-use Rattle.cg_maps.specs.FiniteMap.{entries}
 use Rattle.cg_name.specs.Controller.{controller_word}
-use Rattle.cg_name.specs.Path.{Path, is_prefix, path_word}
+use Rattle.cg_name.specs.Path.{Path, path_word}
 use Rattle.cg_name.specs.declared.controller.Controller.{Controller}
 use Rattle.cg_name.specs.declared.refusal.Refusal.{Refusal}
 use Rattle.cg_name.specs.declared.refusal.Refusal.TheVariants.{NoGroup, HasChildren, HasProcesses, Controlled, Unavailable, InUse, TooMany, TooDeep}
@@ -15,7 +14,7 @@ use Rattle.cg_text.specs.declared.limit.Limit.TheVariants.{Max, UpTo}
 use Rattle.cg_text.specs.declared.controllers.Controllers.{Controllers}
 use Rattle.cg_text.specs.declared.settings.Settings.{Settings}
 use Rattle.cg_model.specs.Command.{Command, Create, Remove, Migrate, Subtree, Freeze, Cpus, Show, Online, MaxDescendants, MaxDepth}
-use Rattle.cg_model.specs.Derived.{processes}
+use Rattle.cg_model.specs.Derived.{children, processes}
 use Rattle.cg_model.specs.Tree.{Tree, group}
 use Rattle.cg_tree.specs.Ancestors.{ancestors, ancestors_above}
 use Rattle.cg_tree.specs.declared.ancestors.Ancestor.{Ancestor}
@@ -98,27 +97,23 @@ spaced_pid k = 32 ∷ decimal k
 abbrev pub processes_note : Path → List ℕ → List ℕ
 processes_note p pids = path_note p (codes " has processes (" ++ decimal (length pids) ++ codes "):" ++ flat_map spaced_pid (take most_named pids))
 
--- q is right below p: it begins with p and is one name longer
-abbrev pub is_right_below : Path → Path → Bool
-is_right_below p q = is_prefix p q && (length q == length p + 1)
-
--- a group is a child of the group at p, and passes a controller on where one is asked for
-abbrev pub is_wanted : Path → Option Controller → Path × Settings → Bool
-is_wanted p None e = is_right_below p e.0
-is_wanted p (Some c) e = is_right_below p e.0 && has e.1.control c
+-- a child passes a controller on, where one is asked for
+abbrev pub is_wanted : Option Controller → Path × Settings → Bool
+is_wanted None e = true
+is_wanted (Some c) e = has e.1.control c
 
 -- what is said of such a child
 abbrev pub child_said : Option Controller → List ℕ
 child_said None = codes " is a child"
 child_said (Some c) = codes " passes on " ++ controller_word c
 
--- so many groups are told at most, of those that pass a test
+-- so many children are told at most, of those that pass a test
 abbrev pub first_notes : (Path × Settings → Bool) → List ℕ → ℕ → List (Path × Settings) → List ℕ
-first_notes test said n groups = flat_map (λ e. path_note e.0 said) (take n (filter test groups))
+first_notes test said n children = flat_map (λ e. path_note e.0 said) (take n (filter test children))
 
 -- the first of the children, or of those that pass the controller on
 abbrev pub children_notes : Tree → Path → Option Controller → List ℕ
-children_notes T p wanted = first_notes (is_wanted p wanted) (child_said wanted) most_named (entries T.groups)
+children_notes T p wanted = first_notes (is_wanted wanted) (child_said wanted) most_named (children T p)
 
 -- ---- a command
 

@@ -41,6 +41,10 @@ abbrev mutual
   fields_text is_behind no_members = 125 ∷ []
   fields_text is_behind (member name j fields) = name_text is_behind name ++ (json_text j ++ fields_text true fields)
 
+-- the text of a value on a line of its own
+abbrev pub json_line : Json → List ℕ
+json_line j = json_text j ++ 10 ∷ []
+
 -- ---- values
 
 abbrev pub null : Json
@@ -58,6 +62,10 @@ string s = json.string s
 abbrev pub number_or_null : Option ℕ → Json
 number_or_null None = null
 number_or_null (Some n) = number n
+
+abbrev pub flag_or_null : Option Bool → Json
+flag_or_null None = null
+flag_or_null (Some b) = flag b
 
 abbrev pub string_or_null : Option (List ℕ) → Json
 string_or_null None = null

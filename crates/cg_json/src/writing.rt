@@ -2,7 +2,7 @@
 ghost use Rattle.std.specs.Prelude.{◌≡◌, ◌<◌, ◌++◌, OnOk, option_copied};
 ghost use Rattle.std.specs.Char.{digit_char};
 ghost use Rattle.json.specs.Print.{escape, escape_byte, escape_letter};
-ghost use Rattle.cg_json.specs.Text.{flag, json_text, name_text, null, number, number_or_null, string_text, string, string_or_null};
+ghost use Rattle.cg_json.specs.Text.{comma_behind, flag, flag_or_null, json_text, name_text, null, number, number_or_null, string_text, string, string_or_null};
 
 use itoa::Buffer;
 use std::alloc::AllocError;
@@ -14,11 +14,19 @@ use std::alloc::AllocError;
 pub fn write_name(is_behind: bool, name: &str, out: &mut Vec<u8>) -> Result<(), AllocError>
     ensures { OnOk result (out.new.items ≡ out.old.items ++ name_text is_behind name.now) }
 {
+    write_comma(is_behind, out)?;
+    append_quoted(name.as_bytes(), out)?;
+    out.push(b':')?;
+    Ok(())
+}
+
+/// Appends a comma where an item of an array, or a field, stands behind another one.
+pub fn write_comma(is_behind: bool, out: &mut Vec<u8>) -> Result<(), AllocError>
+    ensures { OnOk result (out.new.items ≡ out.old.items ++ comma_behind is_behind) }
+{
     if is_behind {
         out.push(b',')?;
     }
-    append_quoted(name.as_bytes(), out)?;
-    out.push(b':')?;
     Ok(())
 }
 
@@ -64,6 +72,16 @@ pub fn write_flag(value: bool, out: &mut Vec<u8>) -> Result<(), AllocError>
 {
     out.extend_from_slice(if value { b"true" } else { b"false" })?;
     Ok(())
+}
+
+/// Appends `true` or `false`, or `null` where there is neither.
+pub fn write_flag_or_null(value: Option<bool>, out: &mut Vec<u8>) -> Result<(), AllocError>
+    ensures { OnOk result (out.new.items ≡ out.old.items ++ json_text (flag_or_null value)) }
+{
+    match value {
+        Some(value) => write_flag(value, out),
+        None => write_null(out),
+    }
 }
 
 /// Appends `null`.

@@ -1,2 +1,3 @@
+pub mod GroupValue
 pub mod Outline
 pub mod OutlineOf

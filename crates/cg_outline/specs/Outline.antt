@@ -1,7 +1,9 @@
--- The outline of a tree: a line for each group.
+-- The outline of a tree: a line for each group, as plain text or as JSON.
 use Rattle.std.specs.Prelude.{ℕ, suc, Bool, true, cond, nat_le, List, [], ◌∷◌, ◌++◌, Option, Some, None, length, codes}
 use Rattle.std.specs.List.{flat_map}
 use Rattle.std.specs.Fmt.{decimal}
+use Rattle.cg_json.specs.declared.form.Form.{Form}
+use Rattle.cg_json.specs.declared.form.Form.TheVariants as forms
 use Rattle.cg_maps.specs.FiniteMap.{entries}
 use Rattle.cg_maps.specs.FiniteSet.{FiniteSet, is_empty_set}
 use Rattle.cg_name.specs.Path.{Path, path_word, is_root}
@@ -14,6 +16,7 @@ use Rattle.cg_text.specs.declared.limit.Limit.TheVariants.{Max, UpTo}
 use Rattle.cg_text.specs.declared.settings.Settings.{Settings}
 use Rattle.cg_model.specs.Derived.{descendants, effective, frozen, populated, processes}
 use Rattle.cg_model.specs.Tree.{Tree}
+use Rattle.cg_outline.specs.GroupValue.{group_line}
 
 -- two spaces for each name
 abbrev pub indent : Path → List ℕ
@@ -95,10 +98,15 @@ facts_text depth T p s = names_fact (codes "controllers") (root_controllers T p)
 abbrev pub group_text : ℕ → Tree → Path × Settings → List ℕ
 group_text depth T e = indent e.0 ++ path_word e.0 ++ facts_text depth T e.0 e.1 ++ 10 ∷ []
 
--- that line, or nothing where the group has more names
-abbrev pub shown_text : ℕ → Tree → Path × Settings → List ℕ
-shown_text depth T e = cond (nat_le (length e.0) depth) (group_text depth T e) []
+-- that line in a form
+abbrev pub told_text : Form → ℕ → Tree → Path × Settings → List ℕ
+told_text forms.Plain depth T e = group_text depth T e
+told_text forms.Json depth T e = group_line depth T e
+
+-- the same, or nothing where the group has more names
+abbrev pub shown_text : Form → ℕ → Tree → Path × Settings → List ℕ
+shown_text form depth T e = cond (nat_le (length e.0) depth) (told_text form depth T e) []
 
 -- the lines, in the order of the groups' paths
-abbrev pub outline_text : ℕ → Tree → List ℕ
-outline_text depth T = flat_map (shown_text depth T) (entries T.groups)
+abbrev pub outline_text : Form → ℕ → Tree → List ℕ
+outline_text form depth T = flat_map (shown_text form depth T) (entries T.groups)

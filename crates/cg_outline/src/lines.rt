@@ -10,19 +10,22 @@ use crate::facts::{
     append_cpus, append_depth, append_descendants, append_effective, append_frozen, append_hidden,
     append_names, append_processes,
 };
+use crate::objects::append_line;
 use cg_derive::{effective, frozen, populated};
+use cg_json::Form;
 use cg_name::{Path, PathRef};
 use cg_text::{Controllers, Settings};
 use cg_tree::Tree;
 use std::alloc::{AllocError, Global};
 
-/// A line for each group of at most `depth` names, in the order of their paths. An error where there is no memory for it.
-pub fn outline(alloc: Global, tree: &Tree, depth: u32) -> Result<Vec<u8>, AllocError>
-    ensures { IfOk result (λ text. text.items ≡ outline_text depth tree.now.tree) }
+/// A line for each group of at most `depth` names, in the order of their paths, as plain text or as JSON. An error where there is no
+/// memory for it.
+pub fn outline(alloc: Global, tree: &Tree, depth: u32, form: Form) -> Result<Vec<u8>, AllocError>
+    ensures { IfOk result (λ text. text.items ≡ outline_text form depth tree.now.tree) }
 {
     let mut out = Vec::new(alloc);
     for (path, settings) in tree.present_groups(alloc)? {
-        append_shown(tree, &path, &settings, depth, &mut out)?;
+        append_shown(tree, &path, &settings, depth, form, &mut out)?;
     }
     Ok(out)
 }
@@ -33,17 +36,21 @@ fn append_shown(
     path: &PathRef<'_>,
     settings: &Settings,
     depth: u32,
+    form: Form,
     out: &mut Vec<u8>,
 ) -> Result<(), AllocError>
-    ensures { OnOk result (out.new.items ≡ out.old.items ++ shown_text depth tree.now.tree (path.now, settings.now)) }
+    ensures { OnOk result (out.new.items ≡ out.old.items ++ shown_text form depth tree.now.tree (path.now, settings.now)) }
 {
     if path.depth() > depth {
         return Ok(());
     }
-    append_group(tree, path, settings, depth, out)
+    match form {
+        Form::Plain => append_group(tree, path, settings, depth, out),
+        Form::Json => append_line(tree, path, settings, depth, out),
+    }
 }
 
-// Appends the line of a group.
+// Appends the plain line of a group.
 fn append_group(
     tree: &Tree,
     path: &PathRef<'_>,

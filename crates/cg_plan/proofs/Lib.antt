@@ -1,4 +1,5 @@
 pub mod Accepted
+pub mod JsonLines
 pub mod ShellLines
 pub mod ShellReading
 pub mod ShellTexts

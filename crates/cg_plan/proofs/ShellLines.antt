@@ -9,7 +9,8 @@ use Rattle.cg_history.specs.Meaning.{request_of}
 use Rattle.cg_history.specs.declared.record.Request.{Request}
 use Rattle.cg_history.specs.declared.record.Request.TheVariants as requests
 use Rattle.cg_model.specs.Command.{Command}
-use Rattle.cg_plan.specs.Shell.{asked_for, shell_head, shell_line}
+use Rattle.cg_plan.specs.Leads.{asked_for}
+use Rattle.cg_plan.specs.Shell.{shell_head, shell_line}
 
 -- one request more is a command too
 pub one_more : (rs : List Request) (i : ℕ) (d : Request) (c : rust.Command) (cs : List Command) → i < length rs → get_or rs i d ≡ requests.Do c → map request_of (take i rs) ≡ map asked_for cs → map request_of (take (i + 1) rs) ≡ map asked_for (cs ++ command_of c ∷ [])

@@ -2,7 +2,8 @@
 use Rattle.std.specs.Prelude.{◌≡◌, ℕ, List, [], ◌∷◌, ◌++◌, false}
 use Rattle.cg_model.specs.Tree.{Tree}
 use Rattle.cg_model.specs.Cgroups.{cgroups}
-use Rattle.cg_model.specs.History.{Request, Begin, Commit, Answer, Refused}
+use Rattle.cg_model.specs.Command.{Command}
+use Rattle.cg_model.specs.History.{Request, Begin, Do, Commit, Answer, Refused}
 use Rattle.cg_model.specs.Machine.{Machine, opened, step}
 use Rattle.cg_script.specs.Script.{SpellsScript}
 
@@ -31,3 +32,7 @@ pub record Leads (text : List ℕ) (A B : Tree) : Type 0 where
   pub end : Machine cgroups
   pub accepted : AcceptsAll (opened cgroups A 1048576) (in_transaction requests) end
   pub leaves : end.tree ≡ B
+
+-- a command, as a request
+abbrev pub asked_for : Command → Request cgroups
+asked_for c = Do c

@@ -9,15 +9,11 @@ use Rattle.cg_name.specs.Path.{Path}
 use Rattle.cg_name.specs.declared.file_name.FileName.{FileName}
 use Rattle.cg_name.specs.declared.file_name.FileName.TheVariants as files
 use Rattle.cg_text.specs.FileText.{flag_word, limit_word, line_text, ops_text}
-use Rattle.cg_model.specs.Cgroups.{cgroups}
 use Rattle.cg_model.specs.Command.{Command, Create, Remove, Migrate, Subtree, Freeze, Cpus, Show, Online, MaxDescendants, MaxDepth}
-use Rattle.cg_model.specs.History.{Request, Do}
 use Rattle.cg_model.specs.Tree.{Tree}
 use Rattle.cg_script.specs.Script.{SpellsScript}
-use Rattle.cg_plan.specs.Leads.{Leads}
+use Rattle.cg_plan.specs.Leads.{Leads, asked_for}
 use Rattle.cg_plan.specs.ShellWord.{Token, Word, Into, End, shell_word, tokens_of}
-use Rattle.cg_plan.specs.declared.form.PlanForm.{PlanForm}
-use Rattle.cg_plan.specs.declared.form.PlanForm.TheVariants.{Script, Shell}
 
 -- the folder of a group, below that of the root
 abbrev pub folder : List ℕ → Path → List ℕ
@@ -60,10 +56,6 @@ shell_head = codes "#!/bin/sh\nset -e\n"
 abbrev pub shell_text : List ℕ → List Command → List ℕ
 shell_text root cs = shell_head ++ flat_map (shell_line root) cs
 
--- a command, as a request
-abbrev pub asked_for : Command → Request cgroups
-asked_for c = Do c
-
 -- a text for a shell does what a script does: these commands and no other request
 pub record IsInShell (root script text : List ℕ) : Type 0 where
   pub commands : List Command
@@ -75,11 +67,6 @@ pub record LeadsInShell (root text : List ℕ) (A B : Tree) : Type 0 where
   pub script : List ℕ
   pub leads : Leads script A B
   pub same : IsInShell root script text
-
--- the text leads from the one tree to the other, in the form that is asked for
-abbrev pub LeadsAs : PlanForm → List ℕ → Tree → Tree → Type 0
-LeadsAs Script text A B = Leads text A B
-LeadsAs (Shell root) text A B = LeadsInShell root.now text A B
 
 -- ---- what a shell finds in such a text
 

@@ -10,4 +10,6 @@ pub enum PlanForm<'a> {
         /// The folder.
         root: &'a str,
     },
+    /// As JSON, an object on a line of its own for each request of the script, with its line there and its words.
+    Json,
 }

@@ -1,11 +1,13 @@
-//! Plans: scripts that turn one world into another, and the same for a shell.
+//! Plans: scripts that turn one world into another, and the same for a shell and as JSON.
 #![tactic(auto)]
 
+mod as_json;
 mod form;
 pub mod laws;
 mod named;
 mod planning;
 mod quoting;
+mod reading;
 mod running;
 mod sets;
 mod shell;

@@ -5,14 +5,15 @@ ghost use Rattle.std.specs.Io.KnownBytes.{Appends};
 ghost use Rattle.cg_diff.specs.DifferenceOf.{HaveNoWorlds, HoldsOfNamed, HoldsWith, NameNoWorlds};
 ghost use Rattle.cg_lines.specs.Device.{AppendsFront, Failed};
 ghost use Rattle.cg_lines.specs.Lines.{pending};
+ghost use Rattle.cg_plan.specs.Forms.{LeadsAs};
 ghost use Rattle.cg_plan.specs.Leads.{Leads};
-ghost use Rattle.cg_plan.specs.Shell.{LeadsAs};
 ghost use Rattle.cg_plan.specs.Told.{none_line};
 ghost use Rattle.cg_program.specs.Named.{is_standard, named};
 ghost use Rattle.cg_program.specs.Program.{status_of, fault_line, schedule_text, DoneOver, WritesUnlessFailed};
 ghost use Rattle.cg_script.specs.declared.fault.ScriptFault.{ScriptFault};
 ghost use Rattle.cg_script.specs.declared.fault.ScriptFault.TheVariants as faults;
 
+use crate::as_json::json_lines;
 use crate::form::PlanForm;
 use crate::planning::script_text;
 use crate::running::leads;
@@ -153,7 +154,7 @@ pub fn plan(alloc: Global, from: &World, to: &World) -> Result<Option<Vec<u8>>, 
     }
 }
 
-/// The same, in the form that is asked for: a text for a shell does what such a script does.
+/// The same, in the form that is asked for: a text for a shell does what such a script does, and JSON tells of its requests.
 pub fn plan_as(
     alloc: Global,
     from: &World,
@@ -168,5 +169,6 @@ pub fn plan_as(
     match form {
         PlanForm::Script => Ok(Some(script)),
         PlanForm::Shell { root } => shell_text(alloc, root, script.as_slice()),
+        PlanForm::Json => json_lines(alloc, script.as_slice()),
     }
 }

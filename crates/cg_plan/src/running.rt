@@ -6,10 +6,10 @@ ghost use Rattle.cg_model.specs.Cgroups.{cgroups};
 ghost use Rattle.cg_model.specs.Machine.{opened};
 ghost use Rattle.cg_plan.specs.Leads.{in_transaction, Accepts, AcceptsAll, Leads};
 
+use crate::reading::requests_of;
 use cg_core::{Answer, Core, Request, SessionId};
 use cg_diff::difference;
 use cg_name::Refusal;
-use cg_script::read_script;
 use cg_world::World;
 use std::alloc::{AllocError, Global};
 
@@ -29,15 +29,10 @@ pub(crate) fn leads(
 ) -> Result<bool, AllocError>
     ensures { IfOk result (λ yes. yes ≡ true → Leads text.now from.now to.now) }
 {
-    let script = match read_script(alloc, text) {
-        Ok(script) => script,
-        Err(Refusal::Syntax) => return Ok(false),
-        Err(_) => return Err(AllocError),
-    };
-    if script.aborts {
+    let Some(requests) = requests_of(alloc, text)? else {
         return Ok(false);
-    }
-    match run(alloc, from, script.requests)? {
+    };
+    match run(alloc, from, requests)? {
         Some(core) => has_tree(alloc, &core, to),
         None => Ok(false),
     }

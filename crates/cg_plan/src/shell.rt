@@ -6,11 +6,11 @@ ghost use Rattle.cg_plan.specs.Shell.{by_hand, file_in, folder, call_line, shell
 ghost use Rattle.cg_text.specs.FileText.{limit_word, line_text, ops_text};
 
 use crate::quoting::append_word;
+use crate::reading::requests_of;
 use cg_command::Command;
 use cg_core::Request;
 use cg_cpus::CpuSet;
-use cg_name::{FileName, Path, Refusal};
-use cg_script::read_script;
+use cg_name::{FileName, Path};
 use cg_text::{ControlOps, Limit, write_ops};
 use itoa::Buffer;
 use std::alloc::{AllocError, Global};
@@ -31,16 +31,11 @@ pub(crate) fn shell_text(
 ) -> Result<Option<Vec<u8>>, AllocError>
     ensures { IfOk result (λ told. IfSome told (λ text. IsInShell root.now script.now text.items)) }
 {
-    let script = match read_script(alloc, script) {
-        Ok(script) => script,
-        Err(Refusal::Syntax) => return Ok(None),
-        Err(_) => return Err(AllocError),
-    };
-    if script.aborts {
+    let Some(requests) = requests_of(alloc, script)? else {
         return Ok(None);
-    }
+    };
     let mut text = Vec::from_slice(alloc, HEAD)?;
-    for request in script.requests.as_slice() {
+    for request in requests.as_slice() {
         let Request::Do(command) = request else {
             return Ok(None);
         };

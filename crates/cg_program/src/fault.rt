@@ -12,14 +12,14 @@ use cg_lines::{Sink, write_all};
 use cg_script::ScriptFault;
 use std::alloc::AllocError;
 
-// Why a file is not shown.
+/// Why a file is not shown.
 #[derive(Clone, Copy)]
-pub(crate) enum ShowFault {
-    // A replay may stop at it, too.
+pub enum ShowFault {
+    /// A replay may stop at it, too.
     Stopped(ScriptFault),
-    // The world has no such group.
+    /// The world has no such group.
     NoGroup,
-    // The group has no such file.
+    /// The group has no such file.
     NoFile,
 }
 
@@ -40,8 +40,8 @@ impl From<AllocError> for ShowFault {
 }
 
 impl ShowFault {
-    // Tells it on a line of its own, and gives the status.
-    pub(crate) fn tell<E: Sink>(self, err: &mut E) -> u8
+    /// Tells it on a line of its own, and gives the status. It takes no memory.
+    pub fn tell<E: Sink>(self, err: &mut E) -> u8
         ensures status { result ≡ status_where (refusal_of_fault self) }
         ensures line { WritesUnlessFailed (E.taken err.old) (E.taken err.new) (E.failed err.old) (E.failed err.new) (refusal_line (refusal_of_fault self)) }
     {

@@ -10,9 +10,9 @@ mod status;
 
 pub use cg_lines::{FromRead, FromWrite};
 pub use cg_script::ScriptFault;
-pub use fault::tell_as;
+pub use fault::{ShowFault, tell_as};
 pub use inputs::{Inputs, OpenFault};
 pub use named::{is_standard, open_reader, readers, replay_named, show_named};
 pub use replaying::{replay_to, stop};
-pub use showing::show_to;
+pub use showing::{FoundFile, find_file, show_to};
 pub use status::Status;

@@ -73,12 +73,42 @@ fn show<W: Source, O: Sink>(
     ensures front { IsErrOf result (ShowFault.Stopped faults.WriteFault) → (text : List ℕ) × Finds (pending world.old) path.now file.now (Ok text) × AppendsFront (O.taken out.old) (O.taken out.new) text }
     ensures unread { SpellsNoPath path.now ⊎ NamesNoFile file.now → world.new ≡ world.old }
 {
-    let (path, file) = read_words(alloc, path, file)?;
-    let text = find(alloc, world, &path, file)?;
-    match write_all(out, text.as_slice()) {
+    let found = find_file(alloc, world, path, file)?;
+    match write_all(out, found.text.as_slice()) {
         Ok(()) => Ok(()),
         Err(_) => Err(ShowFault::Stopped(ScriptFault::WriteFault)),
     }
+}
+
+/// An interface file of a group, as two words ask for it.
+#[derive(Drop)]
+pub struct FoundFile {
+    /// The path of the group.
+    pub path: Path,
+    /// Which file it is.
+    pub file: FileName,
+    /// What it shows.
+    pub text: Vec<u8>,
+}
+
+/// Finds the file that two words ask for, in the world that the reader's text begins with. Both words are read before the world.
+pub fn find_file<W: Source>(
+    alloc: Global,
+    world: &mut LineReader<W>,
+    path: &str,
+    file: &str,
+) -> Result<FoundFile, ShowFault>
+    ensures path { IfOk result (λ found. SpellsPath path.now found.path) }
+    ensures file { IfOk result (λ found. file.now ≡ file_word found.file) }
+    ensures text { IfOk result (λ found. IsFileOf (pending world.old) found.path found.file (Ok found.text.items)) }
+    ensures why { IfErr result (λ e. WhyNotShown (pending world.old) path.now file.now (refusal_of_fault e)) }
+    ensures reads { IsErrOf result (ShowFault.Stopped faults.ReadFault) → IsBroken world.new }
+    ensures writes { ¬ (IsErrOf result (ShowFault.Stopped faults.WriteFault)) }
+    ensures unread { SpellsNoPath path.now ⊎ NamesNoFile file.now → world.new ≡ world.old }
+{
+    let (path, file) = read_words(alloc, path, file)?;
+    let text = find(alloc, world, &path, file)?;
+    Ok(FoundFile { path, file, text })
 }
 
 // The path and the file that the words name.

@@ -27,7 +27,8 @@ use cg_command_line::{Asked, Batch, Explained, Import, Plan, Telling, Unasked, r
 use cg_diff::diff_named;
 use cg_explain::{Comments, explain_named};
 use cg_import::import_named;
-use cg_json_replay::json_named;
+use cg_json::Form;
+use cg_json_program::{json_named, show_json_named};
 use cg_outline::outline_named;
 use cg_plan::{PlanForm, plan_named};
 use cg_program::{FromWrite, ScriptFault, Status, replay_named, show_named, stop};
@@ -90,14 +91,32 @@ fn answer<R: Threads + Wait + Eprint + Sync>(
             schedule,
             is_strict,
         } => json(console, world, schedule, *is_strict),
-        Asked::Show { world, path, file } => show(console, world, path, file),
-        Asked::Tree { world, depth } => tree(console, world, *depth),
+        Asked::Show {
+            world,
+            path,
+            file,
+            is_json,
+        } => show(console, world, path, file, form_of(*is_json)),
+        Asked::Tree {
+            world,
+            depth,
+            is_json,
+        } => tree(console, world, *depth, form_of(*is_json)),
         Asked::Diff { before, after } => diff(console, before, after),
         Asked::Plan(asked) => plan(console, asked),
         Asked::Run(batch) => run_batch(console, workers, batch),
-        Asked::Check { kind, files } => check(console, *kind, files.as_slice()),
+        Asked::Check {
+            kind,
+            files,
+            is_json,
+        } => check(console, *kind, files.as_slice(), form_of(*is_json)),
         Asked::Import(asked) => import(console, asked),
     }
+}
+
+// The form in which all is told.
+fn form_of(is_json: bool) -> Form {
+    if is_json { Form::Json } else { Form::Plain }
 }
 
 // Replays what the two words name.
@@ -151,7 +170,7 @@ fn replayed(console: Console<'_>, status: u8, world: &str, schedule: &str) -> u8
 }
 
 // Shows the file that the words name.
-fn show(console: Console<'_>, world: &str, path: &str, file: &str) -> u8 {
+fn show(console: Console<'_>, world: &str, path: &str, file: &str, form: Form) -> u8 {
     let rt = console.rt;
     let (mut out, mut err) = (console.out(), console.err());
     let Ok(quoted) = quoted(rt.alloc(), path) else {
@@ -161,7 +180,11 @@ fn show(console: Console<'_>, world: &str, path: &str, file: &str) -> u8 {
         Some(word) => word.as_str(),
         None => path,
     };
-    let status = show_named(rt.alloc(), &Host(rt), world, path, file, &mut out, &mut err);
+    let (alloc, inputs) = (rt.alloc(), Host(rt));
+    let status = match form {
+        Form::Plain => show_named(alloc, &inputs, world, path, file, &mut out, &mut err),
+        Form::Json => show_json_named(alloc, &inputs, world, path, file, &mut out, &mut err),
+    };
     if console.telling == Telling::Verbose && status == Status::Refused.code() {
         if tell_words(rt, path, file) {
             return status;
@@ -170,22 +193,25 @@ fn show(console: Console<'_>, world: &str, path: &str, file: &str) -> u8 {
     console.ended(status, &[world], Kind::Schedule, &[])
 }
 
-// Shows the groups of the world that the word names, their paths in bold where a terminal shows them.
-fn tree(console: Console<'_>, world: &str, depth: u32) -> u8 {
+// Shows the groups of the world that the word names, the paths of an outline in bold where a terminal shows it.
+fn tree(console: Console<'_>, world: &str, depth: u32, form: Form) -> u8 {
     let rt = console.rt;
+    let (alloc, inputs) = (rt.alloc(), Host(rt));
     let mut err = console.err();
-    let status = if is_coloured(rt) {
-        let mut out = FromWrite::new(Coloured::new(rt.stdout()));
-        outline_named(rt.alloc(), &Host(rt), world, depth, &mut out, &mut err)
-    } else {
-        outline_named(
-            rt.alloc(),
-            &Host(rt),
+    let status = match form {
+        Form::Plain if is_coloured(rt) => {
+            let mut out = FromWrite::new(Coloured::new(rt.stdout()));
+            outline_named(alloc, &inputs, world, depth, form, &mut out, &mut err)
+        }
+        _ => outline_named(
+            alloc,
+            &inputs,
             world,
             depth,
+            form,
             &mut console.out(),
             &mut err,
-        )
+        ),
     };
     console.ended(status, &[world], Kind::Schedule, &[])
 }
@@ -205,6 +231,7 @@ fn plan(console: Console<'_>, asked: &Plan) -> u8 {
     let (from, to) = (asked.from, asked.to);
     let form = match asked.shell {
         Some(root) => PlanForm::Shell { root },
+        None if asked.is_json => PlanForm::Json,
         None => PlanForm::Script,
     };
     let status = plan_named(rt.alloc(), &Host(rt), from, to, form, &mut out, &mut err);
@@ -212,11 +239,11 @@ fn plan(console: Console<'_>, asked: &Plan) -> u8 {
 }
 
 // Checks the texts that the words name, as of this kind where one is given.
-fn check(console: Console<'_>, kind: Option<&str>, files: &[&str]) -> u8 {
+fn check(console: Console<'_>, kind: Option<&str>, files: &[&str], form: Form) -> u8 {
     let rt = console.rt;
     let (mut out, mut err) = (console.out(), console.err());
     let kind = kind.and_then(Kind::read);
-    let status = check_named(rt.alloc(), &Host(rt), kind, files, &mut out, &mut err);
+    let status = check_named(rt.alloc(), &Host(rt), kind, files, form, &mut out, &mut err);
     // As of schedules, of which no fault is told once more.
     console.ended(status, &[], Kind::Schedule, files)
 }
@@ -266,6 +293,7 @@ fn run_batch<R: Threads + Wait + Eprint + Sync>(
         words,
         batch.workers,
         batch.tries,
+        form_of(batch.is_json),
         &mut out,
         &mut err,
     );

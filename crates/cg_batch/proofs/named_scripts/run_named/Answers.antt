@@ -48,13 +48,13 @@ returns-in-Ok-clause-front g c = λ three.
     elim (cases_eq c.run_to-status.result 0) [
       | inl zero ↦
           let told = c.run_to-status.ensures.done zero in
-          inr (texts, c.in-Ok.ensures.texts, (told.0, AppendsFront-whole old new (batch_text told.0.ends told.0.opening told.0.history) told.1.0))
+          inr (texts, c.in-Ok.ensures.texts, (told.0, AppendsFront-whole old new (batch_text c.args.form told.0.ends told.0.opening told.0.history) told.1.0))
       | inr some ↦ elim (c.run_to-status.ensures.front (sym (c.end_history.ensures.failed some).0 ∙ three)) [
         | inl stays ↦ inl stays.0
         | inr stops ↦ inr (
           texts,
           c.in-Ok.ensures.texts,
-          (stops.0, front_told old new g.P.Output.Sink.taken c.in-Ok.history c.run_to-status.new.history (batch_text stops.0.ends stops.0.opening stops.0.history) (history_text stops.0.history) stops.1),
+          (stops.0, front_told old new g.P.Output.Sink.taken c.in-Ok.history c.run_to-status.new.history (batch_text c.args.form stops.0.ends stops.0.opening stops.0.history) (history_text stops.0.history) stops.1),
         )
       ]
     ]

@@ -1,4 +1,4 @@
-use Rattle.std.proofs.Common.{◌≡◌, ◌≢◌, arith, inr, map, subst}
+use Rattle.std.proofs.Common.{arith, inr, map, subst}
 use Rattle.cg_batch.specs.Batch.{EndSo}
 use Rattle.cg_batch.proofs.running.run_to.Goals as goal
 
@@ -13,6 +13,7 @@ returns-in-Ok-clause-done g c = λ zero.
         closed = c.in-Ok.ensures.closed;
         sound = c.in-Ok.ensures.sound;
         bound = report.core.bound;
+        low = c.in-Ok.ensures.low;
         within = c.in-Ok.ensures.within;
         reached = c.in-Ok.ensures.reached;
       },
@@ -31,6 +32,7 @@ returns-in-Ok-clause-front g c = λ three.
         closed = c.in-Ok.ensures.closed;
         sound = c.in-Ok.ensures.sound;
         bound = report.core.bound;
+        low = c.in-Ok.ensures.low;
         within = c.in-Ok.ensures.within;
         reached = c.in-Ok.ensures.reached;
       },

@@ -5,4 +5,4 @@ use Rattle.cg_outline.proofs.lines.outline.Given as goal
 
 -- the lines so far and those of the groups that are left are all of them
 abbrev pub invariant-loop-path : goal.invariant-loop-path
-invariant-loop-path l = l.out.items ++ flat_map (shown_text l.depth l.tree.tree) l.path-iterator ≡ outline_text l.depth l.tree.tree
+invariant-loop-path l = l.out.items ++ flat_map (shown_text l.form l.depth l.tree.tree) l.path-iterator ≡ outline_text l.form l.depth l.tree.tree

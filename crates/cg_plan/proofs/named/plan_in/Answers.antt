@@ -2,7 +2,7 @@ use Rattle.std.proofs.Common.{rules}
 use Rattle.std.proofs.lemmas.Option.{IfSome_then}
 use Rattle.cg_lines.specs.Lines.{pending}
 use Rattle.cg_diff.proofs.TwoWorlds.{both_read, second_missing}
-use Rattle.cg_plan.specs.Shell.{LeadsAs}
+use Rattle.cg_plan.specs.Forms.{LeadsAs}
 use Rattle.cg_plan.proofs.named.plan_in.Goals as goal
 
 pub returns-in_err-to-clause-syntax : goal.returns-in_err-to-clause-syntax

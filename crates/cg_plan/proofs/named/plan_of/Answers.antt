@@ -4,7 +4,7 @@ use Rattle.cg_lines.specs.Lines.{pending}
 use Rattle.cg_program.proofs.NamedLemmas.{done_named}
 use Rattle.cg_diff.proofs.TwoWorlds.{none_named}
 use Rattle.cg_diff.specs.DifferenceOf.{HoldsWith}
-use Rattle.cg_plan.specs.Shell.{LeadsAs}
+use Rattle.cg_plan.specs.Forms.{LeadsAs}
 use Rattle.cg_plan.proofs.named.plan_of.Goals as goal
 
 pub returns-clause-value : goal.returns-clause-value

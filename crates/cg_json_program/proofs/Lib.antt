@@ -1,0 +1,4 @@
+mod Lines
+mod Once
+mod Plain
+mod Played

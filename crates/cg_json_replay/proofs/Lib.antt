@@ -1,6 +1,0 @@
-mod Lines
-mod Once
-mod Pieces
-mod Plain
-mod Played
-mod RunLemmas

@@ -1,5 +1,0 @@
-use Rattle.std.proofs.Common.{length}
-use Rattle.cg_json_replay.proofs.world.+append_controllers_of.Given as goal
-
-abbrev pub decreases-append_controllers_of : goal.decreases-append_controllers_of
-decreases-append_controllers_of l = length l.all.now

@@ -1,6 +1,0 @@
-pub mod Meaning
-pub mod Output
-pub mod Report
-pub mod Run
-pub mod Steps
-pub mod WorldValue
