@@ -4,17 +4,20 @@ ghost use Rattle.cg_maps.specs.FiniteMap.{is_nonempty};
 ghost use Rattle.cg_maps.specs.FiniteSet.{FiniteSet};
 ghost use Rattle.cg_model.specs.Command as model;
 ghost use Rattle.cg_model.specs.Command.{IsAccepted};
-ghost use Rattle.cg_model.specs.Derived.{processes};
+ghost use Rattle.cg_model.specs.Control.{in_use, used_below, plan as planned_by};
+ghost use Rattle.cg_model.specs.Derived.{children, processes};
 ghost use Rattle.cg_model.specs.Effect.{effect};
 ghost use Rattle.cg_model.specs.Sound.{admits};
 ghost use Rattle.cg_model.specs.System.{Refuse};
+ghost use Rattle.cg_name.specs.Path.{is_root};
+ghost use Rattle.cg_text.specs.declared.controllers.Controllers.{Controllers};
 ghost use Rattle.cg_text.specs.declared.limit.Limit.{Limit};
 
 use crate::limits::{too_deep, too_many};
 use cg_avail::plan;
 use cg_derive::{available, check_file, parent_settings};
 use cg_name::{Path, Refusal};
-use cg_text::{ControlOps, FileName, Settings};
+use cg_text::{ControlOps, Controllers, FileName, Settings};
 use cg_tree::Tree;
 
 // The path isn't the root's, its parent is there, it is free, and no group above it is full or too far above.
@@ -92,15 +95,33 @@ pub(crate) fn check_subtree(path: &Path, ops: ControlOps, tree: &Tree) -> Result
     let Some(available) = available(tree, path) else {
         return Err(Refusal::NoGroup);
     };
-    plan(
-        available,
-        settings.control,
-        ops,
-        tree.control_below(path),
-        tree.has_processes(path),
-        path.is_root(),
-    )?;
+    plan_on(path, available, settings.control, ops, tree)?;
     Ok(())
+}
+
+// What the operations leave, by what is available to the group, what it passes on, and the groups and processes in it.
+fn plan_on(
+    path: &Path,
+    available: Controllers,
+    current: Controllers,
+    ops: ControlOps,
+    tree: &Tree,
+) -> Result<Controllers, Refusal>
+    ensures { result ≡ planned_by available current ops (used_below (children tree.now.tree path.now)) (is_nonempty (processes tree.now.tree path.now)) (is_root path.now) }
+{
+    let used = used_by_children(path, ops, tree);
+    let has_own = tree.has_processes(path);
+    plan(available, current, ops, used, has_own, path.is_root())
+}
+
+// The controllers that a child passes on, as far as they matter: where none is to be disabled, no child is looked at.
+fn used_by_children(path: &Path, ops: ControlOps, tree: &Tree) -> Controllers
+    ensures { (current : Controllers) → in_use current ops result ≡ in_use current ops (used_below (children tree.now.tree path.now)) }
+{
+    if ops.minus.is_empty() {
+        return Controllers::empty();
+    }
+    tree.control_below(path)
 }
 
 // The group is there, and isn't the root.
