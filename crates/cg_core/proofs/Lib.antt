@@ -1,7 +1,9 @@
 mod AtHistory
 mod Begun
+mod BusyTold
 mod EndingBy
 mod Endings
+mod HolderFound
 mod Open
 mod Opened
 mod RunCommands

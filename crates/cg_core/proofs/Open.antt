@@ -78,7 +78,7 @@ nothing_there (Some x) e = absurd (true≢false e)
 abbrev pub ArePaired : ℕ → ℕ → Opens → Type 0
 ArePaired s t ps = AllByRecursion (λ p. (p.0 == s) ≡ (p.1 == t)) ps
 
-eqb-swapped : (a b : ℕ) → (a == b) ≡ (b == a)
+pub eqb-swapped : (a b : ℕ) → (a == b) ≡ (b == a)
 eqb-swapped a b =
     elim (a == b) as (λ x. (a == b) ≡ x → x ≡ (b == a)) [
       | true ↦ λ e. sym (eq-eqb b a (sym (eqb-true a b e)))

@@ -5,6 +5,7 @@ pub mod Core
 pub mod Doing
 pub mod Ending
 pub mod Held
+pub mod InTheWay
 pub mod Parts
 pub mod Refusing
 pub mod Settled

@@ -1,5 +1,5 @@
 -- Comments stand aside: without them the plain answers are left.
-use Rattle.std.proofs.Common.{◌≡◌, ℕ, zero, suc, ◌-◌, ◌&&◌, Bool, get_or, true, false, cond, List, [], ◌∷◌, ◌++◌, nat_le, nat_lt, take, filter, length, codes, Some, None, Option, refl, sym, ap, subst, ◌∙◌, inl, inr, append_assoc, append-nil}
+use Rattle.std.proofs.Common.{◌≡◌, ℕ, zero, suc, ◌-◌, ◌&&◌, Bool, get_or, true, false, cond, List, [], ◌∷◌, ◌++◌, nat_le, nat_lt, take, filter, length, reverse, slice_get, codes, Some, None, Option, refl, sym, ap, subst, ◌∙◌, inl, inr, append_assoc, append-nil}
 use Rattle.std.specs.List.{AllByRecursion, flat_map}
 use Rattle.std.specs.Fmt.{decimal}
 use Rattle.std.proofs.lemmas.Bool.{cond_both}
@@ -21,7 +21,7 @@ use Rattle.cg_core.specs.State.{CoreState, reply}
 use Rattle.cg_model.specs.Cgroups.{cgroups}
 use Rattle.cg_model.specs.Command.{Command, Create, Remove, Migrate, Subtree, Freeze, Cpus, Show, Online, MaxDescendants, MaxDepth}
 use Rattle.cg_model.specs.Derived.{children, processes}
-use Rattle.cg_model.specs.History.{Answer, Begun, Gave, Saved, WentBack, Committed, Aborted, Refused, Do, History, Request}
+use Rattle.cg_model.specs.History.{Answer, Begun, Gave, Saved, WentBack, Committed, Aborted, Refused, Do, History, Record, Request}
 use Rattle.cg_model.specs.System.{Done, Text}
 use Rattle.cg_model.specs.Tree.{Tree, group}
 use Rattle.cg_tree.specs.Ancestors.{ancestors, ancestors_above}
@@ -32,6 +32,11 @@ use Rattle.cg_replay.specs.Answering.{EachAnswers}
 use Rattle.cg_replay.specs.Replay.{Replay, Answers, ending_text, opened, tree_now}
 use Rattle.cg_explain.specs.Comment.{comment}
 use Rattle.cg_explain.specs.Explained.{behind_answer, begun_behind, begun_line, busy_note, echo_text, is_beginning, opened_with, refusal_notes, is_comment, is_some_text, newest_notes, notes_text, record_notes, shown_line, told_text, uncommented, without_comments, CommentsStandAside, Explains}
+use Rattle.cg_explain.specs.InTheWay.{clash_note, line_note, mark_said, record_note, request_note, way_notes}
+use Rattle.cg_explain.proofs.CommandsOnLine.{line_on_line}
+use Rattle.cg_core.specs.InTheWay.{in_the_way}
+use Rattle.cg_command_text.specs.CommandText.{command_text}
+use Rattle.cg_model.specs.Footprint.{Mark, footprint}
 use Rattle.cg_explain.specs.Notes.{child_said, children_notes, command_notes, computer_note, control_note, deep_note, deep_where, group_notes, is_wanted, lacking_note, lacking_notes, many_note, many_where, missing_note, path_note, processes_note, share, spaced_pid}
 use Rattle.cg_explain.specs.declared.explainer.Explainer.{Explainer}
 use Rattle.cg_explain.proofs.OneLine.{IsOnLine, answer_on_line, both_on_line, controller_on_line, lines_on_line, names_on_line, no_newline, number_on_line, path_on_line, refusal_on_line}
@@ -225,20 +230,42 @@ busy_aside begun t h =
     aside_where (is_some_text (begun_line begun t)) (comment text)
     (aside_comment text (both_on_line (codes "transaction " ++ decimal t ++ codes " began on line ") (begun_line begun t) (both_on_line (codes "transaction " ++ decimal t) (codes " began on line ") (number_on_line t) refl) (one_on_line begun (t - 1) h)))
 
-refusal_aside : (begun : List (List ℕ)) (T : Tree) (c : Command) (r : Refusal) → AreOnLine begun → IsAside (refusal_notes begun T c r)
-refusal_aside begun T c (refusals.Busy t) h = busy_aside begun t.0 h
-refusal_aside begun T c r h = command_aside T c r
+-- ---- the command in the way
 
-record_aside : (begun : List (List ℕ)) (T : Tree) (r : Request cgroups) (a : Answer) → AreOnLine begun → IsAside (record_notes begun T r a)
-record_aside begun T (Do c) (Refused r) h = refusal_aside begun T c r h
-record_aside begun T _ _ h = aside_none
+line_aside : (n : ℕ) (m : Mark) (c : Command) → IsAside (line_note n m c)
+line_aside n m c = aside_comment (codes "line " ++ decimal n ++ codes " " ++ mark_said m ++ codes ": " ++ command_text c) (line_on_line n m c)
 
-newest_aside : (begun : List (List ℕ)) (T : Tree) (h : History cgroups) → AreOnLine begun → IsAside (newest_notes begun T h)
-newest_aside begun T [] on = aside_none
-newest_aside begun T (r ∷ h) on = record_aside begun T r.request r.answer on
+request_aside : (n : ℕ) (m : Mark) (r : Request cgroups) → IsAside (request_note n m r)
+request_aside n m (Do c) = line_aside n m c
+request_aside n m _ = aside_none
 
-notes_aside : (is_wanted : Bool) (n : ℕ) (begun : List (List ℕ)) (c : CoreState) → AreOnLine begun → IsAside (notes_text is_wanted n begun c)
-notes_aside is_wanted n begun c on = aside_where (is_wanted && nat_lt n (length c.history)) _ (newest_aside begun (tree_now c) c.history on)
+asked_aside : (n : ℕ) (m : Mark) (r : Option (Record cgroups)) → IsAside (record_note n m r)
+asked_aside n m None = aside_none
+asked_aside n m (Some r) = request_aside n m r.request
+
+clash_aside : (asked : List ℕ) (h : History cgroups) (k : Option (ℕ × Mark)) → IsAside (clash_note asked h k)
+clash_aside asked h None = aside_none
+clash_aside asked h (Some k) = asked_aside (get_or asked k.0 0) k.1 (slice_get (reverse h) k.0)
+
+way_aside : (asked : List ℕ) (k : CoreState) (u : ℕ) (c : Command) → IsAside (way_notes asked k u c)
+way_aside asked k u c = clash_aside asked k.history (in_the_way k u (footprint c (tree_now k)))
+
+-- ---- all that is told of a record
+
+refusal_aside : (begun : List (List ℕ)) (asked : List ℕ) (k : CoreState) (c : Command) (r : Refusal) → AreOnLine begun → IsAside (refusal_notes begun asked k c r)
+refusal_aside begun asked k c (refusals.Busy t) h = aside_both (busy_note begun t.0) (way_notes asked k t.0 c) (busy_aside begun t.0 h) (way_aside asked k t.0 c)
+refusal_aside begun asked k c r h = command_aside (tree_now k) c r
+
+record_aside : (begun : List (List ℕ)) (asked : List ℕ) (k : CoreState) (r : Request cgroups) (a : Answer) → AreOnLine begun → IsAside (record_notes begun asked k r a)
+record_aside begun asked k (Do c) (Refused r) h = refusal_aside begun asked k c r h
+record_aside begun asked k _ _ h = aside_none
+
+newest_aside : (begun : List (List ℕ)) (asked : List ℕ) (k : CoreState) (h : History cgroups) → AreOnLine begun → IsAside (newest_notes begun asked k h)
+newest_aside begun asked k [] on = aside_none
+newest_aside begun asked k (r ∷ h) on = record_aside begun asked k r.request r.answer on
+
+notes_aside : (is_wanted : Bool) (n : ℕ) (begun : List (List ℕ)) (asked : List ℕ) (c : CoreState) → AreOnLine begun → IsAside (notes_text is_wanted n begun asked c)
+notes_aside is_wanted n begun asked c on = aside_where (is_wanted && nat_lt n (length c.history)) _ (newest_aside begun asked c c.history on)
 
 -- ---- all lines
 
@@ -260,7 +287,7 @@ leaves_plain (line ∷ lines) s t told began on h =
     let u : Explainer = h.2 in
     let e = h.3 in
     let begun : AreOnLine u.begun =
-    subst (λ (x : Explainer). AreOnLine x.begun) (sym e.3) (still_on_line s.begun (behind_answer s e.1 (shown_line line) e.0).lines (shown_line line) e.0 began (shown_on_line line on.0))
+    subst (λ (x : Explainer). AreOnLine x.begun) (sym e.3) (still_on_line s.begun (behind_answer s e.1 (length s.player.core.history) (shown_line line) e.0).lines (shown_line line) e.0 began (shown_on_line line on.0))
     in
     let more : LeavesPlain u t lines others = leaves_plain lines u t others begun on.1 h.4 in
     let here : u.player ≡ e.1 = ap (λ (x : Explainer). x.player) e.3 in record {
@@ -270,9 +297,9 @@ leaves_plain (line ∷ lines) s t told began on h =
           ap (λ x. without_comments (x ++ rest)) h.5
           ∙ ap without_comments (append_assoc first others rest)
           ∙ ap (λ x. without_comments (x ++ (others ++ rest))) e.4
-          ∙ ap without_comments (append_assoc (told_text u (shown_line line) e.0) (notes_text s.comments.explain (length s.player.core.history) u.begun e.1.core) (others ++ rest))
-          ∙ told_left s u e.1 line e.0 (notes_text s.comments.explain (length s.player.core.history) u.begun e.1.core ++ (others ++ rest)) on.0 e.2
-          ∙ ap (λ x. e.0 ++ x) (notes_aside s.comments.explain (length s.player.core.history) u.begun e.1.core begun (others ++ rest))
+          ∙ ap without_comments (append_assoc (told_text u (shown_line line) e.0) (notes_text s.comments.explain (length s.player.core.history) u.begun u.asked e.1.core) (others ++ rest))
+          ∙ told_left s u e.1 line e.0 (notes_text s.comments.explain (length s.player.core.history) u.begun u.asked e.1.core ++ (others ++ rest)) on.0 e.2
+          ∙ ap (λ x. e.0 ++ x) (notes_aside s.comments.explain (length s.player.core.history) u.begun u.asked e.1.core begun (others ++ rest))
           ∙ ap (λ x. e.0 ++ x) (more.left rest)
           ∙ sym (append_assoc e.0 more.plain (without_comments rest));
     }

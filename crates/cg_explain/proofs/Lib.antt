@@ -1,4 +1,5 @@
 mod Aside
+mod CommandsOnLine
 mod OneLine
 mod Played
 mod Told

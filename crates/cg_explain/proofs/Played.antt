@@ -1,5 +1,5 @@
 -- A schedule that is played with comments gives its explained output, and nothing else.
-use Rattle.std.proofs.Common.{◌≡◌, ℕ, Bool, List, ◌++◌, length, Some, None, Option, IfSome, refl, sym, ap, subst, ◌∙◌}
+use Rattle.std.proofs.Common.{◌≡◌, ℕ, Bool, List, ◌++◌, length, Some, None, Option, IfSome, refl, sym, subst, ◌∙◌}
 use Rattle.std.specs.Io.KnownBytes.{Appends, Keeps}
 use Rattle.cg_text.specs.Words.{lines_of}
 use Rattle.cg_lines.specs.Device.{AppendsFront, AppendsTo}
@@ -15,8 +15,8 @@ use Rattle.cg_explain.specs.declared.explainer.Explainer.{Explainer}
 pub explains_one : IsOneAnswer Explains
 explains_one s t u line a b x y =
     let same = answers_one s.player x.1 y.1 line x.0 y.0 x.2 y.2 in
-    let behind : t ≡ u = x.3 ∙ (λ i. behind_answer s (same.1 i) (shown_line line) (same.0 i)) ∙ sym y.3 in
-    (x.4 ∙ (λ i. told_text (behind i) (shown_line line) (same.0 i) ++ notes_text s.comments.explain (length s.player.core.history) (behind i).begun (same.1 i).core) ∙ sym y.4, behind)
+    let behind : t ≡ u = x.3 ∙ (λ i. behind_answer s (same.1 i) (length s.player.core.history) (shown_line line) (same.0 i)) ∙ sym y.3 in
+    (x.4 ∙ (λ i. told_text (behind i) (shown_line line) (same.0 i) ++ notes_text s.comments.explain (length s.player.core.history) (behind i).begun (behind i).asked (same.1 i).core) ∙ sym y.4, behind)
 
 -- what was written is the front of any explained output of the text
 abbrev pub FrontOf : Explainer → Option (List ℕ) → Option (List ℕ) → Option (List ℕ) → Type 0
@@ -58,8 +58,8 @@ front_nothing s (Some text) a = λ is_refused out o. AppendsFront-nil a a out (k
     kept (Some xs) = refl
 
 -- what is told of a line explains it
-pub explains_told : (s u : Explainer) (p : Replay) (line written a b shown told : List ℕ) (before : ℕ) → Answers s.player line written p → a ≡ written → b ≡ written → u ≡ behind_answer s p shown a → shown ≡ shown_line line → before ≡ length s.player.core.history
-    → told ≡ told_text u shown b ++ notes_text u.comments.explain before u.begun u.player.core → Explains s line told u
+pub explains_told : (s u : Explainer) (p : Replay) (line written a b shown told : List ℕ) (before : ℕ) → Answers s.player line written p → a ≡ written → b ≡ written → u ≡ behind_answer s p before shown a → shown ≡ shown_line line → before ≡ length s.player.core.history
+    → told ≡ told_text u shown b ++ notes_text u.comments.explain before u.begun u.asked u.player.core → Explains s line told u
 explains_told s u p line written a b shown told before answers is same behind short n e =
-    let state : u ≡ behind_answer s p (shown_line line) written = behind ∙ (λ i. behind_answer s p (short i) (is i)) in
-    (written, p, answers, state, e ∙ (λ i. told_text u (short i) (same i) ++ notes_text (state i).comments.explain (n i) u.begun (state i).player.core))
+    let state : u ≡ behind_answer s p (length s.player.core.history) (shown_line line) written = behind ∙ (λ i. behind_answer s p (n i) (short i) (is i)) in
+    (written, p, answers, state, e ∙ (λ i. told_text u (short i) (same i) ++ notes_text (state i).comments.explain (n i) u.begun u.asked (state i).player.core))

@@ -16,6 +16,7 @@ use Rattle.cg_script.specs.Request.{newline}
 use Rattle.cg_replay.specs.Answering.{EachAnswers}
 use Rattle.cg_replay.specs.Replay.{Replay, Answers, IsOutput, ending_text, opened, tree_now}
 use Rattle.cg_explain.specs.Comment.{comment}
+use Rattle.cg_explain.specs.InTheWay.{way_notes}
 use Rattle.cg_explain.specs.Notes.{command_notes}
 use Rattle.cg_explain.specs.declared.explainer.Comments.{Comments}
 use Rattle.cg_explain.specs.declared.explainer.Explainer.{Explainer}
@@ -61,51 +62,58 @@ began_note t line = comment (codes "transaction " ++ decimal t ++ codes " began 
 abbrev pub busy_note : List (List ℕ) → ℕ → List ℕ
 busy_note begun t = cond (is_some_text (begun_line begun t)) (began_note t (begun_line begun t)) []
 
+-- ---- the lines that asked for the records
+
+-- the number n of a line behind those of the lines before it, where there are more records behind it than k
+abbrev pub asked_behind : List ℕ → ℕ → ℕ → ℕ → List ℕ
+asked_behind asked n k records = cond (nat_lt k records) (asked ++ n ∷ []) asked
+
 -- ---- one line
 
--- the state behind a line that was answered so, where the schedule stands thus then
-abbrev pub behind_answer : Explainer → Replay → List ℕ → List ℕ → Explainer
-behind_answer s p line answer = record {
+-- the state behind a line that was answered so, where the schedule stands thus then, and there were k records before
+abbrev pub behind_answer : Explainer → Replay → ℕ → List ℕ → List ℕ → Explainer
+behind_answer s p k line answer = record {
   player = p;
   comments = s.comments;
   lines = more s.lines;
   is_refused = s.is_refused || is_refusal answer;
   begun = begun_behind s.begun (more s.lines) line answer;
+  asked = asked_behind s.asked (more s.lines) k (length p.core.history);
 }
 
 -- what is written for a line that was answered so, in the state behind it
 abbrev pub told_text : Explainer → List ℕ → List ℕ → List ℕ
 told_text t line answer = echo_text t.comments.echo t.lines line answer ++ answer
 
--- what is told of a refused command: who is in the way, or else what is in its way in the tree
-abbrev pub refusal_notes : List (List ℕ) → Tree → Command → Refusal → List ℕ
-refusal_notes begun T c (Busy t) = busy_note begun t.0
-refusal_notes begun T c r = command_notes T c r
+-- what is told of a refused command: who is in the way and by which command, or else what is in its way in the tree
+abbrev pub refusal_notes : List (List ℕ) → List ℕ → CoreState → Command → Refusal → List ℕ
+refusal_notes begun asked k c (Busy t) = busy_note begun t.0 ++ way_notes asked k t.0 c
+refusal_notes begun asked k c r = command_notes (tree_now k) c r
 
 -- what is told of a record: of a command that is refused what is in its way
-abbrev pub record_notes : List (List ℕ) → Tree → Request cgroups → Answer → List ℕ
-record_notes begun T (Do c) (Refused r) = refusal_notes begun T c r
-record_notes begun T _ _ = []
+abbrev pub record_notes : List (List ℕ) → List ℕ → CoreState → Request cgroups → Answer → List ℕ
+record_notes begun asked k (Do c) (Refused r) = refusal_notes begun asked k c r
+record_notes begun asked k _ _ = []
 
 -- what is told of the newest record
-abbrev pub newest_notes : List (List ℕ) → Tree → History cgroups → List ℕ
-newest_notes begun T [] = []
-newest_notes begun T (r ∷ h) = record_notes begun T r.request r.answer
+abbrev pub newest_notes : List (List ℕ) → List ℕ → CoreState → History cgroups → List ℕ
+newest_notes begun asked k [] = []
+newest_notes begun asked k (r ∷ h) = record_notes begun asked k r.request r.answer
 
 -- behind an answer stands what is told of its record, where that is wanted and there is one: there were n before
-abbrev pub notes_text : Bool → ℕ → List (List ℕ) → CoreState → List ℕ
-notes_text is_wanted n begun c = cond (is_wanted && nat_lt n (length c.history)) (newest_notes begun (tree_now c) c.history) []
+abbrev pub notes_text : Bool → ℕ → List (List ℕ) → List ℕ → CoreState → List ℕ
+notes_text is_wanted n begun asked k = cond (is_wanted && nat_lt n (length k.history)) (newest_notes begun asked k k.history) []
 
 -- a line is answered as it always is, with comments beside that
 abbrev pub Explains : Explainer → List ℕ → List ℕ → Explainer → Type 0
 Explains s line out t =
-    (answer : List ℕ) × (p : Replay) × Answers s.player line answer p × (t ≡ behind_answer s p (shown_line line) answer)
-    × (out ≡ told_text t (shown_line line) answer ++ notes_text s.comments.explain (length s.player.core.history) t.begun p.core)
+    (answer : List ℕ) × (p : Replay) × Answers s.player line answer p × (t ≡ behind_answer s p (length s.player.core.history) (shown_line line) answer)
+    × (out ≡ told_text t (shown_line line) answer ++ notes_text s.comments.explain (length s.player.core.history) t.begun t.asked p.core)
 
 -- ---- a whole text
 
 abbrev pub opened_with : Comments → Tree → ℕ → Explainer
-opened_with comments T l = record { player = opened T l; comments = comments; lines = 0; is_refused = false; begun = [] }
+opened_with comments T l = record { player = opened T l; comments = comments; lines = 0; is_refused = false; begun = []; asked = [] }
 
 -- what is written for a schedule's text from here on, and whether a request was refused
 pub record IsExplainedFrom (s : Explainer) (text : List ℕ) (is_refused : Bool) (out : List ℕ) : Type 0 where

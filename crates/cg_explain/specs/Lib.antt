@@ -1,4 +1,5 @@
 pub mod Comment
 pub mod Explained
+pub mod InTheWay
 pub mod Notes
 pub mod Run

@@ -1,5 +1,5 @@
 -- What is told of a command that the tree refuses: what is in its way.
-use Rattle.std.specs.Prelude.{ℕ, ◌+◌, ◌-◌, Bool, true, cond, nat_le, nat_lt, List, [], ◌∷◌, ◌++◌, filter, take, length, Option, Some, None, codes}
+use Rattle.std.specs.Prelude.{ℕ, ◌-◌, Bool, true, cond, nat_le, nat_lt, List, [], ◌∷◌, ◌++◌, filter, take, length, Option, Some, None, codes}
 use Rattle.std.specs.List.{flat_map}
 use Rattle.std.specs.Fmt.{decimal}
 use Rattle.cg_name.specs.Controller.{controller_word}

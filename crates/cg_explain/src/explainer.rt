@@ -9,6 +9,7 @@ ghost use Rattle.cg_lines.specs.Device.{AppendsFront, Failed};
 ghost use Rattle.cg_replay.specs.Replay.{ending_text};
 ghost use Rattle.cg_script.specs.declared.fault.ScriptFault.TheVariants as faults;
 
+use crate::asked::Asked;
 use crate::begun::Begun;
 use crate::comment::{append_comment, append_number};
 use crate::notes::append_record_notes;
@@ -35,6 +36,7 @@ pub(crate) struct Explainer {
     lines: u64,
     is_refused: bool,
     begun: Begun,
+    asked: Asked,
 }
 
 // By hand, so that whoever drops one calls this, and doesn't drop each thing in it: that makes proofs shorter.
@@ -46,6 +48,7 @@ impl Drop for Explainer {
             lines: _,
             is_refused: _,
             begun: _,
+            asked: _,
         } = self;
     }
 }
@@ -68,6 +71,7 @@ impl Explainer {
             lines: 0,
             is_refused: false,
             begun: Begun::none(alloc),
+            asked: Asked::none(alloc),
         })
     }
 
@@ -94,14 +98,17 @@ impl Explainer {
         self.player.write_end(alloc, waiting, sink)
     }
 
-    // Counts a line that was answered so; `line` is what is shown of it.
-    fn count(&mut self, line: &[u8], answer: &[u8]) -> Result<(), AllocError>
-        ensures { OnOk result (self.new ≡ behind_answer self.old self.old.player line.now answer.now) }
+    // Counts a line that was answered so, before which there were so many records; `line` is what is shown of it.
+    fn count(&mut self, before: usize, line: &[u8], answer: &[u8]) -> Result<(), AllocError>
+        ensures { OnOk result (self.new ≡ behind_answer self.old self.old.player before line.now answer.now) }
     {
         self.lines = self.lines.saturating_add(1);
         self.is_refused = self.is_refused || is_refusal(answer);
         if is_beginning(answer) {
             self.begun.add(self.lines, line)?;
+        }
+        if before < self.player.core().history().len() {
+            self.asked.add(self.lines)?;
         }
         Ok(())
     }
@@ -123,14 +130,15 @@ impl Explainer {
     // Appends what is told of the record that the last line made, if it made one: there were so many before. After an error, where
     // there is no memory, nothing is said of `out`.
     fn append_notes(&self, before: usize, out: &mut Vec<u8>) -> Result<(), AllocError>
-        ensures { OnOk result (out.new.items ≡ out.old.items ++ notes_text self.now.comments.explain before self.now.begun self.now.player.core) }
+        ensures { OnOk result (out.new.items ≡ out.old.items ++ notes_text self.now.comments.explain before self.now.begun self.now.asked self.now.player.core) }
     {
         let core = self.player.core();
         let records = core.history();
         if !self.comments.explain || records.len() <= before {
             return Ok(());
         }
-        append_record_notes(&self.begun, core.tree(), &records[records.len() - 1], out)
+        let newest = &records[records.len() - 1];
+        append_record_notes(&self.begun, &self.asked, core, newest, out)
     }
 }
 
@@ -147,7 +155,7 @@ impl Answerer for Explainer {
         let mut answer = Vec::new(alloc);
         self.player.answer(alloc, line, &mut answer)?;
         let shown = shown_line(line);
-        self.count(shown, answer.as_slice())?;
+        self.count(before, shown, answer.as_slice())?;
         let mut told = self.told(alloc, shown, answer.as_slice())?;
         self.append_notes(before, &mut told)?;
         out.extend_from_slice(told.as_slice())?;
@@ -159,7 +167,7 @@ impl Answerer for Explainer {
         let before = self.player.core().history().len();
         let mut answer = Vec::new(alloc);
         refuse(&mut answer)?;
-        self.count(b"", answer.as_slice())?;
+        self.count(before, b"", answer.as_slice())?;
         let mut told = self.told(alloc, b"", answer.as_slice())?;
         self.append_notes(before, &mut told)?;
         out.extend_from_slice(told.as_slice())?;

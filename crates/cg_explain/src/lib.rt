@@ -2,10 +2,12 @@
 //! request that is refused.
 #![tactic(auto)]
 
+mod asked;
 mod begun;
 mod below;
 mod comment;
 mod explainer;
+mod in_the_way;
 mod named;
 mod notes;
 mod playing;

@@ -5,11 +5,14 @@ ghost use Rattle.cg_explain.specs.Explained.{began_note, busy_note, record_notes
 ghost use Rattle.cg_history.specs.Meaning.{answer_of, request_of};
 ghost use Rattle.cg_explain.specs.Notes.{command_notes, computer_note, control_note, group_notes, unavailable_notes};
 
+use crate::asked::Asked;
 use crate::begun::Begun;
 use crate::below::{append_children, append_processes};
 use crate::comment::{append_comment, append_note, append_number};
+use crate::in_the_way::append_way;
 use crate::upward::{append_deep, append_lacking, append_many, append_missing};
 use cg_command::Command;
+use cg_core::Core;
 use cg_history::{Answer, Record, Request};
 use cg_name::{Controller, Path, Refusal, TxnNumber};
 use cg_text::{Controllers, Settings, write_names};
@@ -21,33 +24,38 @@ use std::alloc::AllocError;
 /// Appends what is told of a record: of a command that is refused what is in its way.
 pub(crate) fn append_record_notes(
     begun: &Begun,
-    tree: &Tree,
+    asked: &Asked,
+    core: &Core,
     newest: &Record,
     out: &mut Vec<u8>,
 ) -> Result<(), AllocError>
-    ensures { OnOk result (out.new.items ≡ out.old.items ++ record_notes begun.now tree.now.tree (request_of newest.now.request) (answer_of newest.now.answer)) }
+    ensures { OnOk result (out.new.items ≡ out.old.items ++ record_notes begun.now asked.now core.now (request_of newest.now.request) (answer_of newest.now.answer)) }
 {
     match (&newest.request, &newest.answer) {
         (Request::Do(command), Answer::Refused(refusal)) => {
-            append_refusal_notes(begun, tree, command, *refusal, out)
+            append_refusal_notes(begun, asked, core, command, *refusal, out)
         }
         _ => Ok(()),
     }
 }
 
-// Appends who is in the way of a refused command, or else what is in its way in the tree.
+// Appends who is in the way of a refused command and by which command, or else what is in its way in the tree.
 fn append_refusal_notes(
     begun: &Begun,
-    tree: &Tree,
+    asked: &Asked,
+    core: &Core,
     command: &Command,
     refusal: Refusal,
     out: &mut Vec<u8>,
 ) -> Result<(), AllocError>
-    ensures { OnOk result (out.new.items ≡ out.old.items ++ refusal_notes begun.now tree.now.tree (command_of command.now) refusal) }
+    ensures { OnOk result (out.new.items ≡ out.old.items ++ refusal_notes begun.now asked.now core.now (command_of command.now) refusal) }
 {
     match refusal {
-        Refusal::Busy(transaction) => append_busy(begun, transaction, out),
-        _ => append_command_notes(tree, command, refusal, out),
+        Refusal::Busy(transaction) => {
+            append_busy(begun, transaction, out)?;
+            append_way(asked, core, transaction, command, out)
+        }
+        _ => append_command_notes(core.tree(), command, refusal, out),
     }
 }
 

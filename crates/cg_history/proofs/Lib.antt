@@ -1,3 +1,4 @@
 pub mod Alike
 pub mod BySession
+mod Newest
 pub mod Records

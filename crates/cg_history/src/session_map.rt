@@ -1,5 +1,5 @@
 //! Values by sessions.
-ghost use Rattle.std.specs.Prelude.{◌≡◌, ◌∷◌, [], length, None, option_copied, option_map, OnErr, OnOk};
+ghost use Rattle.std.specs.Prelude.{◌≡◌, ◌∷◌, [], length, map, None, option_copied, option_map, slice_get, OnErr, OnOk};
 ghost use Rattle.std.specs.Borrow.{sem};
 ghost use Rattle.std.specs.Option.{option_copied_mut};
 ghost use Rattle.cg_history.specs.SessionMap.{found, oldest, without};
@@ -54,6 +54,20 @@ impl<V: Drop> SessionMap<V> {
     {
         match self.entries.first() {
             Some((session, _)) => Some(*session),
+            None => None,
+        }
+    }
+
+    /// The value of the session that came with so many behind it, from 0; `None` where fewer have one.
+    pub fn nth_newest(&self, index: usize) -> Option<&V>
+        ensures { option_copied result ≡ slice_get (map (λ x. x.1) self.now) index }
+    {
+        let count = self.entries.len();
+        if count <= index {
+            return None;
+        }
+        match self.entries.get_index(count - 1 - index) {
+            Some((_, value)) => Some(value),
             None => None,
         }
     }

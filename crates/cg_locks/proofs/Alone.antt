@@ -1,5 +1,5 @@
 -- Where the root's node tells of no other transaction, no other is in the way of a mark, wherever that is.
-use Rattle.std.proofs.Common.{◌≡◌, ℕ, ◌+◌, ◌<◌, ◌⊎◌, inl, inr, Bool, true, false, not, IsTrue, [], Option, Some, None, is_some, option_map, refl, sym, ap, subst, ◌∙◌, arith, true≢false}
+use Rattle.std.proofs.Common.{◌≡◌, ℕ, ◌+◌, ◌<◌, inl, inr, Bool, true, false, not, IsTrue, [], Option, Some, None, is_some, option_map, refl, sym, ap, subst, ◌∙◌, arith, true≢false}
 use Rattle.std.proofs.lemmas.Option.{none-some}
 use Rattle.cg_maps.specs.FiniteMap.{get}
 use Rattle.cg_name.specs.Path.{Path}

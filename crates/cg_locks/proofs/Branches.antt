@@ -1,7 +1,7 @@
 -- What the branches tell: something is held at a path or below it exactly where the part below has something there.
-use Rattle.std.proofs.Common.{◌≡◌, ℕ, zero, suc, ◌+◌, ◌-◌, ◌<◌, ◌≤◌, ◌⊎◌, inl, inr, true, false, length, take, [], ◌∷◌, refl, sym, ap, subst, ◌∙◌, arith}
+use Rattle.std.proofs.Common.{◌≡◌, ℕ, zero, suc, ◌+◌, ◌-◌, ◌<◌, inl, inr, true, false, length, [], ◌∷◌, refl, sym, ap, subst, ◌∙◌, arith}
 use Rattle.std.proofs.lemmas.List.{take_all}
-use Rattle.cg_name.specs.Path.{Path, is_parent, is_prefix, is_root}
+use Rattle.cg_name.specs.Path.{Path, is_prefix, is_root}
 use Rattle.cg_model_laws.proofs.Paths.{prefix_itself, prefix_trans}
 use Rattle.cg_path_tree.proofs.Parents.{below_parent, length-parent, not_root, parent_is}
 use Rattle.cg_path_tree.specs.Nodes.{parent_path}

@@ -11,7 +11,7 @@ use Rattle.cg_locks.specs.declared.held.Held.{Held}
 use Rattle.cg_locks.specs.declared.held.Part.{Part}
 use Rattle.cg_locks.specs.Held.{part_of, same_part, IsHeldMore}
 use Rattle.cg_locks.specs.HeldByPath.{in_part, HeldByPath, IsOneMoreIn, IsSameHeld}
-use Rattle.cg_locks.specs.Holders.{Counts, branches, held_at, held_by, held_if, one}
+use Rattle.cg_locks.specs.Holders.{Counts, held_at, held_by, held_if, one}
 use Rattle.cg_locks.proofs.Summed.{as_before, changed_at, changed_branches, neither}
 
 -- ---- one part, by paths

@@ -7,6 +7,7 @@ mod CountedMarks
 mod CountedNodes
 mod Counts
 mod Enough
+mod FirstClash
 mod HeldMaps
 mod Keys
 mod Marks

@@ -1,5 +1,5 @@
 -- What is seen of a tree, by kinds of marks.
-use Rattle.std.proofs.Common.{◌≡◌, ℕ, ◌+◌, None, refl, sym, ap, ◌∙◌, arith}
+use Rattle.std.proofs.Common.{◌≡◌, ℕ, None, refl, sym, ap, ◌∙◌, arith}
 use Rattle.cg_maps.specs.FiniteMap.{empty, entries, get}
 use Rattle.cg_maps.proofs.Maps.{get-empty}
 use Rattle.cg_name.specs.Path.{Path, path_cmp}

@@ -1,11 +1,11 @@
 -- From a path upward: one holding more, and where it is the first there, one more above.
-use Rattle.std.proofs.Common.{◌≡◌, ℕ, zero, suc, ◌+◌, ◌<◌, ◌≤◌, ◌==◌, ◌&&◌, Bool, true, false, Some, None, refl, sym, ap, subst, ◌∙◌, arith}
+use Rattle.std.proofs.Common.{◌≡◌, ℕ, ◌+◌, ◌<◌, ◌≤◌, ◌==◌, ◌&&◌, Bool, true, false, Some, None, refl, sym, ap, subst, ◌∙◌, arith}
 use Rattle.std.proofs.lemmas.Bool.{eqb-true, eq-eqb}
 use Rattle.std.proofs.lemmas.Bool.Decides.{nat_tests}
 use Rattle.std.proofs.lemmas.Option.{none-some, same_Some}
 use Rattle.cg_name.specs.Path.{Path, is_parent, is_root, same_path}
 use Rattle.cg_model_laws.proofs.Paths.{same_path-from, same_path-is, same_path-itself}
-use Rattle.cg_path_tree.proofs.Parents.{below_parent, no_child, not_own_child, parent_is, root_no_child}
+use Rattle.cg_path_tree.proofs.Parents.{below_parent, no_child, not_own_child, root_no_child}
 use Rattle.cg_path_tree.specs.Nodes.{parent_path}
 use Rattle.cg_locks.specs.declared.held.Kind.{Kind}
 use Rattle.cg_locks.specs.declared.held.Kind.TheVariants as kinds

@@ -1,3 +1,4 @@
+pub mod Clashing
 pub mod Counts
 pub mod Held
 pub mod HeldByPath

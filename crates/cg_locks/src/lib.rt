@@ -1,6 +1,7 @@
 //! Footprints, the marks under which commands run, and the table of the marks that open transactions hold.
 #![tactic(auto)]
 
+mod clashing;
 mod counted;
 mod footprint;
 mod held;
@@ -11,6 +12,7 @@ mod pid_holders;
 mod table;
 mod upward;
 
+pub use clashing::AnyMark;
 pub use footprint::{Counted, Footprint};
 pub use mark::Mark;
 pub use table::LockTable;

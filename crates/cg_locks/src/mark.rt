@@ -3,6 +3,7 @@
 ghost use Rattle.std.specs.Prelude.{◌≡◌};
 ghost use Rattle.cg_locks.specs.Marks.{same_mark};
 ghost use Rattle.cg_locks.specs.Meaning.{mark_of};
+ghost use Rattle.cg_model.specs.Footprint.{clash};
 
 use cg_name::Path;
 use std::alloc::Global;
@@ -38,6 +39,22 @@ impl Mark {
             (Mark::Changed(path), Mark::Changed(other)) => path == other,
             (Mark::Read(path), Mark::Read(other)) => path == other,
             (Mark::Stays(path), Mark::Stays(other)) => path == other,
+            (Mark::Process(pid), Mark::Process(other)) => pid == other,
+            _ => false,
+        }
+    }
+
+    // Whether two transactions can't have the one and the other.
+    pub(crate) fn clashes(&self, other: &Mark) -> bool
+        ensures { result ≡ clash (mark_of self.now) (mark_of other.now) }
+    {
+        match (self, other) {
+            (Mark::Changed(path), Mark::Changed(other) | Mark::Read(other)) => {
+                path.comparable(other)
+            }
+            (Mark::Read(path), Mark::Changed(other)) => path.comparable(other),
+            (Mark::Changed(path) | Mark::Read(path), Mark::Stays(other)) => path.is_prefix(other),
+            (Mark::Stays(path), Mark::Changed(other) | Mark::Read(other)) => other.is_prefix(path),
             (Mark::Process(pid), Mark::Process(other)) => pid == other,
             _ => false,
         }

@@ -1,5 +1,6 @@
 mod Backwards
 mod Changed
+mod ClashingItems
 mod Letting
 mod Names
 pub mod Places

@@ -1,3 +1,4 @@
+pub mod Clashing
 pub mod Code
 pub mod Items
 pub mod Laws

@@ -8,6 +8,6 @@ pub mod laws;
 mod letting_go;
 mod txn;
 
-pub use entry::Entry;
+pub use entry::{Clash, Entry};
 pub use going_back::{abort, back, commit, undo};
 pub use txn::Txn;

@@ -1,13 +1,15 @@
 //! The stack of one transaction.
-ghost use Rattle.std.specs.Prelude.{◌≡◌, ◌≤◌, ◌+◌, ◌↔◌, ◌∷◌, ◌++◌, ◌⊎◌, [], vec_len, IfErr, IfOk, IsOk, IsTrue, OnErr, OnOk, None, false, length, true};
+ghost use Rattle.std.specs.Prelude.{◌≡◌, ◌≤◌, ◌+◌, ◌↔◌, ◌∷◌, ◌++◌, ◌⊎◌, [], vec_len, IfErr, IfOk, IsOk, IsTrue, OnErr, OnOk, None, false, length, option_map, true};
 ghost use Rattle.std.specs.Result.{IsErrOf};
 ghost use Rattle.std.specs.Vec.{vec_capacity};
+ghost use Rattle.cg_txn.specs.Clashing.{oldest_clashing, told_clash};
 ghost use Rattle.cg_txn.specs.Items.{command_item, taken_item, taken_items};
 ghost use Rattle.cg_txn.specs.Places.{places_on};
 ghost use Rattle.cg_txn.specs.Stack.{commands, ends_in_command, has_savepoint, next_back, next_newest, Savepoint};
 
-use crate::entry::{Entry, Item};
+use crate::entry::{Clash, Entry, Item};
 use crate::items::{drop_savepoints, ends_in_command, take_back, take_newest, take_oldest};
+use cg_locks::Footprint;
 use cg_name::{Refusal, SaveName, TxnNumber};
 use indexmap::IndexSet;
 use std::alloc::{AllocError, Global};
@@ -100,6 +102,20 @@ impl Txn {
                 numbers.push_reserved(place);
             }
         }
+    }
+
+    /// The oldest of its commands with a mark that clashes with one of the footprint, where one has such. Takes no memory.
+    pub fn clashing(&self, footprint: &Footprint) -> Option<Clash<'_>>
+        ensures { option_map told_clash result ≡ oldest_clashing footprint.now self.now.items }
+    {
+        let items = &self.items;
+        let count = items.len();
+        for index in 0..count {
+            if let Some(clash) = items[index].clashing(footprint) {
+                return Some(clash);
+            }
+        }
+        None
     }
 
     /// Reserves room for one more item, so that a command can be put on the stack whatever comes between. An error, where

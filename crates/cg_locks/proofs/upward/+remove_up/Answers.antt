@@ -1,5 +1,5 @@
 -- One less here, and, where it was the last, one less above.
-use Rattle.std.proofs.Common.{◌≡◌, ◌<◌, length, sym, ap, subst, ◌∙◌, arith}
+use Rattle.std.proofs.Common.{◌≡◌, length, sym, ap, subst, arith}
 use Rattle.cg_path_tree.specs.Nodes.{parent_path, path_of, HaveOnePath}
 use Rattle.cg_locks.specs.HeldByPath.{HasMoreThanBranches}
 use Rattle.cg_locks.proofs.Keys.{above_of_key, at_root, same_key, shorter}

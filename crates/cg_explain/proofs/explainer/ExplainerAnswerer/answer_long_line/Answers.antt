@@ -20,7 +20,7 @@ returns-clause-ok c =
     let is = c.in_ok-refuse.ensures.ok ∙ ap (λ x. x ++ written) c.new-answer.ensures.items in
     let u = c.count.new.self in
     let n = length c.history-before.result.now in
-    let told = c.in_ok-append_notes.ensures ∙ ap (λ x. x ++ notes_text u.comments.explain n u.begun u.player.core) c.in_ok-told.ensures in
+    let told = c.in_ok-append_notes.ensures ∙ ap (λ x. x ++ notes_text u.comments.explain n u.begun u.asked u.player.core) c.in_ok-told.ensures in
     let before = as_many c.history-before.result.now c.args.self.now.player.core.history (c.history-before.ensures ∙ ap (λ (k : CoreState). k.history) c.core.ensures) in (
       c.as_slice-3.result.now,
       c.in_ok-extend_from_slice.ensures.items,
