@@ -7,7 +7,7 @@ _cgtx() {
         return
     fi
     case ${COMP_WORDS[1]} in
-    replay) options='--echo --explain --json --strict --verbose --quiet --help' ;;
+    replay) options='--echo --explain --json --history --strict --verbose --quiet --help' ;;
     show) options='--json --verbose --quiet --help' ;;
     tree) options='--depth --json --verbose --quiet --help' ;;
     diff) options='--verbose --quiet --help' ;;

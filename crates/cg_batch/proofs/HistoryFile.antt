@@ -9,7 +9,7 @@ use Rattle.cg_name.specs.declared.refusal.Refusal.{Refusal}
 use Rattle.cg_lines.specs.Device.{AppendsFront}
 use Rattle.cg_lines.proofs.DeviceLemmas.{AppendsFront-whole}
 use Rattle.cg_batch.specs.Batch.{AppendsGiven, FailedGiven, StopsIn}
-use Rattle.cg_batch.specs.Files.{IsFileNamed}
+use Rattle.cg_program.specs.Files.{IsFileNamed}
 use Rattle.cg_program.specs.Program.{WritesUnlessFailed}
 use Rattle.cg_program.specs.Status.{refusal_line, status_where}
 use Rattle.std.specs.Io.KnownBytes.{Appends}

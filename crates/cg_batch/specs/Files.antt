@@ -1,32 +1,8 @@
--- The files of a run of scripts: that of the history, and those that it may not take the place of.
-use Rattle.std.specs.Prelude.{◌≡◌, ◌≢◌, ◌⊎◌, ℕ, Bool, true, cond, List, Option, Some, None, ⊤}
-use Rattle.std.specs.Io.KnownBytes.{Appends}
+-- The files of a run of scripts: those that its history may not take the place of.
+use Rattle.std.specs.Prelude.{◌≡◌, ◌⊎◌, ℕ, Bool, true, List}
 use Rattle.std.specs.List.{list_any}
-use Rattle.cg_script.specs.declared.fault.ScriptFault.{ScriptFault}
-use Rattle.cg_script.specs.declared.fault.ScriptFault.TheVariants as faults
-use Rattle.cg_program.specs.Named.{is_standard}
-use Rattle.cg_batch.specs.declared.outputs.CreateFault.{CreateFault}
-use Rattle.cg_batch.specs.declared.outputs.CreateFault.TheVariants as create_faults
+use Rattle.cg_program.specs.Files.{IsOfWord}
 
--- the file of a name holds these bytes and no more, where that is known: `nothing` is no byte, or None where it isn't known
-abbrev pub IsFileNamed : Option (List ℕ) → (List ℕ → Option (List ℕ)) → Option (List ℕ) → List ℕ → Type 0
-IsFileNamed nothing file None bytes = ⊤
-IsFileNamed nothing file (Some name) bytes = Appends nothing (file name) bytes
-
--- another name than that which is given, where one is
-abbrev pub IsNotNamed : Option (List ℕ) → List ℕ → Type 0
-IsNotNamed None other = ⊤
-IsNotNamed (Some name) other = other ≢ name
-
--- a file is known to be that of the world which the word names: that which standard input reads, or one of the same name
-abbrev pub IsWorld : Bool → (List ℕ → Bool) → List ℕ → Type 0
-IsWorld is_read is_same world = cond (is_standard world) is_read (is_same world) ≡ true
-
--- it is known to be that of the world, or of one of the scripts
+-- a file is known to be that of the world that the word names, or of one of the scripts
 abbrev pub IsInput : Bool → (List ℕ → Bool) → List ℕ → List (List ℕ) → Type 0
-IsInput is_read is_same world scripts = IsWorld is_read is_same world ⊎ (list_any is_same scripts ≡ true)
-
--- the fault of a run whose file was not made
-abbrev pub of_create_fault : CreateFault → ScriptFault
-of_create_fault create_faults.Memory = faults.Memory
-of_create_fault create_faults.Unwritable = faults.WriteFault
+IsInput is_read is_same world scripts = IsOfWord is_read is_same world ⊎ (list_any is_same scripts ≡ true)

@@ -5,13 +5,11 @@ mod end_value;
 mod ends;
 mod fault;
 mod named_scripts;
-mod outputs;
 mod running;
 mod scripts;
 
 pub use cg_runner::{Desk, Gate, ScriptEnd};
 pub use cg_watch::Watch;
 pub use named_scripts::{Words, run_named};
-pub use outputs::{CreateFault, Outputs};
 pub use running::run_to;
 pub use scripts::read_all;

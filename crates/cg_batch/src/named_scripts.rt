@@ -9,19 +9,19 @@ ghost use Rattle.cg_name.specs.declared.refusal.Refusal.TheVariants as refusals;
 ghost use Rattle.cg_lines.specs.Device.{AppendsFront, Failed};
 ghost use Rattle.cg_lines.specs.Lines.{pending};
 ghost use Rattle.cg_script.specs.declared.fault.ScriptFault.TheVariants as faults;
-ghost use Rattle.cg_batch.specs.Files.{IsFileNamed, IsInput, IsNotNamed, IsWorld};
+ghost use Rattle.cg_batch.specs.Files.{IsInput};
 ghost use Rattle.cg_batch.specs.Batch.{stops_run, AreTexts, BeginsWithWorld, SomeTooLong, SpellNothing, Tells};
 ghost use Rattle.cg_watch.specs.Watches.{HasTold};
+ghost use Rattle.cg_program.specs.Files.{IsFileNamed, IsNotNamed};
 ghost use Rattle.cg_program.specs.Named.{is_standard, named};
 ghost use Rattle.cg_program.specs.Program.{WritesUnlessFailed};
 ghost use Rattle.cg_program.specs.Status.{refusal_line, status_where};
 
-use crate::outputs::{CreateFault, Outputs};
 use crate::running::run_to;
 use crate::scripts::read_all;
 use cg_json::Form;
 use cg_lines::{LineReader, Sink};
-use cg_program::{Inputs, Status, is_standard, open_reader, stop};
+use cg_program::{CreateFault, Inputs, Outputs, Status, is_of_word, open_reader, stop};
 use cg_runner::Gate;
 use cg_script::ScriptFault;
 use cg_watch::Watch;
@@ -151,20 +151,10 @@ fn create_history<P: Outputs>(files: &P, name: &str, words: Words) -> Result<P::
     ensures inputs { IsInput (P.is_read files.now name.now) (P.is_same files.now name.now) words.entry.world.now (map (λ w. w.now) words.entry.scripts.now) → IsErr result }
     ensures barred { P.is_barred files.now name.now ≡ true → IsErr result }
 {
-    if is_world(files, name, words.world) || is_script(files, name, words.scripts) {
+    if is_of_word(files, name, words.world) || is_script(files, name, words.scripts) {
         return Err(CreateFault::Unwritable);
     }
     files.create_file(name)
-}
-
-// Whether the file of this name is that of the world that the word names.
-fn is_world<P: Outputs>(files: &P, name: &str, world: &str) -> bool
-    ensures { IsWorld (P.is_read files.now name.now) (P.is_same files.now name.now) world.now → result ≡ true }
-{
-    if is_standard(world) {
-        return files.is_read(name);
-    }
-    files.is_same(name, world)
 }
 
 // Whether the file of this name is that of one of these scripts.

@@ -43,6 +43,7 @@ Examples:
   cat world schedule | cgtx replay - -
   cgtx replay --echo --explain --strict world schedule
   cgtx replay --json world schedule
+  cgtx replay --history history world schedule
 
 Status:
   0  The schedule was played, whatever single requests were answered
@@ -63,6 +64,7 @@ Status:
             "Writes each answer and the world that results as a line of JSON",
             &["echo", "explain"],
         ),
+        Value("history", "The file that the history is written to", "FILE"),
         Flag("strict", "Ends with status 1 where a request was refused"),
         VERBOSE,
         QUIET,

@@ -19,7 +19,7 @@ use commands::{COMMANDS, MOST_NAMES, MOUNTED, OWN_WORDS};
 use forms::with_words;
 pub use imports::Import;
 pub use plans::Plan;
-pub use replays::Explained;
+pub use replays::{Replay, ReplayForm};
 use std::alloc::{AllocError, Global};
 
 // The version of the program.
@@ -54,20 +54,8 @@ pub enum Telling {
 /// What the words of a command line ask for.
 #[derive(Debug, Drop)]
 pub enum Asked<'a> {
-    /// To replay the schedule over the world that these words name.
-    Replay {
-        world: &'a str,
-        schedule: &'a str,
-    },
-    /// To replay a schedule with comments, or so that a refused request tells in the status.
-    Explain(Explained<'a>),
-    /// To replay the schedule over the world that these words name, with answers as lines of JSON, and with status 1 where a
-    /// request was refused and that is strict.
-    Json {
-        world: &'a str,
-        schedule: &'a str,
-        is_strict: bool,
-    },
+    /// To replay a schedule.
+    Replay(Replay<'a>),
     /// To show this file of the group at this path, in the world that the first word names, as JSON or as it is.
     Show {
         world: &'a str,
@@ -140,10 +128,13 @@ pub fn read_command_line<'a, R: Print + Eprint + AllocGlobal>(
 {
     if words.len() <= 1 {
         return Ok(CommandLine {
-            asked: Asked::Replay {
+            asked: Asked::Replay(Replay {
                 world: STANDARD_INPUT,
                 schedule: STANDARD_INPUT,
-            },
+                form: ReplayForm::Plain,
+                history: None,
+                is_strict: false,
+            }),
             telling: Telling::Plain,
         });
     }
@@ -176,7 +167,7 @@ fn how_much(before: &ArgMatches<'_>, given: &ArgMatches<'_>) -> Telling {
 // What the words behind the name of a command ask for.
 fn what_of<'a>(alloc: Global, name: &str, given: &ArgMatches<'a>) -> Result<Asked<'a>, Unasked> {
     match name {
-        "replay" => Ok(replay_of(given)),
+        "replay" => Ok(Asked::Replay(replay_of(given))),
         "show" => Ok(Asked::Show {
             world: world_of(given, "WORLD"),
             path: given.get_str("PATH").unwrap_or_default(),
@@ -219,28 +210,21 @@ fn is_json(given: &ArgMatches<'_>) -> bool {
 }
 
 // What the words behind `replay` ask for.
-fn replay_of<'a>(given: &ArgMatches<'a>) -> Asked<'a> {
-    let world = world_of(given, "WORLD");
-    let schedule = world_of(given, "SCHEDULE");
-    let echo = given.get_flag("echo");
-    let explain = given.get_flag("explain");
-    let strict = given.get_flag("strict");
-    if is_json(given) {
-        Asked::Json {
-            world,
-            schedule,
-            is_strict: strict,
-        }
-    } else if echo || explain || strict {
-        Asked::Explain(Explained {
-            world,
-            schedule,
-            echo,
-            explain,
-            strict,
-        })
+fn replay_of<'a>(given: &ArgMatches<'a>) -> Replay<'a> {
+    let (echo, explain) = (given.get_flag("echo"), given.get_flag("explain"));
+    let form = if is_json(given) {
+        ReplayForm::Json
+    } else if echo || explain {
+        ReplayForm::Comments { echo, explain }
     } else {
-        Asked::Replay { world, schedule }
+        ReplayForm::Plain
+    };
+    Replay {
+        world: world_of(given, "WORLD"),
+        schedule: world_of(given, "SCHEDULE"),
+        form,
+        history: given.get_str("history"),
+        is_strict: given.get_flag("strict"),
     }
 }
 

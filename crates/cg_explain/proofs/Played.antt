@@ -1,14 +1,16 @@
 -- A schedule that is played with comments gives its explained output, and nothing else.
-use Rattle.std.proofs.Common.{◌≡◌, ℕ, Bool, List, ◌++◌, length, Some, None, Option, IfSome, refl, sym, subst, ◌∙◌}
+use Rattle.std.proofs.Common.{◌≡◌, ℕ, Bool, List, ◌++◌, length, Some, None, Option, IfSome, refl, sym, ap, subst, ◌∙◌}
 use Rattle.std.specs.Io.KnownBytes.{Appends, Keeps}
+use Rattle.cg_core.specs.State.{CoreState}
 use Rattle.cg_text.specs.Words.{lines_of}
 use Rattle.cg_lines.specs.Device.{AppendsFront, AppendsTo}
 use Rattle.cg_lines.proofs.DeviceLemmas.{AppendsFront-nil, AppendsTo-behind, AppendsTo-front, AppendsTo-whole}
 use Rattle.cg_replay.specs.Answering.{EachAnswers, FrontAnswers}
-use Rattle.cg_replay.specs.Replay.{Replay, Answers, ending_text}
+use Rattle.cg_replay.specs.Replay.{Replay, Answers, core_ended, ending_text}
 use Rattle.cg_replay.proofs.Answered.{each_one, front_of_all, IsOneAnswer}
 use Rattle.cg_replay.proofs.Playing.{answers_one}
 use Rattle.cg_explain.specs.Explained.{behind_answer, notes_text, shown_line, told_text, Explains, IsExplainedFrom}
+use Rattle.cg_explain.specs.Run.{PlaysExplainedFrom}
 use Rattle.cg_explain.specs.declared.explainer.Explainer.{Explainer}
 
 -- a line is told once
@@ -32,12 +34,12 @@ abbrev pub AllTold : Explainer → Option (List ℕ) → Option (List ℕ) → O
 AllTold s text a b waiting t = IfSome text (λ x. (told : List ℕ) × EachAnswers Explains s (lines_of x) told t × AppendsTo a b told waiting)
 
 -- then what waits is written, and the end
-pub whole_end : (s t : Explainer) (text a b c : Option (List ℕ)) (waiting : List ℕ) (is_refused : Bool) → AllTold s text a b waiting t → is_refused ≡ t.is_refused → Appends b c (waiting ++ ending_text t.player.core)
-    → IfSome text (λ x. (out : List ℕ) × IsExplainedFrom s x is_refused out × Appends a c out)
-whole_end s t None a b c waiting is_refused p e w = tt
-whole_end s t (Some text) a b c waiting is_refused p e w = (
+pub whole_end : (s t : Explainer) (text a b c : Option (List ℕ)) (waiting : List ℕ) (is_refused : Bool) (d : CoreState) → AllTold s text a b waiting t → is_refused ≡ t.is_refused → Appends b c (waiting ++ ending_text t.player.core) → d ≡ core_ended t.player.core
+    → IfSome text (λ x. (out : List ℕ) × PlaysExplainedFrom s x is_refused out d.history × Appends a c out)
+whole_end s t None a b c waiting is_refused d p e w k = tt
+whole_end s t (Some text) a b c waiting is_refused d p e w k = (
   p.0 ++ ending_text t.player.core,
-  record { told = p.0; last = t; answered = p.1; whole = refl; refused = e },
+  (record { told = p.0; last = t; answered = p.1; whole = refl; refused = e }, ap (λ (c : CoreState). c.history) k),
   AppendsTo-whole a b c (p.0 ++ ending_text t.player.core) (waiting ++ ending_text t.player.core) (AppendsTo-behind a b p.0 waiting (ending_text t.player.core) p.2) w,
 )
 

@@ -1,23 +1,17 @@
--- What a run does that plays a schedule with comments beside the answers.
-use Rattle.std.specs.Prelude.{◌≡◌, ◌⊎◌, ◌&&◌, ℕ, Bool, cond, List, Option, IfSome}
-use Rattle.std.specs.Io.KnownBytes.{Appends}
+-- What is written where a schedule is played with comments, and what history results.
+use Rattle.std.specs.Prelude.{◌≡◌, ℕ, Bool, List}
+use Rattle.cg_model.specs.Cgroups.{cgroups}
+use Rattle.cg_model.specs.History.{History}
 use Rattle.cg_model.specs.Tree.{Tree}
-use Rattle.cg_lines.specs.Device.{AppendsFront}
 use Rattle.cg_explain.specs.declared.explainer.Comments.{Comments}
-use Rattle.cg_explain.specs.Explained.{IsExplained}
+use Rattle.cg_explain.specs.declared.explainer.Explainer.{Explainer}
+use Rattle.cg_explain.specs.Explained.{opened_with, IsExplainedFrom}
+use Rattle.cg_replay.specs.Replay.{core_ended}
 
--- the status of a run that played its schedule: 1 where a request was refused and that counts
-abbrev pub played_status : Bool → Bool → ℕ
-played_status is_strict is_refused = cond (is_strict && is_refused) 1 0
+-- this is written for a schedule's text from here on, whether a request was refused is this, and this history results, with the
+-- aborts at the end
+abbrev pub PlaysExplainedFrom : Explainer → List ℕ → Bool → List ℕ → History cgroups → Type 0
+PlaysExplainedFrom s text is_refused out h = (o : IsExplainedFrom s text is_refused out) × (h ≡ (core_ended o.last.player.core).history)
 
--- it is one of these
-abbrev pub IsPlayed : ℕ → Type 0
-IsPlayed status = (status ≡ 0) ⊎ (status ≡ 1)
-
--- a schedule that is known was played over the tree: its whole output was appended, and whether a request was refused is this
-abbrev pub PlaysExplained : Comments → Bool → Tree → Option (List ℕ) → Option (List ℕ) → Option (List ℕ) → Type 0
-PlaysExplained comments is_refused T schedule old new = IfSome schedule (λ text. (written : List ℕ) × IsExplained comments T 1048576 text is_refused written × Appends old new written)
-
--- the playing stopped: what was appended is the front of the whole output
-abbrev pub StopsExplained : Comments → Tree → Option (List ℕ) → Option (List ℕ) → Option (List ℕ) → Type 0
-StopsExplained comments T schedule old new = IfSome schedule (λ text. (is_refused : Bool) (written : List ℕ) → IsExplained comments T 1048576 text is_refused written → AppendsFront old new written)
+abbrev pub PlaysExplained : Comments → Tree → ℕ → List ℕ → Bool → List ℕ → History cgroups → Type 0
+PlaysExplained comments T limit = PlaysExplainedFrom (opened_with comments T limit)

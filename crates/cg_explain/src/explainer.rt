@@ -6,13 +6,14 @@ ghost use Rattle.std.specs.Io.KnownBytes.{Appends};
 ghost use Rattle.cg_explain.specs.Comment.{comment};
 ghost use Rattle.cg_explain.specs.Explained.{behind_answer, is_beginning, is_refusal, notes_text, opened_with, shown_line, told_text, Explains};
 ghost use Rattle.cg_lines.specs.Device.{AppendsFront, Failed};
-ghost use Rattle.cg_replay.specs.Replay.{ending_text};
+ghost use Rattle.cg_replay.specs.Replay.{core_ended, ending_text};
 ghost use Rattle.cg_script.specs.declared.fault.ScriptFault.TheVariants as faults;
 
 use crate::asked::Asked;
 use crate::begun::Begun;
 use crate::comment::{append_comment, append_number};
 use crate::notes::append_record_notes;
+use cg_core::Core;
 use cg_replay::{Answerer, Player, Sink, refuse};
 use cg_script::ScriptFault;
 use cg_text::LONGEST_LINE;
@@ -82,6 +83,21 @@ impl Explainer {
         self.is_refused
     }
 
+    /// The machine that answers, when nothing more is played.
+    pub(crate) fn into_core(self) -> Core
+        ensures { result ≡ self.player.core }
+    {
+        let Explainer {
+            player,
+            comments: _,
+            lines: _,
+            is_refused: _,
+            begun: _,
+            asked: _,
+        } = self;
+        player.into_core()
+    }
+
     /// Writes what waits, and then what the end of the schedule is answered.
     pub(crate) fn write_end<K: Sink>(
         &mut self,
@@ -90,6 +106,7 @@ impl Explainer {
         sink: &mut K,
     ) -> Result<(), ScriptFault>
         ensures whole { OnOk result (Appends (K.taken sink.old) (K.taken sink.new) (waiting.old.items ++ ending_text self.old.player.core)) }
+        ensures core { OnOk result (self.new.player.core ≡ core_ended self.old.player.core) }
         ensures kept { self.new.is_refused ≡ self.old.is_refused }
         ensures front { OnErr result (AppendsFront (K.taken sink.old) (K.taken sink.new) (waiting.old.items ++ ending_text self.old.player.core)) }
         ensures writes { IsErrOf result faults.WriteFault → Failed (K.failed sink.old) (K.failed sink.new) }

@@ -8,11 +8,9 @@ mod below;
 mod comment;
 mod explainer;
 mod in_the_way;
-mod named;
 mod notes;
 mod playing;
 mod upward;
 
 pub use explainer::Comments;
-pub use named::explain_named;
 pub use playing::{comments_stand_aside, explain};

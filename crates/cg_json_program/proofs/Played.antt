@@ -6,9 +6,10 @@ use Rattle.cg_text.specs.Words.{lines_of}
 use Rattle.cg_lines.specs.Device.{AppendsFront, AppendsTo}
 use Rattle.cg_lines.proofs.DeviceLemmas.{Appends-append, AppendsFront-nil, AppendsFront-whole, AppendsTo-front, AppendsTo-whole}
 use Rattle.cg_replay.specs.Answering.{EachAnswers, FrontAnswers}
-use Rattle.cg_replay.specs.Replay.{ending_text, tree_now, IsOutputFrom}
+use Rattle.cg_replay.specs.Replay.{Replay, ending_text, tree_now}
 use Rattle.cg_replay.proofs.Answered.{each_one, front_of_all, AppendsFront-longer}
-use Rattle.cg_json_program.specs.Output.{IsEnding, IsToldFrom, Tells, TellsThePlain}
+use Rattle.cg_json_program.specs.Output.{IsEnding, IsToldFrom, Tells}
+use Rattle.cg_json_program.specs.Run.{PlaysToldFrom}
 use Rattle.cg_json_program.specs.Steps.{Aborts}
 use Rattle.cg_json_program.specs.Report.{plain_line, told_line}
 use Rattle.cg_json_world.specs.WorldValue.{world_line}
@@ -50,21 +51,26 @@ front_end s t (Some text) a b c d waiting ending plain p w e f = λ is_refused o
     subst (λ bytes. AppendsFront a d bytes) (sym (o.whole ∙ (λ j. same.0 j ++ end j))) (AppendsTo-front a c d (p.0 ++ ending) ending (p.0, refl, AppendsTo-whole a b c p.0 waiting p.2 w) f)
 
 -- all is written
-pub whole_end : (s t : Reporter) (text a b c d : Option (List ℕ)) (waiting ending : List ℕ) (is_refused : Bool) → AllTold s text a b waiting t → Appends b c waiting → IsEnding t.player ending (ending_text t.player.core) → Appends c d ending → is_refused ≡ t.is_refused
-    → IfSome text (λ x. (out : List ℕ) × (plain : List ℕ) × IsToldFrom s x is_refused out × IsOutputFrom s.player x plain × TellsThePlain out plain × Appends a d out)
-whole_end s t None a b c d waiting ending is_refused p w e f refused = tt
-whole_end s t (Some text) a b c d waiting ending is_refused p w e f refused =
+pub whole_end : (s t : Reporter) (text a b c d : Option (List ℕ)) (waiting ending : List ℕ) (is_refused : Bool) (last : Replay) → AllTold s text a b waiting t → Appends b c waiting
+    → (e : IsEnding t.player ending (ending_text t.player.core)) × (last ≡ e.last) → Appends c d ending → is_refused ≡ t.is_refused
+    → IfSome text (λ x. (out : List ℕ) × PlaysToldFrom s x is_refused out last.core.history × Appends a d out)
+whole_end s t None a b c d waiting ending is_refused last p w e f refused = tt
+whole_end s t (Some text) a b c d waiting ending is_refused last p w e f refused =
     let lines = are_plain (lines_of text) s t p.0 p.1 in
-    let tree = tree_now e.last.core in (
+    let end : IsEnding t.player ending (ending_text t.player.core) = e.0 in
+    let tree = tree_now end.last.core in (
       p.0 ++ ending,
-      flat_map plain_line lines.told ++ ending_text t.player.core,
-      record { lines = p.0; played = t; answered = p.1; ends = e.ends; last = e.last; aborted = e.aborted; closed = e.closed; whole = ap (λ l. p.0 ++ l) e.told; refused = refused },
-      record { answers = flat_map plain_line lines.told; last = t.player; answered = lines.answers; whole = refl },
       (
-        lines.told ++ e.ends,
-        tree,
-        (λ j. lines.whole j ++ e.told j) ∙ both_told told_line lines.told e.ends (world_line tree),
-        ap (λ l. flat_map plain_line lines.told ++ l) e.answered ∙ both_told plain_line lines.told e.ends _,
+        record { lines = p.0; played = t; answered = p.1; ends = end.ends; last = end.last; aborted = end.aborted; closed = end.closed; whole = ap (λ l. p.0 ++ l) end.told; refused = refused },
+        ap (λ (r : Replay). r.core.history) e.1,
+        flat_map plain_line lines.told ++ ending_text t.player.core,
+        record { answers = flat_map plain_line lines.told; last = t.player; answered = lines.answers; whole = refl },
+        (
+          lines.told ++ end.ends,
+          tree,
+          (λ j. lines.whole j ++ end.told j) ∙ both_told told_line lines.told end.ends (world_line tree),
+          ap (λ l. flat_map plain_line lines.told ++ l) end.answered ∙ both_told plain_line lines.told end.ends _,
+        ),
       ),
       Appends-append a c d p.0 ending (AppendsTo-whole a b c p.0 waiting p.2 w) f,
     )

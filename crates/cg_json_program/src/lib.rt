@@ -3,12 +3,10 @@
 #![tactic(auto)]
 
 mod asking;
-mod named;
 mod playing;
 mod reporter;
 mod showing;
 mod telling;
 
-pub use named::json_named;
-pub use playing::tell;
+pub use playing::{Json, tell};
 pub use showing::show_json_named;

@@ -13,7 +13,7 @@ ghost use Rattle.cg_world_text.specs.World.{world_text};
 
 use crate::asking::{abort_oldest, ask};
 use crate::telling::{Reply, append_told};
-use cg_core::{Answer, Request};
+use cg_core::{Answer, Core, Request};
 use cg_json_world::write_world;
 use cg_name::Refusal;
 use cg_replay::{Answerer, Player};
@@ -61,9 +61,21 @@ impl Reporter {
         self.is_refused
     }
 
+    /// The machine that answers, when nothing more is played.
+    pub(crate) fn into_core(self) -> Core
+        ensures { result ≡ self.player.core }
+    {
+        let Reporter {
+            player,
+            lines: _,
+            is_refused: _,
+        } = self;
+        player.into_core()
+    }
+
     /// What is told of the end: the aborts of what is open, the least number first, and the tree.
     pub(crate) fn end(&mut self, alloc: Global) -> Result<Vec<u8>, AllocError>
-        ensures ending { IfOk result (λ out. IsEnding self.old.player out.items (ending_text self.old.player.core)) }
+        ensures ending { IfOk result (λ out. (e : IsEnding self.old.player out.items (ending_text self.old.player.core)) × (self.new.player ≡ e.last)) }
         ensures kept { self.new.is_refused ≡ self.old.is_refused }
     {
         ending(&mut self.player, alloc)
@@ -152,7 +164,7 @@ impl Answerer for Reporter {
 
 // What is told of the end.
 fn ending(player: &mut Player, alloc: Global) -> Result<Vec<u8>, AllocError>
-    ensures { IfOk result (λ out. IsEnding player.old out.items (ending_text player.old.core)) }
+    ensures { IfOk result (λ out. (e : IsEnding player.old out.items (ending_text player.old.core)) × (player.new ≡ e.last)) }
 {
     let mut out = Vec::new(alloc);
     'ends: while append_abort(player, &mut out)? {}

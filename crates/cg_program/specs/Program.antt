@@ -1,13 +1,14 @@
 -- What a run does: it reads a world, plays a schedule over it, and tells how it ended.
-use Rattle.std.specs.Prelude.{◌⊎◌, ℕ, List, Option, Some, None, IfSome}
+use Rattle.std.specs.Prelude.{◌≡◌, ◌⊎◌, ◌&&◌, ℕ, Bool, cond, List, Option, Some, None, IfSome}
 use Rattle.std.specs.Io.KnownBytes.{Appends}
+use Rattle.cg_model.specs.Cgroups.{cgroups}
+use Rattle.cg_model.specs.History.{History}
 use Rattle.cg_model.specs.Tree.{Tree}
 use Rattle.cg_lines.specs.Device.{AppendsFront, Failed}
 use Rattle.cg_lines.specs.Lines.{Reading, pending, CanBreak}
 use Rattle.cg_script.specs.Fault.{refusal_of}
 use Rattle.cg_script.specs.WorldPart.{ReadsWorld}
 use Rattle.cg_script.specs.declared.fault.ScriptFault.{ScriptFault}
-use Rattle.cg_replay.specs.Replay.{IsOutput}
 use Rattle.cg_program.specs.Status.{refusal_line, status_where}
 
 -- the exit status of a run that stopped
@@ -23,13 +24,21 @@ abbrev pub schedule_text : Option Reading → Option (List ℕ) → Option (List
 schedule_text None rest = rest
 schedule_text (Some r) rest = pending r
 
--- a schedule that is known was played over the tree: its whole output was appended
-abbrev pub Plays : Tree → Option (List ℕ) → Option (List ℕ) → Option (List ℕ) → Type 0
-Plays T schedule old new = IfSome schedule (λ text. (written : List ℕ) × IsOutput T 1048576 text written × Appends old new written)
+-- the status of a run that played its schedule: 1 where a request was refused and that counts
+abbrev pub played_status : Bool → Bool → ℕ
+played_status is_strict is_refused = cond (is_strict && is_refused) 1 0
+
+-- it is one of these
+abbrev pub IsPlayed : ℕ → Type 0
+IsPlayed status = (status ≡ 0) ⊎ (status ≡ 1)
+
+-- a schedule that is known was played: its whole output was appended, whether a request was refused is this, and this history resulted
+abbrev pub Plays : (List ℕ → Bool → List ℕ → History cgroups → Type 0) → Bool → History cgroups → Option (List ℕ) → Option (List ℕ) → Option (List ℕ) → Type 0
+Plays plays is_refused past schedule old new = IfSome schedule (λ text. (written : List ℕ) × plays text is_refused written past × Appends old new written)
 
 -- the playing stopped: what was appended is the front of the whole output
-abbrev pub Stops : Tree → Option (List ℕ) → Option (List ℕ) → Option (List ℕ) → Type 0
-Stops T schedule old new = IfSome schedule (λ text. (written : List ℕ) → IsOutput T 1048576 text written → AppendsFront old new written)
+abbrev pub Stops : (List ℕ → Bool → List ℕ → Type 0) → Option (List ℕ) → Option (List ℕ) → Option (List ℕ) → Type 0
+Stops tells schedule old new = IfSome schedule (λ text. (is_refused : Bool) (written : List ℕ) → tells text is_refused written → AppendsFront old new written)
 
 -- the world at the head of a text was read, where the text is known, and this was done over it with the schedule
 abbrev pub DoneOver : (Tree → Option (List ℕ) → Type 0) → Option (List ℕ) → Option Reading → Type 0

@@ -22,7 +22,7 @@ use Rattle.cg_history.specs.SessionMap.{oldest}
 use Rattle.cg_script.proofs.Facts.{cons_nil}
 use Rattle.cg_world_text.specs.World.{world_text}
 use Rattle.cg_replay.proofs.Reached.{IsReached}
-use Rattle.cg_replay.specs.Replay.{answer_line, ending_sessions, abort_lines, aborted_by, tree_now, ending_by, ending_text}
+use Rattle.cg_replay.specs.Replay.{answer_line, ending_sessions, abort_lines, aborted_by, core_ended, tree_now, ending_by, ending_text}
 
 -- ---- the open transactions, of which the oldest stands last
 
@@ -101,6 +101,14 @@ module _ (c : CoreState) (is : IsReached c) (others : Opens) (s t : ℕ) (all : 
       ∙ append_assoc (answer_line c s Abort) (abort_lines next ks) (world_text (tree_now (aborted_by next ks)))
       ∙ ap (λ ks. answer_line c s Abort ++ ending_by next ks) (sym then_)
 
+  pub ending_same : core_ended c ≡ core_ended (after c s Abort)
+  ending_same =
+      let next : CoreState = after c s Abort in
+      let ks : List ℕ = map (λ p. p.0) (reverse others) in
+      let now : ending_sessions c.history ≡ s ∷ ks = ap (λ (ps : Opens). map (λ p. p.0) ps) turned in
+      let then_ : ending_sessions next.history ≡ ks = ap (λ (ps : Opens). map (λ p. p.0) (reverse ps)) left in
+      ap (aborted_by c) now ∙ ap (aborted_by next) (sym then_)
+
   pub fewer_open : length (opens (after c s Abort).history) < length (opens c.history)
   fewer_open = omega (arith, ap length left, ap length all, length-append others ((s, t) ∷ []))
 
@@ -108,15 +116,20 @@ module _ (c : CoreState) (is : IsReached c) (others : Opens) (s t : ℕ) (all : 
 pub ending_last : (c : CoreState) → opens c.history ≡ [] → ending_text c ≡ world_text (tree_now c)
 ending_last c none = ap (λ (ps : Opens). ending_by c (map (λ p. p.0) (reverse ps))) none
 
+-- and nothing more is done
+pub ended_last : (c : CoreState) → opens c.history ≡ [] → c ≡ core_ended c
+ended_last c none = sym (ap (λ (ps : Opens). aborted_by c (map (λ p. p.0) (reverse ps))) none)
+
 -- the session of the least number has aborted, and d is left
 pub record IsAborted (c : CoreState) (s : ℕ) (d : CoreState) : Type 0 where
   pub text : ending_text c ≡ answer_line c s Abort ++ ending_text d
   pub fewer : length (opens d.history) < length (opens c.history)
+  pub same : core_ended c ≡ core_ended d
 
 pub aborted : (c d : CoreState) (s : ℕ) → IsReached c → oldest (opens c.history) ≡ Some s → d ≡ after c s Abort → IsAborted c s d
 aborted c d s is least same =
     let l = last_of (opens c.history) s least in
-    subst (IsAborted c s) (sym same) (record { text = ending_first c is l.others s l.number l.all; fewer = fewer_open c is l.others s l.number l.all })
+    subst (IsAborted c s) (sym same) (record { text = ending_first c is l.others s l.number l.all; fewer = fewer_open c is l.others s l.number l.all; same = ending_same c is l.others s l.number l.all })
 
 -- ---- what a step leaves
 

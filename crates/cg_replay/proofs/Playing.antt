@@ -1,17 +1,18 @@
 -- A schedule that is played gives its output, and nothing else.
-use Rattle.std.proofs.Common.{◌≡◌, ℕ, ◌≤◌, ◌<◌, List, ◌++◌, length, Some, None, Option, IfSome, refl, sym, ap, subst, ◌∙◌, inl, inr, arith}
+use Rattle.std.proofs.Common.{◌≡◌, ℕ, ◌≤◌, ◌<◌, List, ◌++◌, length, Some, None, Ok, Err, Option, Result, IfSome, OnOk, refl, sym, ap, subst, ◌∙◌, inl, inr, arith}
 use Rattle.std.proofs.lemmas.Option.{none-some, same_Some}
 use Rattle.std.specs.Io.KnownBytes.{Appends, Keeps}
 use Rattle.cg_name.specs.Refusal.{refusal_text}
 use Rattle.cg_name.specs.declared.refusal.Refusal.TheVariants.{Syntax}
-use Rattle.cg_core.specs.State.{after}
+use Rattle.cg_core.specs.State.{CoreState, after}
 use Rattle.cg_model.specs.Cgroups.{cgroups}
 use Rattle.cg_model.specs.History.{Request}
+use Rattle.cg_model.specs.Tree.{Tree}
 use Rattle.cg_lines.specs.Device.{AppendsFront, AppendsTo}
 use Rattle.cg_text.specs.Words.{lines_of}
 use Rattle.cg_script.specs.Request.{SpellsLine, newline}
 use Rattle.cg_replay.specs.Answering.{EachAnswers, FrontAnswers}
-use Rattle.cg_replay.specs.Replay.{Replay, Asked, Answers, IsOutputFrom, ending_text, answer_line}
+use Rattle.cg_replay.specs.Replay.{Replay, Asked, Answers, IsOutputFrom, IsOutputAndHistory, IsOutputAndHistoryFrom, core_ended, ending_text, answer_line, opened}
 use Rattle.cg_script.specs.Turns.{session_number, with_name, IsOneTooMany}
 use Rattle.cg_lines.proofs.DeviceLemmas.{AppendsFront-nil, AppendsTo-front, AppendsTo-behind, AppendsTo-whole}
 use Rattle.cg_script.proofs.OneLine.{line_one}
@@ -71,14 +72,30 @@ abbrev pub AllAnswered : Replay → Option (List ℕ) → Option (List ℕ) → 
 AllAnswered s text a b waiting t = IfSome text (λ x. (answers : List ℕ) × EachAnswers Answers s (lines_of x) answers t × AppendsTo a b answers waiting)
 
 -- then what waits is written, and the end
-pub whole_end : (s t : Replay) (text a b c : Option (List ℕ)) (waiting : List ℕ) → AllAnswered s text a b waiting t → Appends b c (waiting ++ ending_text t.core)
-    → IfSome text (λ x. (out : List ℕ) × IsOutputFrom s x out × Appends a c out)
-whole_end s t None a b c waiting p w = tt
-whole_end s t (Some text) a b c waiting p w = (
+pub whole_end : (s t : Replay) (text a b c : Option (List ℕ)) (waiting : List ℕ) (d : CoreState) → AllAnswered s text a b waiting t → Appends b c (waiting ++ ending_text t.core) → d ≡ core_ended t.core
+    → IfSome text (λ x. (out : List ℕ) × IsOutputAndHistoryFrom s x out d.history × Appends a c out)
+whole_end s t None a b c waiting d p w e = tt
+whole_end s t (Some text) a b c waiting d p w e = (
   p.0 ++ ending_text t.core,
-  record { answers = p.0; last = t; answered = p.1; whole = refl },
+  (record { answers = p.0; last = t; answered = p.1; whole = refl }, ap (λ (c : CoreState). c.history) e),
   AppendsTo-whole a b c (p.0 ++ ending_text t.core) (waiting ++ ending_text t.core) (AppendsTo-behind a b p.0 waiting (ending_text t.core) p.2) w,
 )
+
+-- what holds by two facts of what came out well
+pub both_ok : {B E P Q R : Type 0} (r : Result B E) → (P → Q → R) → OnOk r P → OnOk r Q → OnOk r R
+both_ok (Ok b) f p q = f p q
+both_ok (Err e) f p q = tt
+
+-- an error is the same one, whatever could have come out in its place
+pub err_again : {A B E : Type 0} (x y : E) → ◌≡◌ {A = Result A E} (Err x) (Err y) → ◌≡◌ {A = Result B E} (Err x) (Err y)
+err_again x y e = let same : x ≡ y = cc in ap (λ z. Err z) same
+
+-- so it is where the schedule was played from its first line on
+pub played_whole : (T : Tree) (limit : ℕ) (s : Replay) (text was is : Option (List ℕ)) (c d : CoreState) → s ≡ opened T limit → d ≡ c
+    → IfSome text (λ x. (out : List ℕ) × IsOutputAndHistoryFrom s x out c.history × Appends was is out) → IfSome text (λ x. (out : List ℕ) × IsOutputAndHistory T limit x out d.history × Appends was is out)
+played_whole T limit s text was is c d first same h =
+    subst (λ (k : CoreState). IfSome text (λ x. (out : List ℕ) × IsOutputAndHistory T limit x out k.history × Appends was is out)) (sym same)
+    (subst (λ (r : Replay). IfSome text (λ x. (out : List ℕ) × IsOutputAndHistoryFrom r x out c.history × Appends was is out)) first h)
 
 -- or the front of that
 pub front_end : (s t : Replay) (text a b c : Option (List ℕ)) (waiting : List ℕ) → AllAnswered s text a b waiting t → AppendsFront b c (waiting ++ ending_text t.core) → FrontOf s text a c

@@ -93,6 +93,10 @@ ending_by c ks = abort_lines c ks ++ world_text (tree_now (aborted_by c ks))
 abbrev pub ending_text : CoreState → List ℕ
 ending_text c = ending_by c (ending_sessions c.history)
 
+-- and this is left
+abbrev pub core_ended : CoreState → CoreState
+core_ended c = aborted_by c (ending_sessions c.history)
+
 abbrev pub opened : Tree → ℕ → Replay
 opened T l = record { names = []; core = record { opening = T; bound = l; history = [] } }
 
@@ -106,6 +110,13 @@ pub record IsOutputFrom (s : Replay) (text out : List ℕ) : Type 0 where
 -- what is written for a schedule's text, over a world and a limit of the history
 abbrev pub IsOutput : Tree → ℕ → List ℕ → List ℕ → Type 0
 IsOutput T l text out = IsOutputFrom (opened T l) text out
+
+-- what is written, and the history that results, with the aborts at the end
+abbrev pub IsOutputAndHistoryFrom : Replay → List ℕ → List ℕ → History cgroups → Type 0
+IsOutputAndHistoryFrom s text out h = (o : IsOutputFrom s text out) × (h ≡ (core_ended o.last.core).history)
+
+abbrev pub IsOutputAndHistory : Tree → ℕ → List ℕ → List ℕ → History cgroups → Type 0
+IsOutputAndHistory T l text out h = IsOutputAndHistoryFrom (opened T l) text out h
 
 -- the law of outputs: a text has one at most over a tree and a limit,
 abbrev pub OneOutput : Type 0

@@ -15,7 +15,7 @@ ghost use Rattle.cg_script.specs.Answer.{answer_text};
 ghost use Rattle.cg_core.specs.State.{after, machine, reply};
 ghost use Rattle.cg_model.specs.Cgroups.{cgroups};
 ghost use Rattle.cg_model.specs.History.{Abort};
-ghost use Rattle.cg_replay.specs.Replay.{Answers, Asked, IsAnswered, ending_text, opened, tree_now};
+ghost use Rattle.cg_replay.specs.Replay.{Answers, Asked, IsAnswered, core_ended, ending_text, opened, tree_now};
 ghost use Rattle.cg_script.specs.Request.{newline};
 ghost use Rattle.cg_script.specs.Turns.{session_number, with_name};
 
@@ -98,6 +98,14 @@ impl Player {
         ensures { result.now ≡ self.now.core }
     {
         &self.core
+    }
+
+    /// The same, when nothing more is played.
+    pub fn into_core(self) -> Core
+        ensures { result ≡ self.core }
+    {
+        let Player { names: _, core } = self;
+        core
     }
 
     /// The session of this name, which gets the next number where it is new: none where it is one too many. An error, where there is
@@ -188,6 +196,7 @@ impl Player {
         sink: &mut K,
     ) -> Result<(), ScriptFault>
         ensures whole { OnOk result (Appends (K.taken sink.old) (K.taken sink.new) (waiting.old.items ++ ending_text self.old.core)) }
+        ensures core { OnOk result (self.new.core ≡ core_ended self.old.core) }
         ensures front { OnErr result (AppendsFront (K.taken sink.old) (K.taken sink.new) (waiting.old.items ++ ending_text self.old.core)) }
         ensures writes { IsErrOf result faults.WriteFault → Failed (K.failed sink.old) (K.failed sink.new) }
         ensures faults { IfErr result (λ e. (e ≡ faults.WriteFault) ⊎ (e ≡ faults.Memory)) }
@@ -201,6 +210,7 @@ impl Player {
     /// is the only refusal, and leaves `out` as it was.
     pub fn end(&mut self, alloc: Global, out: &mut Vec<u8>) -> Result<(), AllocError>
         ensures ok { OnOk result (out.new.items ≡ out.old.items ++ ending_text self.old.core) }
+        ensures core { OnOk result (self.new.core ≡ core_ended self.old.core) }
         ensures err { OnErr result (out.new.items ≡ out.old.items) }
     {
         let start = out.len();
@@ -211,6 +221,7 @@ impl Player {
     // The same, where an error leaves what stood there at the front.
     fn append_end(&mut self, out: &mut Vec<u8>) -> Result<(), AllocError>
         ensures ok { OnOk result (out.new.items ≡ out.old.items ++ ending_text self.old.core) }
+        ensures core { OnOk result (self.new.core ≡ core_ended self.old.core) }
         ensures kept { OnErr result (take (length out.old.items) out.new.items ≡ out.old.items) }
     {
         'ends: while self.append_abort(out)? {}
@@ -220,7 +231,9 @@ impl Player {
     // Aborts the open transaction with the least number, and appends the answer's line. False where none is open.
     fn append_abort(&mut self, out: &mut Vec<u8>) -> Result<bool, AllocError>
         ensures aborted { IfOk result (λ more. more ≡ true → (line : List ℕ) × (out.new.items ≡ out.old.items ++ line) × (ending_text self.old.core ≡ line ++ ending_text self.new.core)) }
+        ensures goes_on { IfOk result (λ more. more ≡ true → core_ended self.old.core ≡ core_ended self.new.core) }
         ensures ended { IfOk result (λ more. more ≡ false → (self.new ≡ self.old) × (out.new.items ≡ out.old.items) × (ending_text self.old.core ≡ world_text (tree_now self.old.core))) }
+        ensures last { IfOk result (λ more. more ≡ false → self.new.core ≡ core_ended self.old.core) }
         ensures fewer { IfOk result (λ more. more ≡ true → length (opens self.new.core.history) < length (opens self.old.core.history)) }
         ensures err { OnErr result (out.new.items ≡ out.old.items) }
     {

@@ -1,35 +1,36 @@
 //! Replaying a schedule from a source to a sink.
-ghost use Rattle.std.specs.Prelude.{◌≤◌, List, ℕ, IfSome, OnErr, OnOk};
+ghost use Rattle.std.specs.Prelude.{◌≡◌, ◌≤◌, List, ℕ, IfOk, IfSome, OnErr, OnOk};
 ghost use Rattle.std.specs.Result.{IsErrOf};
 ghost use Rattle.std.specs.Io.KnownBytes.{Appends};
 ghost use Rattle.cg_lines.specs.Device.{AppendsFront, Failed};
 ghost use Rattle.cg_lines.specs.Lines.{pending, CanBreak};
 ghost use Rattle.cg_replay.specs.HistoryReplay.{HistoriesAreReplayed, OwnHistoriesAreReplayed};
-ghost use Rattle.cg_replay.specs.Replay.{opened, AnswersPassed, IsOutput, IsOutputFrom, OneOutput, SomeOutput};
+ghost use Rattle.cg_replay.specs.Replay.{opened, AnswersPassed, IsOutput, IsOutputFrom, IsOutputAndHistory, IsOutputAndHistoryFrom, OneOutput, SomeOutput};
 ghost use Rattle.cg_replay.specs.MachineOutput.{IsMachineOutput, OutputsAreTheMachines};
 ghost use Rattle.cg_script.specs.declared.fault.ScriptFault.TheVariants as faults;
 
 use crate::answering::answer_lines;
 use crate::player::Player;
+use cg_core::Core;
 use cg_lines::{LineReader, Sink, Source};
 use cg_script::ScriptFault;
 use cg_world::World;
 use std::alloc::Global;
 
 /// Answers the lines of a schedule over a world, one after another, aborts what is still open at the end, and
-/// writes the tree's world text. Answers are written before the reader's next read of its source, and at 64 KiB at
-/// the latest. After a fault what was written is the front of what would have been; after a read
-/// fault it is the answers to the lines that the reader went past.
+/// writes the tree's world text; and gives the machine, of which nothing is open any more. Answers are written before
+/// the reader's next read of its source, and at 64 KiB at the latest. After a fault what was written is the front of
+/// what would have been; after a read fault it is the answers to the lines that the reader went past.
 pub fn replay<S: Source, K: Sink>(
     alloc: Global,
     reader: &mut LineReader<S>,
     sink: &mut K,
     world: World,
     limit: u32,
-) -> Result<(), ScriptFault>
+) -> Result<Core, ScriptFault>
     requires low { 2 ≤ limit }
     requires high { limit ≤ 1048576 }
-    ensures output { OnOk result (IfSome (pending reader.old) (λ text. (out : List ℕ) × IsOutput world limit text out × Appends (K.taken sink.old) (K.taken sink.new) out)) }
+    ensures output { IfOk result (λ core. IfSome (pending reader.old) (λ text. (out : List ℕ) × IsOutputAndHistory world limit text out core.history × Appends (K.taken sink.old) (K.taken sink.new) out)) }
     ensures machine { OnOk result (IfSome (pending reader.old) (λ text. (out : List ℕ) × IsMachineOutput world limit text out × Appends (K.taken sink.old) (K.taken sink.new) out)) }
     ensures front { OnErr result (IfSome (pending reader.old) (λ text. (out : List ℕ) → IsOutput world limit text out → AppendsFront (K.taken sink.old) (K.taken sink.new) out)) }
     ensures reads { IsErrOf result faults.ReadFault → CanBreak reader.new.failed_before reader.new.failures reader.new.reads }
@@ -40,7 +41,10 @@ pub fn replay<S: Source, K: Sink>(
     // A world tells that its tree is sound when it is looked at.
     let _ = world.tree();
     let mut player = Player::open(alloc, world, limit)?;
-    play(alloc, reader, sink, &mut player)
+    match play(alloc, reader, sink, &mut player) {
+        Ok(()) => Ok(player.into_core()),
+        Err(fault) => Err(fault),
+    }
 }
 
 // Answers the lines of a schedule from here on.
@@ -50,7 +54,7 @@ fn play<S: Source, K: Sink>(
     sink: &mut K,
     player: &mut Player,
 ) -> Result<(), ScriptFault>
-    ensures output { OnOk result (IfSome (pending reader.old) (λ text. (out : List ℕ) × IsOutputFrom player.old text out × Appends (K.taken sink.old) (K.taken sink.new) out)) }
+    ensures output { OnOk result (IfSome (pending reader.old) (λ text. (out : List ℕ) × IsOutputAndHistoryFrom player.old text out player.new.core.history × Appends (K.taken sink.old) (K.taken sink.new) out)) }
     ensures front { OnErr result (IfSome (pending reader.old) (λ text. (out : List ℕ) → IsOutputFrom player.old text out → AppendsFront (K.taken sink.old) (K.taken sink.new) out)) }
     ensures reads { IsErrOf result faults.ReadFault → CanBreak reader.new.failed_before reader.new.failures reader.new.reads }
     ensures passed { IsErrOf result faults.ReadFault → IfSome (pending reader.old) (λ text. AnswersPassed player.old text (pending reader.new) (K.taken sink.old) (K.taken sink.new)) }

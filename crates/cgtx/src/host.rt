@@ -1,10 +1,9 @@
 //! The inputs and outputs of this computer: standard input and files.
 ghost use Rattle.std.specs.Prelude.{None, false};
 
-use cg_batch::{CreateFault, Outputs};
 use cg_import::{Folders, Listed};
 use cg_new_file::{NewFile, is_at};
-use cg_program::{FromRead, Inputs, OpenFault};
+use cg_program::{CreateFault, FromRead, Inputs, OpenFault, Outputs};
 use std::alloc::Global;
 use std::fs::{DirEntry, File};
 use std::io::Read;

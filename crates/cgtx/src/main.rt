@@ -23,15 +23,17 @@ use crate::telling::Console;
 use cg_batch::{Watch, Words, run_named};
 use cg_check::Kind;
 use cg_checked_files::check_named;
-use cg_command_line::{Asked, Batch, Explained, Import, Plan, Telling, Unasked, read_command_line};
+use cg_command_line::{
+    Asked, Batch, Import, Plan, Replay, ReplayForm, Telling, Unasked, read_command_line,
+};
 use cg_diff::diff_named;
-use cg_explain::{Comments, explain_named};
+use cg_explain::Comments;
 use cg_import::import_named;
 use cg_json::Form;
-use cg_json_program::{json_named, show_json_named};
+use cg_json_program::{Json, show_json_named};
 use cg_outline::outline_named;
 use cg_plan::{PlanForm, plan_named};
-use cg_program::{FromWrite, ScriptFault, Status, replay_named, show_named, stop};
+use cg_program::{FromWrite, Plain, Playback, ScriptFault, Status, replay_named, show_named, stop};
 use std::io::IsTerminal;
 use std::process::ExitCode;
 use std::rt::Stderr;
@@ -84,13 +86,7 @@ fn answer<R: Threads + Wait + Eprint + Sync>(
     asked: &Asked<'_>,
 ) -> u8 {
     match asked {
-        Asked::Replay { world, schedule } => replay(console, world, schedule),
-        Asked::Explain(how) => explain(console, how),
-        Asked::Json {
-            world,
-            schedule,
-            is_strict,
-        } => json(console, world, schedule, *is_strict),
+        Asked::Replay(asked) => replay(console, asked),
         Asked::Show {
             world,
             path,
@@ -119,53 +115,38 @@ fn form_of(is_json: bool) -> Form {
     if is_json { Form::Json } else { Form::Plain }
 }
 
-// Replays what the two words name.
-fn replay(console: Console<'_>, world: &str, schedule: &str) -> u8 {
-    let rt = console.rt;
-    let (mut out, mut err) = (console.out(), console.err());
-    let status = replay_named(rt.alloc(), &Host(rt), world, schedule, &mut out, &mut err);
-    replayed(console, status, world, schedule)
+// Replays what the words name, in the form that is asked for.
+fn replay(console: Console<'_>, asked: &Replay) -> u8 {
+    match asked.form {
+        // Who looks for refused requests is the one that comments, though it be asked for no comment.
+        ReplayForm::Plain if asked.is_strict => {
+            let (echo, explain) = (false, false);
+            replay_by(console, asked, &Comments { echo, explain })
+        }
+        ReplayForm::Plain => replay_by(console, asked, &Plain),
+        ReplayForm::Comments { echo, explain } => {
+            replay_by(console, asked, &Comments { echo, explain })
+        }
+        ReplayForm::Json => replay_by(console, asked, &Json),
+    }
 }
 
-// Replays as the words ask, with comments.
-fn explain(console: Console<'_>, how: &Explained) -> u8 {
+// Replays what the words name, played so.
+fn replay_by<B: Playback>(console: Console<'_>, asked: &Replay, playback: &B) -> u8 {
     let rt = console.rt;
     let (mut out, mut err) = (console.out(), console.err());
-    let comments = Comments {
-        echo: how.echo,
-        explain: how.explain,
-    };
-    let status = explain_named(
+    let (world, schedule) = (asked.world, asked.schedule);
+    let status = replay_named(
         rt.alloc(),
-        &Host(rt),
-        how.world,
-        how.schedule,
-        comments,
-        how.strict,
-        &mut out,
-        &mut err,
-    );
-    replayed(console, status, how.world, how.schedule)
-}
-
-// Replays what the two words name, and tells of it as JSON.
-fn json(console: Console<'_>, world: &str, schedule: &str, is_strict: bool) -> u8 {
-    let rt = console.rt;
-    let (mut out, mut err) = (console.out(), console.err());
-    let status = json_named(
-        rt.alloc(),
-        &Host(rt),
+        &mut Host(rt),
+        playback,
         world,
         schedule,
-        is_strict,
+        asked.history,
+        asked.is_strict,
         &mut out,
         &mut err,
     );
-    replayed(console, status, world, schedule)
-}
-
-// The status of a replay of what the words name.
-fn replayed(console: Console<'_>, status: u8, world: &str, schedule: &str) -> u8 {
     console.ended(status, &[world], Kind::Schedule, &[schedule])
 }
 

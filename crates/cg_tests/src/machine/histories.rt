@@ -54,7 +54,8 @@ fn write_replayed(alloc: Global, out: &mut Vec<u8>) -> Option<()> {
     let source = FromRead::new(HISTORY.as_bytes());
     let mut reader = LineReader::new(alloc, source).ok()?;
     let mut sink = FromWrite::new(out);
-    replay(alloc, &mut reader, &mut sink, world, 16).ok()
+    replay(alloc, &mut reader, &mut sink, world, 16).ok()?;
+    Some(())
 }
 
 const ANSWERS: &str = "begun 1

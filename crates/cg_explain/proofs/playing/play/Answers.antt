@@ -17,5 +17,5 @@ returns-in_err-write_end-clause-front g c =
 
 pub returns-clause-output : goal.returns-clause-output
 returns-clause-output g c =
-    whole_end c.args.explainer.now c.answer_lines.new.answerer (pending c.args.reader.now) (g.K.Sink.taken c.args.sink.now) (g.K.Sink.taken c.answer_lines.new.sink) (g.K.Sink.taken c.write_end.new.sink) c.in_ok-waiting.waiting.items c.is_refused.result
-    c.in_ok-waiting.ensures.answered (c.is_refused.ensures ∙ c.in_ok-write_end.ensures.kept) c.in_ok-write_end.ensures.whole
+    whole_end c.args.explainer.now c.answer_lines.new.answerer (pending c.args.reader.now) (g.K.Sink.taken c.args.sink.now) (g.K.Sink.taken c.answer_lines.new.sink) (g.K.Sink.taken c.write_end.new.sink) c.in_ok-waiting.waiting.items c.is_refused.result c.write_end.new.self.player.core
+    c.in_ok-waiting.ensures.answered (c.is_refused.ensures ∙ c.in_ok-write_end.ensures.kept) c.in_ok-write_end.ensures.whole c.in_ok-write_end.ensures.core

@@ -36,7 +36,7 @@ returns-in_err-write_all-2-clause-front g c =
     let e = g.K.Sink.taken c.write_all-2.new.sink in
     on_any_err c.from_residual-in_err-write_all-2.result
     (front_end c.args.reporter.now c.answer_lines.new.answerer (pending c.args.reader.now) a b d e c.in_ok-waiting.waiting.items c.in_ok-ending.ending.items _ c.in_ok-waiting.ensures.answered (subst (Appends b d) c.as_slice.ensures.value c.in_ok-write_all.ensures.bytes)
-    c.in_ok-ending.ensures.ending (subst (AppendsFront d e) c.as_slice-2.ensures.value c.in_err-write_all-2.ensures.bytes))
+    c.in_ok-ending.ensures.ending.0 (subst (AppendsFront d e) c.as_slice-2.ensures.value c.in_err-write_all-2.ensures.bytes))
 
 pub returns-clause-output : goal.returns-clause-output
 returns-clause-output g c =
@@ -44,5 +44,5 @@ returns-clause-output g c =
     let b = g.K.Sink.taken c.answer_lines.new.sink in
     let d = g.K.Sink.taken c.write_all.new.sink in
     let e = g.K.Sink.taken c.write_all-2.new.sink in
-    whole_end c.args.reporter.now c.answer_lines.new.answerer (pending c.args.reader.now) a b d e c.in_ok-waiting.waiting.items c.in_ok-ending.ending.items c.is_refused.result c.in_ok-waiting.ensures.answered
+    whole_end c.args.reporter.now c.answer_lines.new.answerer (pending c.args.reader.now) a b d e c.in_ok-waiting.waiting.items c.in_ok-ending.ending.items c.is_refused.result c.end.new.self.player c.in_ok-waiting.ensures.answered
     (subst (Appends b d) c.as_slice.ensures.value c.in_ok-write_all.ensures.bytes) c.in_ok-ending.ensures.ending (subst (Appends d e) c.as_slice-2.ensures.value c.in_ok-write_all-2.ensures.bytes) (c.is_refused.ensures ∙ c.in_ok-ending.ensures.kept)

@@ -1,4 +1,4 @@
-use Rattle.std.proofs.Common.{[], ◌∷◌, ◌++◌, sym, ap, subst, ◌∙◌, append_assoc}
+use Rattle.std.proofs.Common.{[], ◌∷◌, ◌++◌, refl, sym, ap, subst, ◌∙◌, append_assoc}
 use Rattle.std.specs.List.{flat_map}
 use Rattle.cg_core.specs.State.{CoreState}
 use Rattle.cg_replay.specs.Replay.{Replay, ending_text, tree_now}
@@ -31,12 +31,14 @@ pub returns : goal.returns
 returns c =
     let so_far = c.ends.invariant.told in
     let last = c.in_ok-append_abort.ensures.ended c.if-branch.false in
-    let m : Replay = c.append_abort.new.player in
-    record {
-      ends = so_far.0;
-      last = m;
-      aborted = subst (Aborts c.args.player.now so_far.0) (sym last.1) so_far.1;
-      closed = subst HasNoneOpen (sym last.1) last.0;
-      told = c.in_ok-write_world.ensures ∙ ap (λ l. l ++ world_line c.tree.result.now.tree) (last.2 ∙ so_far.2) ∙ ap (λ T. flat_map told_line so_far.0 ++ world_line T) (c.tree.ensures.value ∙ ap (λ (d : CoreState). tree_now d) c.core.ensures);
-      answered = so_far.3 ∙ ap (λ l. flat_map plain_line so_far.0 ++ l) (last.3 ∙ ap (λ (s : Replay). world_text (tree_now s.core)) (sym last.1));
-    }
+    let m : Replay = c.append_abort.new.player in (
+      record {
+        ends = so_far.0;
+        last = m;
+        aborted = subst (Aborts c.args.player.now so_far.0) (sym last.1) so_far.1;
+        closed = subst HasNoneOpen (sym last.1) last.0;
+        told = c.in_ok-write_world.ensures ∙ ap (λ l. l ++ world_line c.tree.result.now.tree) (last.2 ∙ so_far.2) ∙ ap (λ T. flat_map told_line so_far.0 ++ world_line T) (c.tree.ensures.value ∙ ap (λ (d : CoreState). tree_now d) c.core.ensures);
+        answered = so_far.3 ∙ ap (λ l. flat_map plain_line so_far.0 ++ l) (last.3 ∙ ap (λ (s : Replay). world_text (tree_now s.core)) (sym last.1));
+      },
+      refl,
+    )

@@ -1,16 +1,23 @@
-use Rattle.cg_lines.specs.Lines.{pending}
-use Rattle.cg_program.specs.Program.{Plays, Stops}
-use Rattle.cg_program.proofs.NamedLemmas.{done_named, ended_named}
+use Rattle.std.proofs.Common.{◌∙◌, subst, sym}
+use Rattle.std.proofs.lemmas.Option.{IfSome_then}
+use Rattle.cg_program.specs.Program.{IsPlayed}
+use Rattle.cg_program.proofs.ProgramLemmas.{is_played}
 use Rattle.cg_program.proofs.named.replay_named.Goals as goal
 
 pub returns-in-Ok-clause-done : goal.returns-in-Ok-clause-done
-returns-in-Ok-clause-done g c = λ zero.
-    let old = g.O.Sink.taken c.args.out.now in
-    let new = g.O.Sink.taken c.replay_to.new.out in
-    done_named (λ tree lines. Plays tree lines old new) (g.P.Inputs.standard c.args.inputs.now) (g.P.Inputs.file c.args.inputs.now) c.args.world.now c.args.schedule.now (pending c.in-Ok.first) c.in-Ok.second c.in-Ok.ensures.world c.in-Ok.ensures.schedule (c.replay_to.ensures.done zero)
+returns-in-Ok-clause-done g c = λ _. let done = c.in-Ok.ensures.done in (c.in-Ok.is_refused, done.0, c.status_of_played.ensures, done.1, done.2)
 
-pub returns-in-Ok-clause-front : goal.returns-in-Ok-clause-front
-returns-in-Ok-clause-front g c = λ three.
-    let old = g.O.Sink.taken c.args.out.now in
-    let new = g.O.Sink.taken c.replay_to.new.out in
-    ended_named (λ tree lines. Stops tree lines old new) (g.P.Inputs.standard c.args.inputs.now) (g.P.Inputs.file c.args.inputs.now) c.args.world.now c.args.schedule.now (pending c.in-Ok.first) c.in-Ok.second c.in-Ok.ensures.world c.in-Ok.ensures.schedule (c.replay_to.ensures.front three)
+pub returns-in-Ok-clause-unchanged : goal.returns-in-Ok-clause-unchanged
+returns-in-Ok-clause-unchanged g c = λ failed. absurd (failed (subst IsPlayed (sym c.status_of_played.ensures) (is_played c.args.is_strict c.in-Ok.is_refused)))
+
+pub returns-in-Ok-clause-inputs : goal.returns-in-Ok-clause-inputs
+returns-in-Ok-clause-inputs g c = IfSome_then c.args.history c.in-Ok.ensures.inputs (λ name f known. absurd (f known).0)
+
+pub returns-in-Ok-clause-barred : goal.returns-in-Ok-clause-barred
+returns-in-Ok-clause-barred g c = IfSome_then c.args.history c.in-Ok.ensures.barred (λ name f known. absurd (f known).0)
+
+pub returns-in-Err-clause-inputs : goal.returns-in-Err-clause-inputs
+returns-in-Err-clause-inputs g c = IfSome_then c.args.history c.in-Err.ensures.inputs (λ name f known. (c.stop.ensures.status ∙ (f known).0, (f known).1))
+
+pub returns-in-Err-clause-barred : goal.returns-in-Err-clause-barred
+returns-in-Err-clause-barred g c = IfSome_then c.args.history c.in-Err.ensures.barred (λ name f known. (c.stop.ensures.status ∙ (f known).0, (f known).1))

@@ -1,10 +1,10 @@
 //! The files that words name, to be written.
 ghost use Rattle.std.specs.Prelude.{◌≡◌, ◌≢◌, Bool, true, IfOk, List, OnErr, OnOk, Option, ℕ};
 ghost use Rattle.std.specs.Result.{IsErrOf};
-ghost use Rattle.cg_batch.specs.declared.outputs.CreateFault.TheVariants as faults;
+ghost use Rattle.cg_program.specs.declared.outputs.CreateFault.TheVariants as faults;
 
+use crate::inputs::Inputs;
 use cg_lines::Sink;
-use cg_program::Inputs;
 use cg_script::ScriptFault;
 use thiserror::Error;
 
@@ -21,7 +21,7 @@ pub enum CreateFault {
 
 impl From<CreateFault> for ScriptFault {
     ghost use Rattle.std.specs.Prelude.{◌≡◌};
-    ghost use Rattle.cg_batch.specs.Files.{of_create_fault};
+    ghost use Rattle.cg_program.specs.Files.{of_create_fault};
 
     ghost from_gives = { λ given fault. fault ≡ of_create_fault given };
 
