@@ -12,7 +12,7 @@ _cgtx() {
     tree) options='--depth --json --verbose --quiet --help' ;;
     diff) options='--verbose --quiet --help' ;;
     plan) options='--json --shell --root --verbose --quiet --help' ;;
-    run) options='--workers --tries --history --json --watch --strict --verbose --quiet --help' ;;
+    run) options='--workers --tries --history --explain --json --watch --strict --verbose --quiet --help' ;;
     check) options='--as --json --verbose --quiet --help' ;;
     import) options='--online --strict --quiet --help' ;;
     *) return ;;

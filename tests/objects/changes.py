@@ -183,6 +183,7 @@ OTHERS = (
             "a line of what was committed": with_field(0, "line", 1),
             "another line": with_field(2, "line", 2),
             "no refusal": with_field(2, "refused", None),
+            "a holder of what failed": with_field(2, "holder", 1),
             "a try more": with_field(0, "tries", 2),
             "the world before an end": swapped,
             "no world": lambda objects: objects.pop(),

@@ -11,7 +11,7 @@ ONE_WORKER = ["--workers", "1"]
 
 
 def is_told(case):
-    return case.command in WRITES and not {"--json", "--shell"} & {*case.words} and not any(it.startswith("--watch") for it in case.words)
+    return case.command in WRITES and not {"--json", "--shell", "--explain"} & {*case.words} and not any(it.startswith("--watch") for it in case.words)
 
 
 def with_one_worker(case):
@@ -52,8 +52,8 @@ def check_run(program, case, objects):
     holds("world" in last and not any("world" in it for it in ends), "the world is not the last")
     holds([it["script"] for it in ends] == [*range(1, len(ends) + 1)], "the scripts' numbers")
     for it in ends:
-        has = [name for name in ("commit", "line", "refused") if it[name] is not None]
-        holds(has == {"committed": ["commit"], "failed": ["line", "refused"]}.get(it["end"], []), f"fields of {it}")
+        has = [name for name in ("commit", "line", "refused", "holder") if it[name] is not None]
+        holds(has == {"committed": ["commit"], "failed": ["line", "refused"], "gaveup": ["line", "holder"]}.get(it["end"], []), f"fields of {it}")
 
 
 def check_plan(program, case, objects):

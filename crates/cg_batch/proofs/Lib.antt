@@ -1,3 +1,4 @@
 pub mod BatchLemmas
 pub mod HistoryFile
+mod Noting
 pub mod Stopping

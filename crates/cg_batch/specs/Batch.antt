@@ -2,8 +2,6 @@
 use Rattle.std.specs.Prelude.{◌≡◌, ◌<◌, ◌≤◌, ◌⊎◌, ℕ, Bool, true, false, List, ◌++◌, length, Option, Some, None, IfSome, ⊤}
 use Rattle.std.specs.List.{AllZip, Any}
 use Rattle.std.specs.Io.KnownBytes.{Appends}
-use Rattle.cg_json.specs.declared.form.Form.{Form}
-use Rattle.cg_json.specs.declared.form.Form.TheVariants.{Plain, Json}
 use Rattle.cg_json_world.specs.WorldValue.{world_line}
 use Rattle.cg_name.specs.declared.refusal.Refusal.{Refusal}
 use Rattle.cg_name.specs.declared.refusal.Refusal.TheVariants.{Syntax, Memory, Disagree, ReadFault, WriteFault}
@@ -21,7 +19,9 @@ use Rattle.cg_script.specs.declared.script.Script.{Script}
 use Rattle.cg_runner.specs.Closed.{HaveHappened, IsClosed}
 use Rattle.cg_runner.specs.End.{CanEnd}
 use Rattle.cg_runner.specs.declared.end.ScriptEnd.{ScriptEnd}
-use Rattle.cg_batch.specs.Ends.{end_lines}
+use Rattle.cg_batch.specs.Ends.{ends_text}
+use Rattle.cg_batch.specs.declared.form.BatchForm.{BatchForm}
+use Rattle.cg_batch.specs.declared.form.BatchForm.TheVariants.{Plain, Explained, Json}
 
 -- a refusal at which a run of scripts as a whole may stop
 abbrev pub stops_run : Refusal → Bool
@@ -46,10 +46,15 @@ abbrev pub EndSo : ℕ → ℕ → List (List ℕ) → List ScriptEnd → Histor
 EndSo workers tries texts ends h =
     (scripts : List Script) × AllZip SpellsAs texts scripts × AllZip (CanEnd tries) scripts ends × HaveHappened workers tries scripts ends h
 
+-- the world that a batch left
+abbrev pub world_left : BatchForm → Tree → History cgroups → List ℕ
+world_left Plain opening h = text_left opening h
+world_left Explained opening h = text_left opening h
+world_left Json opening h = world_line (tree_of cgroups opening h)
+
 -- what is told of a batch: how each script ended, and the world that they left
-abbrev pub batch_text : Form → List ScriptEnd → Tree → History cgroups → List ℕ
-batch_text Plain ends opening h = end_lines Plain 1 ends ++ text_left opening h
-batch_text Json ends opening h = end_lines Json 1 ends ++ world_line (tree_of cgroups opening h)
+abbrev pub batch_text : BatchForm → List ScriptEnd → Tree → History cgroups → List ℕ
+batch_text form ends opening h = ends_text form h ends ++ world_left form opening h
 
 -- the text was appended where a sink is given for it
 abbrev pub AppendsGiven : {K : Type 0} → (K → Option (List ℕ)) → Option K → Option K → List ℕ → Type 0
@@ -83,7 +88,7 @@ pub record Batch (workers tries : ℕ) (texts : List (List ℕ)) : Type 0 where
   pub reached : Reached opening bound history
 
 -- such a batch was run, and this done with what is told of it in this form and with the text of its history
-abbrev pub Tells : Form → ℕ → ℕ → List (List ℕ) → (List ℕ → List ℕ → Type 0) → Type 0
+abbrev pub Tells : BatchForm → ℕ → ℕ → List (List ℕ) → (List ℕ → List ℕ → Type 0) → Type 0
 Tells form workers tries texts P = (b : Batch workers tries texts) × P (batch_text form b.ends b.opening b.history) (history_text b.history)
 
 -- the telling of a batch stopped: at the front of what is told, with nothing of the history; or in the history, behind all of it

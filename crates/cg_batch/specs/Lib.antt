@@ -3,3 +3,4 @@ pub mod EndValue
 pub mod Ends
 pub mod Fault
 pub mod Files
+pub mod Outcomes

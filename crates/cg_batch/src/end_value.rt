@@ -1,7 +1,7 @@
 //! What JSON tells of how a script ended.
 ghost use Rattle.std.specs.Prelude.{◌≡◌, ◌++◌, OnOk, true};
 ghost use Rattle.cg_json.specs.Text.{fields_of, fields_text, json_text};
-ghost use Rattle.cg_batch.specs.EndValue.{commit_fields, commit_of, end_value, end_word, line_of, refused_fields, refused_value};
+ghost use Rattle.cg_batch.specs.EndValue.{commit_fields, commit_of, end_value, end_word, holder_fields, holder_of, line_of, refused_fields, refused_value};
 
 use cg_json::{write_name, write_null, write_number, write_number_or_null, write_string};
 use cg_json_world::write_refusal;
@@ -45,6 +45,15 @@ fn append_refused(end: &ScriptEnd, out: &mut Vec<u8>) -> Result<(), AllocError>
 {
     write_name(true, "refused", out)?;
     append_refusal(end, out)?;
+    append_holder(end, out)
+}
+
+// From the transaction in the way on.
+fn append_holder(end: &ScriptEnd, out: &mut Vec<u8>) -> Result<(), AllocError>
+    ensures { OnOk result (out.new.items ≡ out.old.items ++ fields_text true (fields_of (holder_fields end.now))) }
+{
+    write_name(true, "holder", out)?;
+    write_number_or_null(holder_of(end), out)?;
     write_name(true, "tries", out)?;
     write_number(end.tries() as u64, out)?;
     out.push(b'}')?;
@@ -83,12 +92,22 @@ fn commit_of(end: &ScriptEnd) -> Option<u64>
     }
 }
 
-// The line at which it was refused, where it was.
+// The line at which it was refused, or given up, where it was.
 fn line_of(end: &ScriptEnd) -> Option<u64>
     ensures { result ≡ line_of end.now }
 {
     match end {
-        ScriptEnd::Failed { line, .. } => Some(*line as u64),
+        ScriptEnd::Failed { line, .. } | ScriptEnd::GaveUp { line, .. } => Some(*line as u64),
+        _ => None,
+    }
+}
+
+// The transaction that was in its way, where it was given up.
+fn holder_of(end: &ScriptEnd) -> Option<u64>
+    ensures { result ≡ holder_of end.now }
+{
+    match end {
+        ScriptEnd::GaveUp { holder, .. } => Some(holder.0 as u64),
         _ => None,
     }
 }

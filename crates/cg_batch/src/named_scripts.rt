@@ -17,9 +17,9 @@ ghost use Rattle.cg_program.specs.Named.{is_standard, named};
 ghost use Rattle.cg_program.specs.Program.{WritesUnlessFailed};
 ghost use Rattle.cg_program.specs.Status.{refusal_line, status_where};
 
+use crate::form::BatchForm;
 use crate::running::run_to;
 use crate::scripts::read_all;
-use cg_json::Form;
 use cg_lines::{LineReader, Sink};
 use cg_program::{CreateFault, Inputs, Outputs, Status, is_of_word, open_reader, stop};
 use cg_runner::Gate;
@@ -61,7 +61,7 @@ pub fn run_named<
     words: Words,
     workers: u32,
     tries: u32,
-    form: Form,
+    form: BatchForm,
     out: &mut O,
     err: &mut E,
 ) -> u8

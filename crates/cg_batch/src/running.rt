@@ -7,28 +7,30 @@ ghost use Rattle.cg_name.specs.declared.refusal.Refusal.{Refusal};
 ghost use Rattle.cg_name.specs.declared.refusal.Refusal.TheVariants as refusals;
 ghost use Rattle.cg_model.specs.Sound.{Sound};
 ghost use Rattle.cg_core_laws.specs.MachineOf.{Reached};
-ghost use Rattle.cg_lines.specs.Device.{AppendsFront, Failed};
+ghost use Rattle.cg_lines.specs.Device.{Failed};
 ghost use Rattle.cg_lines.specs.Lines.{pending};
 ghost use Rattle.cg_script.specs.HistoryText.{history_text};
 ghost use Rattle.cg_script.specs.WorldPart.{HasNoWorld};
 ghost use Rattle.cg_script.specs.declared.fault.ScriptFault.TheVariants as faults;
 ghost use Rattle.cg_runner.specs.Closed.{IsClosed};
 ghost use Rattle.cg_batch.specs.Batch.{stops_run, AppendsGiven, BeginsWithWorld, EndSo, FailedGiven, SomeSpellsNone, StopsIn, Tells, batch_text};
+ghost use Rattle.cg_batch.specs.Ends.{ends_text};
 ghost use Rattle.cg_batch.specs.Fault.{refusal_of_fault};
 ghost use Rattle.cg_watch.specs.Watches.{HasTold};
 ghost use Rattle.cg_program.specs.Program.{IsBroken, WritesUnlessFailed};
 ghost use Rattle.cg_program.specs.Status.{refusal_line, status_where};
 ghost use Rattle.cg_batch.specs.declared.fault.BatchFault.TheVariants.{Stopped};
 
-use crate::ends::lines_of;
+use crate::ends::{explained_lines_of, lines_of};
 use crate::fault::BatchFault;
+use crate::form::BatchForm;
 use crate::scripts::read_scripts;
 use cg_json::Form;
 use cg_json_world::write_world;
 use cg_lines::{LineReader, Sink, Source, write_all};
-use cg_program::{Status, stop};
-use cg_runner::{Core, Gate, RunReport};
-use cg_script::{ScriptFault, read_world, write_history};
+use cg_program::{Status, stop, tell_history};
+use cg_runner::{Gate, RunReport};
+use cg_script::{ScriptFault, read_world};
 use cg_watch::{Watch, run_watched};
 use cg_world_text::WriteWorld;
 use std::alloc::{AllocError, Global};
@@ -37,10 +39,11 @@ use std::thread::Threads;
 
 /// Reads the world from `world`, and runs the scripts of these texts, at most 4,096, over it, by 1 to 64 workers; a script that
 /// meets `Busy` is begun anew, 1 to 1,000 times in all. A line for each script, which tells how it ended, goes to `out`, and
-/// behind them the world that they left, as plain text or as JSON; then the text of their history to `history`, where there is one.
-/// What `watches` see meanwhile they tell their own sinks, as `run_watched` says, and nothing else depends on it. The status is 0
-/// when all is written, whatever the ends are; 2 when the world or a script isn't in its grammar, and then nothing is written; and 3
-/// when memory, the source or a sink fails, or what the workers tell disagrees. For 2 and 3 the refusal stands on a line in `err`.
+/// behind them the world that they left, as plain text, with comments where that is asked for, or as JSON; then the text of their
+/// history to `history`, where there is one. What `watches` see meanwhile they tell their own sinks, as `run_watched` says, and
+/// nothing else depends on it. The status is 0 when all is written, whatever the ends are; 2 when the world or a script isn't in
+/// its grammar, and then nothing is written; and 3 when memory, the source or a sink fails, or what the workers tell disagrees.
+/// For 2 and 3 the refusal stands on a line in `err`.
 pub fn run_to<
     G: Gate + Sync,
     R: Threads + Wait + Sync,
@@ -58,7 +61,7 @@ pub fn run_to<
     scripts: Vec<Vec<u8>>,
     workers: u32,
     tries: u32,
-    form: Form,
+    form: BatchForm,
     history: &mut Option<H>,
     out: &mut O,
     err: &mut E,
@@ -141,7 +144,7 @@ fn run<G: Gate + Sync, R: Threads + Wait + Sync, S: Sink + Send + Drop, W: Sourc
 // Tells what was run, and gives the status.
 fn finish<O: Sink, H: Sink, E: Sink>(
     alloc: Global,
-    form: Form,
+    form: BatchForm,
     report: &RunReport,
     history: &mut Option<H>,
     out: &mut O,
@@ -167,7 +170,7 @@ fn finish<O: Sink, H: Sink, E: Sink>(
 // Writes how the scripts ended, the world that they left, and their history.
 fn tell<O: Sink, H: Sink>(
     alloc: Global,
-    form: Form,
+    form: BatchForm,
     report: &RunReport,
     history: &mut Option<H>,
     out: &mut O,
@@ -187,26 +190,25 @@ fn tell<O: Sink, H: Sink>(
 }
 
 // The text that tells how the scripts ended, and the world that they left.
-fn text_of(alloc: Global, form: Form, report: &RunReport) -> Result<Vec<u8>, AllocError>
+fn text_of(alloc: Global, form: BatchForm, report: &RunReport) -> Result<Vec<u8>, AllocError>
     ensures { IfOk result (λ text. text.items ≡ batch_text form report.now.ends.items report.now.core.opening report.now.core.history) }
 {
-    let mut text = lines_of(alloc, form, report.ends.as_slice())?;
+    let mut text = ends_of(alloc, form, report)?;
     match form {
-        Form::Plain => report.core.tree().write(&mut text)?,
-        Form::Json => write_world(report.core.tree(), &mut text)?,
+        BatchForm::Plain | BatchForm::Explained => report.core.tree().write(&mut text)?,
+        BatchForm::Json => write_world(report.core.tree(), &mut text)?,
     }
     Ok(text)
 }
 
-// Writes the text of the history.
-fn tell_history<H: Sink>(alloc: Global, core: &Core, sink: &mut H) -> Result<(), ScriptFault>
-    ensures past { OnOk result (Appends (H.taken sink.old) (H.taken sink.new) (history_text core.now.history)) }
-    ensures front { OnErr result (AppendsFront (H.taken sink.old) (H.taken sink.new) (history_text core.now.history)) }
-    ensures writes { IsErrOf result faults.WriteFault → Failed (H.failed sink.old) (H.failed sink.new) }
-    ensures refusals { IfErr result (λ e. (e ≡ faults.Memory) ⊎ (e ≡ faults.WriteFault)) }
+// The text that tells how the scripts ended.
+fn ends_of(alloc: Global, form: BatchForm, report: &RunReport) -> Result<Vec<u8>, AllocError>
+    ensures { IfOk result (λ text. text.items ≡ ends_text form report.now.core.history report.now.ends.items) }
 {
-    let mut text = Vec::new(alloc);
-    write_history(core.history(), &mut text)?;
-    write_all(sink, text.as_slice())?;
-    Ok(())
+    let ends = report.ends.as_slice();
+    match form {
+        BatchForm::Plain => lines_of(alloc, Form::Plain, ends),
+        BatchForm::Explained => explained_lines_of(alloc, report.core.history(), ends),
+        BatchForm::Json => lines_of(alloc, Form::Json, ends),
+    }
 }

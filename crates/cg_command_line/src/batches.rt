@@ -28,6 +28,8 @@ pub struct Batch<'a> {
     pub history: Option<&'a str>,
     /// The files that are to be watched meanwhile, each as PATH:FILE; at most 8.
     pub watches: Vec<&'a str>,
+    /// Whether it is told who was in the way of a script that gave up.
+    pub is_explained: bool,
     /// Whether the ends and the world are told as lines of JSON.
     pub is_json: bool,
     /// Whether the status is 1 where a script was not committed.

@@ -201,6 +201,7 @@ Examples:
   cgtx run world script-1 script-2
   cgtx run --workers 1 --history history world script
   cgtx run --watch /batch:cgroup.procs world script
+  cgtx run --tries 1 --explain world script-1 script-2
   cgtx run --json world script-1 script-2
 
 Status:
@@ -225,8 +226,13 @@ Status:
         ),
         Value("history", "The file that the history is written to", "FILE"),
         Flag(
+            "explain",
+            "Writes who was in the way of a script that gave up behind its line, behind a number sign",
+        ),
+        FlagApart(
             "json",
             "Writes each end and the world that results as a line of JSON",
+            &["explain"],
         ),
         Values(
             "watch",

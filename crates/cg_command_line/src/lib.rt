@@ -263,6 +263,7 @@ fn batch_of<'a>(alloc: Global, given: &ArgMatches<'a>) -> Result<Batch<'a>, Unas
         tries: number(given, "tries", MOST_TRIES),
         history: given.get_str("history"),
         watches: Vec::from_slice(alloc, watches)?,
+        is_explained: given.get_flag("explain"),
         is_json: is_json(given),
         is_strict: given.get_flag("strict"),
     })

@@ -10,6 +10,7 @@ use Rattle.cg_history.specs.Meaning.{request_of}
 use Rattle.cg_log.specs.Call.{Call, logged}
 use Rattle.cg_desk.specs.Replies.{may_meet}
 use Rattle.cg_script.specs.declared.script.Script.{Script}
+use Rattle.cg_runner.specs.End.{tries_of}
 use Rattle.cg_runner.specs.declared.end.ScriptEnd.{ScriptEnd}
 use Rattle.cg_runner.specs.declared.end.ScriptEnd.TheVariants as ends
 
@@ -77,19 +78,13 @@ abbrev pub IsFailed : List (Request cgroups) → ℕ → Refusal → List Call �
 IsFailed requests line e calls =
     (is_busy e ≡ false) × (IsNotBegun line e calls ⊎ IsStopped requests line e calls ⊎ IsNotEnded requests line e calls)
 
--- these are the calls of the try by which a script ends so; of one that gave up, all tries were in vain
+-- these are the calls of the last try of a script that ends so; of one that gave up it was in vain too: that transaction was in the way
+-- of the request at that line
 abbrev pub EndsBy : List (Request cgroups) → Bool → ScriptEnd → List Call → Type 0
 EndsBy requests aborts (ends.Committed number tries) calls = (aborts ≡ false) × IsWhole requests Commit (λ t. Committed number) calls
 EndsBy requests aborts (ends.Aborted tries) calls = (aborts ≡ true) × IsWhole requests Abort Aborted calls
 EndsBy requests aborts (ends.Failed line refusal tries) calls = IsFailed requests line refusal calls
-EndsBy requests aborts (ends.GaveUp tries) calls = calls ≡ []
-
--- how many tries were in vain: all but the last, and all of one that gave up
-abbrev pub vain_of : ScriptEnd → ℕ
-vain_of (ends.Committed number tries) = tries - 1
-vain_of (ends.Aborted tries) = tries - 1
-vain_of (ends.Failed line refusal tries) = tries - 1
-vain_of (ends.GaveUp tries) = tries
+EndsBy requests aborts (ends.GaveUp line holder tries) calls = IsStopped requests line (refusals.Busy holder) calls
 
 -- what the script asks for
 abbrev pub requests_of : Script → List (Request cgroups)
@@ -106,10 +101,10 @@ pub record AreVain (requests : List (Request cgroups)) (tries : ℕ) (calls : Li
   pub each : AllByRecursion (IsVain requests) parts
   pub calls_are : calls ≡ joined parts
 
--- the script ended so by just these calls: some tries in vain, and the one by which it ends
+-- the script ended so by just these calls: all tries but the last were in vain, and by the last it ended so
 pub record IsEndOf (script : Script) (calls : List Call) (end : ScriptEnd) : Type 0 where
   pub vain : List Call
   pub last : List Call
   pub calls_are : calls ≡ vain ++ last
-  pub tries : AreVain (requests_of script) (vain_of end) vain
+  pub tries : AreVain (requests_of script) (tries_of end - 1) vain
   pub ends : EndsBy (requests_of script) script.aborts end last

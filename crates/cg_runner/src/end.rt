@@ -2,7 +2,7 @@
 ghost use Rattle.std.specs.Prelude.{◌≡◌, Some};
 ghost use Rattle.cg_runner.specs.End.{end_words, tries_of};
 
-use cg_desk::Refusal;
+use cg_desk::{Refusal, TxnNumber};
 use std::fmt;
 
 /// How a script ended, and how often it was begun.
@@ -31,6 +31,10 @@ pub enum ScriptEnd {
     },
     /// Another transaction was in the way of each try.
     GaveUp {
+        /// Where it was in the last try: which of its requests, from 1.
+        line: u32,
+        /// Which transaction that was.
+        holder: TxnNumber,
         /// How often it was begun.
         tries: u32,
     },
@@ -45,7 +49,7 @@ impl ScriptEnd {
             ScriptEnd::Committed { tries, .. }
             | ScriptEnd::Aborted { tries }
             | ScriptEnd::Failed { tries, .. }
-            | ScriptEnd::GaveUp { tries } => tries,
+            | ScriptEnd::GaveUp { tries, .. } => tries,
         }
     }
 }
@@ -63,7 +67,7 @@ impl fmt::Display for ScriptEnd {
                 refusal,
                 tries,
             } => write!(f, "failed {line} {refusal} tries {tries}"),
-            ScriptEnd::GaveUp { tries } => write!(f, "gaveup tries {tries}"),
+            ScriptEnd::GaveUp { tries, .. } => write!(f, "gaveup tries {tries}"),
         }
     }
 }

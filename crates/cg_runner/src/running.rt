@@ -27,12 +27,13 @@ pub(crate) fn run_script<G: Gate>(
     ensures can { IfOk result (CanEnd tries script.now) }
     ensures ran { IfOk result (Ran script.now session.old session.new) }
 {
-    for tried in 0..tries {
+    for tried in 1..tries {
         passage.wait(rt);
-        let ended = try_script(rt, alloc, &mut passage, desk, session, script, tried + 1)?;
-        if let Some(end) = ended {
+        let end = try_script(rt, alloc, &mut passage, desk, session, script, tried)?;
+        let ScriptEnd::GaveUp { .. } = end else {
             return Ok(end);
-        }
+        };
     }
-    Ok(ScriptEnd::GaveUp { tries })
+    passage.wait(rt);
+    try_script(rt, alloc, &mut passage, desk, session, script, tries)
 }

@@ -1,5 +1,5 @@
 //! One try of a script: one transaction.
-ghost use Rattle.std.specs.Prelude.{◌≡◌, ◌+◌, ◌≤◌, ◌∷◌, [], ℕ, IfErr, IfNone, IfOk, IfSome, List, OnOk, false, length, map, true, vec_len};
+ghost use Rattle.std.specs.Prelude.{◌≡◌, ◌+◌, ◌≤◌, ◌∷◌, [], ℕ, IfErr, IfNone, IfOk, IfSome, List, OnOk, length, map, vec_len};
 ghost use Rattle.cg_desk.specs.Replies.{MayAnswer};
 ghost use Rattle.cg_desk.specs.Transactions.{session_left, session_of, txn_number, IsSame};
 ghost use Rattle.cg_history.specs.Meaning.{answer_of, request_of};
@@ -7,9 +7,8 @@ ghost use Rattle.cg_log.specs.Call.{after_call, Call};
 ghost use Rattle.cg_model.specs.History as model;
 ghost use Rattle.cg_script.specs.Script.{AreScriptRequests};
 ghost use Rattle.cg_runner.specs.End.{tries_of};
-ghost use Rattle.cg_runner.specs.EndOf.{is_busy, vain_of, AreAccepted, IsRefused, MayRefuse};
-ghost use Rattle.cg_runner.specs.Trying.{ending, ending_call, Asked, CanEndBehind, Made, TriedInVain, TriedLast};
-ghost use Rattle.cg_runner.specs.declared.end.ScriptEnd.TheVariants as ends;
+ghost use Rattle.cg_runner.specs.EndOf.{AreAccepted, IsRefused, MayRefuse};
+ghost use Rattle.cg_runner.specs.Trying.{ending, ending_call, Asked, CanEndBehind, EndsAt, Made, TriedLast};
 
 use crate::end::ScriptEnd;
 use crate::fault::RunFault;
@@ -27,8 +26,8 @@ struct Stop {
     refusal: Refusal,
 }
 
-// Runs the script in one transaction, which has ended then; how the script ends by this try, which has this number, if it isn't
-// to be begun anew. `Disagree`, where the transaction can't be aborted.
+// Runs the script in one transaction, which has ended then; how the script ends, whose last try this is, with this number. It may be
+// begun anew where it gave up so. `Disagree`, where the transaction can't be aborted.
 pub(crate) fn try_script<G: Gate>(
     rt: &impl Wait,
     alloc: Global,
@@ -37,11 +36,9 @@ pub(crate) fn try_script<G: Gate>(
     session: &mut Session,
     script: &Script,
     tries: u32,
-) -> Result<Option<ScriptEnd>, RunFault>
-    requires { 1 ≤ tries }
-    ensures tries { IfOk result (λ o. IfSome o (λ end. (tries_of end ≡ tries) × (vain_of end + 1 ≡ tries))) }
-    ensures last { IfOk result (λ o. IfSome o (TriedLast script.now session.old session.new)) }
-    ensures vain { IfOk result (λ o. IfNone o (TriedInVain script.now session.old session.new)) }
+) -> Result<ScriptEnd, RunFault>
+    ensures tries { IfOk result (λ end. tries_of end ≡ tries) }
+    ensures last { IfOk result (TriedLast script.now session.old session.new) }
 {
     passage.enter();
     let begun = session.begin(rt, alloc, desk);
@@ -49,11 +46,11 @@ pub(crate) fn try_script<G: Gate>(
     let mut transaction = match begun {
         Ok(transaction) => transaction,
         Err(refusal) => {
-            return Ok(Some(ScriptEnd::Failed {
+            return Ok(ScriptEnd::Failed {
                 line: 0,
                 refusal,
                 tries,
-            }));
+            });
         }
     };
     passage.begun(rt, transaction.number());
@@ -65,7 +62,7 @@ pub(crate) fn try_script<G: Gate>(
         script.requests.as_slice(),
     );
     match asked {
-        Ok(()) => Ok(Some(finish(rt, passage, transaction, script, tries))),
+        Ok(()) => Ok(finish(rt, passage, transaction, script, tries)),
         Err(stop) => match end(rt, passage, transaction, true) {
             Answer::Aborted(_) => Ok(refused(stop.line, stop.refusal, tries)),
             _ => Err(RunFault::Disagree),
@@ -73,18 +70,22 @@ pub(crate) fn try_script<G: Gate>(
     }
 }
 
-// How a script ends whose line is refused, if it isn't to be begun anew.
-fn refused(line: u32, refusal: Refusal, tries: u32) -> Option<ScriptEnd>
-    ensures busy { IfNone result (is_busy refusal ≡ true) }
-    ensures other { IfSome result (λ end. (is_busy refusal ≡ false) × (end ≡ ends.Failed line refusal tries)) }
+// How a script ends that is refused so at a line of its last try.
+fn refused(line: u32, refusal: Refusal, tries: u32) -> ScriptEnd
+    ensures tries { tries_of result ≡ tries }
+    ensures at { EndsAt line refusal result }
 {
     match refusal {
-        Refusal::Busy(_) => None,
-        _ => Some(ScriptEnd::Failed {
+        Refusal::Busy(holder) => ScriptEnd::GaveUp {
+            line,
+            holder,
+            tries,
+        },
+        _ => ScriptEnd::Failed {
             line,
             refusal,
             tries,
-        }),
+        },
     }
 }
 

@@ -20,7 +20,7 @@ use crate::paths::quoted;
 use crate::progress::Progress;
 use crate::reasons::{tell_failures, tell_words};
 use crate::telling::Console;
-use cg_batch::{Watch, Words, run_named};
+use cg_batch::{BatchForm, Watch, Words, run_named};
 use cg_check::Kind;
 use cg_checked_files::check_named;
 use cg_command_line::{
@@ -274,7 +274,7 @@ fn run_batch<R: Threads + Wait + Eprint + Sync>(
         words,
         batch.workers,
         batch.tries,
-        form_of(batch.is_json),
+        form_of_batch(batch),
         &mut out,
         &mut err,
     );
@@ -287,6 +287,15 @@ fn run_batch<R: Threads + Wait + Eprint + Sync>(
         }
     }
     console.ended(status, &[batch.world], Kind::Script, scripts)
+}
+
+// The form in which a run of scripts is told. No run is asked for both as JSON and with comments.
+fn form_of_batch(batch: &Batch) -> BatchForm {
+    match (batch.is_json, batch.is_explained) {
+        (true, _) => BatchForm::Json,
+        (false, true) => BatchForm::Explained,
+        (false, false) => BatchForm::Plain,
+    }
 }
 
 // Whether a terminal shows how far a run is. Its line is rewritten, and would stand between those of watches.

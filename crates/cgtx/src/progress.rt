@@ -1,10 +1,10 @@
-//! How far a run of scripts has come, as a terminal shows it, whether all were committed, and which failed.
+//! How far a run of scripts has come, as a terminal shows it, whether all were committed, and which failed or gave up.
 use cg_batch::{Desk, Gate, ScriptEnd};
 use cg_name::Refusal;
 use std::alloc::Global;
 use std::sync::{Mutex, Wait};
 
-/// Where and why a script failed.
+/// Where and why a script failed, or gave up.
 #[derive(Clone, Copy)]
 pub struct Failure {
     /// Which script, from 1.
@@ -55,7 +55,7 @@ impl<'a, R: Wait + Eprint> Progress<'a, R> {
         self.told.lock(self.rt).committed == self.scripts
     }
 
-    /// The scripts that failed, in their order; some may be missing where there was no memory.
+    /// The scripts that failed or gave up, in their order; some may be missing where there was no memory.
     pub fn failures(&mut self) -> &[Failure] {
         let failures = &mut self.told.get_mut().failures;
         failures
@@ -78,6 +78,20 @@ impl<'a, R: Wait + Eprint> Progress<'a, R> {
     }
 }
 
+// Where and why the script failed or gave up, if it ended so.
+fn failure_of(script: u32, end: ScriptEnd) -> Option<Failure> {
+    let (request, refusal) = match end {
+        ScriptEnd::Failed { line, refusal, .. } => (line, refusal),
+        ScriptEnd::GaveUp { line, holder, .. } => (line, Refusal::Busy(holder)),
+        ScriptEnd::Committed { .. } | ScriptEnd::Aborted { .. } => return None,
+    };
+    Some(Failure {
+        script,
+        request,
+        refusal,
+    })
+}
+
 impl<R: Wait + Eprint> Gate for Progress<'_, R> {
     fn before(&self, _script: u32, _call: u32) {}
 
@@ -89,16 +103,11 @@ impl<R: Wait + Eprint> Gate for Progress<'_, R> {
         if end.tries() > 1 {
             told.begun_anew = told.begun_anew.saturating_add(1);
         }
-        match end {
-            ScriptEnd::Committed { .. } => told.committed = told.committed.saturating_add(1),
-            ScriptEnd::Failed { line, refusal, .. } => {
-                let _ = told.failures.push(Failure {
-                    script,
-                    request: line,
-                    refusal,
-                });
-            }
-            ScriptEnd::Aborted { .. } | ScriptEnd::GaveUp { .. } => {}
+        if let ScriptEnd::Committed { .. } = end {
+            told.committed = told.committed.saturating_add(1);
+        }
+        if let Some(failure) = failure_of(script, end) {
+            let _ = told.failures.push(failure);
         }
         if self.is_shown {
             self.show(&told);

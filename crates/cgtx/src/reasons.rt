@@ -114,7 +114,7 @@ fn first_fault(
     }
 }
 
-/// Tells of scripts that failed where in their texts, as far as these can be read again.
+/// Tells of scripts that failed or gave up where in their texts, as far as these can be read again.
 pub fn tell_failures(rt: &HostRuntime, scripts: &[&str], failures: &[Failure]) {
     for failure in failures {
         if let Some(name) = scripts.get((failure.script as usize).saturating_sub(1)) {

@@ -66,7 +66,9 @@ fn scripts(alloc: Global) -> Result<Vec<Script>, Refusal>
 fn may_end(place: usize, end: &ScriptEnd) -> bool {
     match end {
         ScriptEnd::Committed { tries, .. } => place % 2 == 1 || *tries == 1,
-        ScriptEnd::GaveUp { tries } => place % 2 == 1 && *tries == TRIES,
+        ScriptEnd::GaveUp { line, tries, .. } => {
+            place % 2 == 1 && (*line == 1 || *line == 2) && *tries == TRIES
+        }
         _ => false,
     }
 }

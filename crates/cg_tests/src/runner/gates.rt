@@ -70,8 +70,8 @@ pub(crate) struct Told {
     // How often it has ended, and which call had been answered last then.
     pub(crate) endings: u32,
     pub(crate) last: u32,
-    // How often it was begun.
-    pub(crate) tries: u32,
+    // How it ended.
+    pub(crate) end: Option<ScriptEnd>,
 }
 
 impl Told {
@@ -80,7 +80,7 @@ impl Told {
             answered: 0,
             endings: 0,
             last: 0,
-            tries: 0,
+            end: None,
         }
     }
 }
@@ -116,11 +116,11 @@ impl Both {
         self.of(script).answered = call;
     }
 
-    fn end(&mut self, script: u32, tries: u32) {
+    fn end(&mut self, script: u32, end: ScriptEnd) {
         let told = self.of(script);
         told.endings = told.endings.saturating_add(1);
         told.last = told.answered;
-        told.tries = tries;
+        told.end = Some(end);
     }
 }
 
@@ -177,6 +177,6 @@ impl<R: Wait + Clock> Gate for Holding<'_, R> {
     }
 
     fn ended(&self, _desk: &Desk, script: u32, end: ScriptEnd) {
-        self.both.lock(self.rt).end(script, end.tries());
+        self.both.lock(self.rt).end(script, end);
     }
 }

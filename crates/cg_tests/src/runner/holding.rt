@@ -2,6 +2,7 @@
 use crate::runner::gates::{Both, Holding, Rule, Told};
 use crate::runner::running::write_run;
 use cg_name::Refusal;
+use cg_runner::ScriptEnd;
 use std::alloc::{AllocError, Global};
 use std::sync::Wait;
 use std::thread::Threads;
@@ -34,8 +35,14 @@ const ABREAST: [Rule; 2] = [
     },
 ];
 
-// The second script's second call comes between the second and the third of the first, and its fourth behind them.
-const CROSSED: [Rule; 3] = [
+// The second script's first call comes behind the first's, its second between the second and the third of the first, and its fourth
+// behind them.
+const CROSSED: [Rule; 4] = [
+    Rule {
+        script: 2,
+        call: 1,
+        behind: 1,
+    },
     Rule {
         script: 2,
         call: 2,
@@ -49,6 +56,25 @@ const CROSSED: [Rule; 3] = [
     Rule {
         script: 2,
         call: 4,
+        behind: 3,
+    },
+];
+
+// The same, where the second script's third call is the one that comes between.
+const CROSSED_LATER: [Rule; 3] = [
+    Rule {
+        script: 2,
+        call: 1,
+        behind: 1,
+    },
+    Rule {
+        script: 2,
+        call: 3,
+        behind: 2,
+    },
+    Rule {
+        script: 1,
+        call: 3,
         behind: 3,
     },
 ];
@@ -82,8 +108,8 @@ late false
     },
     Case {
         name: "a script gives up behind its last try",
-        rules: &CROSSED,
-        texts: &["create /a", "create /a/b"],
+        rules: &CROSSED_LATER,
+        texts: &["create /a", "save here\ncreate /a/b"],
         is_begun_anew: false,
         ends: &["committed 1 tries 1\ngaveup tries 1\n"],
         rest: "group /a - 0 -
@@ -91,7 +117,8 @@ proc 10 /
 proc 11 /
 end
 calls 3, ended 1 behind call 3, tries 1
-calls 3, ended 1 behind call 3, tries 1
+calls 4, ended 1 behind call 4, tries 1
+transaction 1 was in the way of request 2
 late false
 ",
     },
@@ -133,11 +160,19 @@ fn write_told(told: Told, out: &mut String) -> Result<(), AllocError> {
     let answered = told.answered;
     let endings = told.endings;
     let last = told.last;
-    let tries = told.tries;
+    let tries = match told.end {
+        Some(end) => end.tries(),
+        None => 0,
+    };
     writeln!(
         out,
         "calls {answered}, ended {endings} behind call {last}, tries {tries}"
-    )
+    )?;
+    if let Some(ScriptEnd::GaveUp { line, holder, .. }) = told.end {
+        let number = holder.0;
+        writeln!(out, "transaction {number} was in the way of request {line}")?;
+    }
+    Ok(())
 }
 
 // Appends what a gate was told of either script, and whether a call was held too long.
