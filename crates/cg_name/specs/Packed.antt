@@ -1,7 +1,8 @@
 -- A path as one text: for each name a zero byte and the name's bytes. No name has a zero byte.
-use Rattle.std.specs.Prelude.{◌≡◌, ℕ, ◌==◌, cond, List, [], ◌∷◌, ◌++◌}
+use Rattle.std.specs.Prelude.{◌≡◌, ℕ, ◌==◌, ◌||◌, Bool, cond, List, [], ◌∷◌, ◌++◌}
 use Rattle.cg_name.specs.Name.{Name}
 use Rattle.cg_name.specs.Path.{Path, IsPath}
+use Rattle.cg_name.specs.Word.{is_plain_byte}
 
 -- the text of a path
 abbrev pub packed_text : Path → List ℕ
@@ -27,3 +28,11 @@ BeginsName (b ∷ bs) = b ≡ 0
 pub record IsPacked (bytes : List ℕ) : Type 0 where
   pub start : BeginsName bytes
   pub path : IsPath (names_in bytes)
+
+-- a zero byte, or a plain one
+abbrev pub is_plain_or_zero : ℕ → Bool
+is_plain_or_zero b = (b == 0) || is_plain_byte b
+
+-- a zero byte is written as a slash
+abbrev pub slashed : ℕ → ℕ
+slashed b = cond (b == 0) 47 b

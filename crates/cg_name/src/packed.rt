@@ -1,13 +1,62 @@
 // Paths as texts: for each name a zero byte, which no name has, and the name's bytes.
-ghost use Rattle.std.specs.Prelude.{◌≡◌, ◌≤◌, length, take, drop};
+ghost use Rattle.std.specs.Prelude.{◌≡◌, ◌≤◌, cond, length, map, take, drop};
+ghost use Rattle.std.specs.List.{list_all};
 ghost use Rattle.cg_name.specs.Path.{is_prefix};
-ghost use Rattle.cg_name.specs.Packed.{names_in, first_name, BeginsName};
+ghost use Rattle.cg_name.specs.Packed.{names_in, first_name, is_plain_or_zero, slashed, BeginsName};
 
-// How many names the text has.
-pub(crate) fn count_names(bytes: &[u8]) -> usize
+use crate::word::is_plain_byte;
+
+// How many names the text of a path has.
+pub(crate) fn count_names(bytes: &[u8]) -> u8
+    requires { length (names_in bytes.now) ≤ 64 }
     ensures { result ≡ length (names_in bytes.now) }
 {
-    bytes.iter().filter(|byte| **byte == 0).count()
+    let mut count: u8 = 0;
+    for byte in bytes {
+        if *byte == 0 {
+            count += 1;
+        }
+    }
+    count
+}
+
+// Whether each byte of a name is plain, so that the path is written as a bare word.
+pub(crate) fn are_plain(bytes: &[u8]) -> bool
+    ensures { result ≡ list_all is_plain_or_zero bytes.now }
+{
+    // With no way out of the loop, many bytes are tested at a time.
+    let mut others = 0;
+    for byte in bytes {
+        others |= other(*byte);
+    }
+    others == 0
+}
+
+// 1 for a byte of a name that is not plain, and 0 for each other byte.
+fn other(byte: u8) -> u8
+    ensures { result ≡ cond (is_plain_or_zero byte) 0 1 }
+{
+    if byte == 0 || is_plain_byte(byte) {
+        0
+    } else {
+        1
+    }
+}
+
+// Puts a slash for each zero byte.
+pub(crate) fn put_slashes(bytes: &mut [u8])
+    ensures { bytes.new ≡ map slashed bytes.old }
+{
+    for i in 0..bytes.len() {
+        bytes[i] = slashed(bytes[i]);
+    }
+}
+
+// What is written for this byte of the text of a path.
+fn slashed(byte: u8) -> u8
+    ensures { result ≡ slashed byte }
+{
+    if byte == 0 { b'/' } else { byte }
 }
 
 // Where the name with that many before it begins, or the end.

@@ -7,9 +7,9 @@ ghost use Rattle.cg_name.specs.Word.{is_plain_byte, quoted_byte};
 
 use crate::appending::or_truncate;
 use crate::names::Names;
-use crate::packed::{begins_with, count_names, first_name, start_of};
+use crate::packed::{are_plain, begins_with, count_names, first_name, put_slashes, start_of};
 use crate::path::Path;
-use crate::word::{append_escaped, are_plain};
+use crate::word::append_escaped;
 use std::alloc::{AllocError, Global};
 use std::fmt;
 use std::marker::Model;
@@ -49,7 +49,7 @@ impl<'a> PathRef<'a> {
         ensures value { result ≡ length self.now }
         ensures valid { IsPath self.now }
     {
-        count_names(self.bytes) as u32
+        u32::from(count_names(self.bytes))
     }
 
     /// The names, from the root down. Takes no memory.
@@ -148,7 +148,7 @@ fn write_word(path: &PathRef<'_>, out: &mut Vec<u8>) -> Result<(), AllocError>
 pub(crate) fn has_plain_names(path: &PathRef<'_>) -> bool
     ensures { result ≡ list_all (λ n. list_all is_plain_byte n) path.now }
 {
-    path.names().all(|name| are_plain(name.as_bytes()))
+    are_plain(path.as_bytes())
 }
 
 // Each name with a slash before it.
@@ -156,10 +156,9 @@ fn write_names(path: &PathRef<'_>, out: &mut Vec<u8>) -> Result<(), AllocError>
     ensures ok { OnOk result (out.new.items ≡ out.old.items ++ flat_map (λ n. 47 ∷ n) path.now) }
     ensures kept { OnErr result (take (length out.old.items) out.new.items ≡ out.old.items) }
 {
-    for name in path.names() {
-        out.push(b'/')?;
-        out.extend_from_slice(name.as_bytes())?;
-    }
+    let start = out.len();
+    out.extend_from_slice(path.as_bytes())?;
+    put_slashes(&mut out[start..]);
     Ok(())
 }
 
