@@ -82,11 +82,11 @@ impl Core {
         requires high { limit ≤ 1048576 }
         ensures { IfOk result (λ core. core ≡ record { opening = world; bound = limit; history = [] }) }
     {
-        let opening = world.copy(alloc)?;
+        let tree = Tree::from_world(alloc, &world)?;
         Ok(Core {
-            opening,
+            opening: world,
             limit,
-            tree: Tree::from_world(alloc, world)?,
+            tree,
             locks: LockTable::new(alloc),
             open: SessionMap::new(alloc),
             history: CommitHistory::new(alloc),

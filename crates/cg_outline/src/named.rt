@@ -89,6 +89,6 @@ fn outline_of<P: Inputs>(
 {
     let mut reader = open_reader(alloc, inputs, world)?;
     let world = read_world(alloc, &mut reader)?;
-    let tree = Tree::from_world(alloc, world)?;
+    let tree = Tree::from_world(alloc, &world)?;
     Ok(outline(alloc, &tree, depth, form)?)
 }

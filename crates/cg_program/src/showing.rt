@@ -144,7 +144,7 @@ fn find<W: Source>(
     ensures writes { ¬ (IsErrOf result (ShowFault.Stopped faults.WriteFault)) }
 {
     let world = read_world(alloc, world)?;
-    let Ok(tree) = Tree::from_world(alloc, world) else {
+    let Ok(tree) = Tree::from_world(alloc, &world) else {
         return Err(ShowFault::Stopped(ScriptFault::Memory));
     };
     match cg_derive::file(alloc, &tree, path, file) {

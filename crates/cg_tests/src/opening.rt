@@ -44,5 +44,5 @@ pub(crate) fn world(alloc: Global, text: &str) -> Result<World, Refusal> {
 
 /// The tree of that world.
 pub(crate) fn tree(alloc: Global, text: &str) -> Result<Tree, Refusal> {
-    Ok(Tree::from_world(alloc, world(alloc, text)?)?)
+    Ok(Tree::from_world(alloc, &world(alloc, text)?)?)
 }

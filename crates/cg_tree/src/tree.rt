@@ -67,20 +67,22 @@ impl Model for Tree {
 
 impl Tree {
     /// The tree of a world: its groups are the paths that have an entry. An error where there is no memory for it.
-    pub fn from_world(alloc: Global, world: World) -> Result<Tree, AllocError>
-        ensures tree { IfOk result (λ t. t.tree ≡ world) }
-        ensures entries { IfOk result (λ t. t.entries ≡ domain world.groups) }
-        ensures sound { Sound world }
+    pub fn from_world(alloc: Global, world: &World) -> Result<Tree, AllocError>
+        ensures tree { IfOk result (λ t. t.tree ≡ world.now) }
+        ensures entries { IfOk result (λ t. t.entries ≡ domain world.now.groups) }
+        ensures sound { Sound world.now }
     {
-        let (controllers, online, listed, places) = world.into_tree().into_parts();
-        let mut groups = with_entries(alloc, &listed)?;
-        add_processes(&mut groups, &places)?;
+        let plain = world.tree();
+        let listed = plain.groups();
+        let places = plain.places();
+        let mut groups = with_entries(alloc, listed)?;
+        add_processes(&mut groups, places)?;
         Ok(Tree {
-            controllers,
-            online,
+            controllers: plain.controllers(),
+            online: plain.online(),
             groups,
-            pids: pids_of(alloc, &places)?,
-            may_limit: have_limit(&listed),
+            pids: pids_of(alloc, places)?,
+            may_limit: have_limit(listed),
         })
     }
 

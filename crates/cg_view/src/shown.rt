@@ -30,7 +30,7 @@ impl Shown {
         Ok(Shown {
             alloc,
             opening: world.copy(alloc)?,
-            tree: Tree::from_world(alloc, world.copy(alloc)?)?,
+            tree: Tree::from_world(alloc, world)?,
             operations: Vec::new(alloc),
             commits: 0,
         })

@@ -132,26 +132,6 @@ impl PlainTree {
         })
     }
 
-    /// The tree, given up for its parts: controllers, online CPUs, groups by path, and the groups of the processes by PID.
-    pub fn into_parts(
-        self,
-    ) -> (
-        Controllers,
-        CpuSet,
-        BTreeMap<Path, Settings>,
-        BTreeMap<u32, Path>,
-    )
-        ensures { record { controllers = result.0; online = result.1; groups = from_entries path_cmp result.2.entries; places = from_entries nat_cmp result.3.entries } ≡ self }
-    {
-        let PlainTree {
-            controllers,
-            online,
-            groups,
-            places,
-        } = self;
-        (controllers, online, groups, places)
-    }
-
     /// The settings of the groups, by path.
     pub fn groups(&self) -> &BTreeMap<Path, Settings>
         ensures { from_entries path_cmp result.now.entries ≡ self.now.groups }

@@ -53,17 +53,6 @@ impl World {
         &self.tree
     }
 
-    /// The world, given up for its plain tree.
-    pub fn into_tree(self) -> PlainTree
-        ensures value { result ≡ self }
-        ensures sound { Sound self }
-        ensures valid { IsRepresentable self }
-    {
-        // As in `tree`.
-        let _ = self.tree.controllers();
-        self.tree
-    }
-
     /// An equal world; an error where there is no memory for it.
     pub fn copy(&self, alloc: Global) -> Result<World, AllocError>
         ensures { IfOk result (λ w. w ≡ self.now) }

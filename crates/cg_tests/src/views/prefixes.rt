@@ -54,7 +54,7 @@ fn carry_out_script(
 
 /// The text of each file in the tree that the machine was opened on, then after its first commit, and so on to its last.
 pub(crate) fn texts_by_commits(alloc: Global, core: &Core) -> Result<Vec<Vec<Text>>, Refusal> {
-    let mut tree = Tree::from_world(alloc, core.opening().copy(alloc)?)?;
+    let mut tree = Tree::from_world(alloc, core.opening())?;
     let mut texts = Vec::new(alloc);
     texts.push(texts_of(alloc, &tree)?)?;
     for number in 1..=core.commit_count() {
