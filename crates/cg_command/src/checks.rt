@@ -15,7 +15,7 @@ ghost use Rattle.cg_text.specs.declared.limit.Limit.{Limit};
 
 use crate::limits::{too_deep, too_many};
 use cg_avail::plan;
-use cg_derive::{available, check_file, parent_settings};
+use cg_derive::{available, check_file};
 use cg_name::{Path, Refusal};
 use cg_text::{ControlOps, Controllers, FileName, Settings};
 use cg_tree::Tree;
@@ -29,7 +29,7 @@ pub(crate) fn check_create(path: &Path, tree: &Tree) -> Result<(), Refusal>
     if path.is_root() {
         return Err(Refusal::Exists);
     }
-    if parent_settings(tree, path).is_none() {
+    if tree.parent_settings(path).is_none() {
         return Err(Refusal::NoGroup);
     }
     if tree.find(path) {

@@ -4,7 +4,7 @@ use Rattle.std.proofs.lemmas.Bool.Decides.{nat_tests}
 use Rattle.cg_name.specs.Name.{Name}
 use Rattle.cg_name.specs.Path.{Path, along}
 use Rattle.cg_text.specs.declared.settings.Settings.{Settings}
-use Rattle.cg_model.specs.Tree.{Tree, group, last_of, parent_group}
+use Rattle.cg_model.specs.Tree.{Tree, group}
 use Rattle.std.specs.List.{list_any}
 use Rattle.cg_derive.specs.Upward.{narrowed_upward}
 use Rattle.cg_maps.specs.FiniteSet.{FiniteSet}
@@ -12,7 +12,6 @@ use Rattle.cg_model.specs.Derived.{down_to, effective_cpus, has_freeze, is_froze
 use Rattle.cg_tree.specs.declared.ancestors.Ancestor.{Ancestor}
 use Rattle.cg_tree.specs.Ancestors.{ancestor_at, ancestors, downward}
 use Rattle.cg_tree.proofs.Downward.{any_downward}
-use Rattle.cg_tree.specs.Prefix.{prefix_group}
 
 -- f at each prefix, the root first and the path itself last
 abbrev along_all : {A : Type 0} → (Path → A) → Path → List A
@@ -36,9 +35,6 @@ next_on_way T (m ∷ p) n h = at_prefix (λ q. group T (m ∷ q)) p n (omega (ar
 pub end_of_way : (T : Tree) (p : Path) → drop (length p) (down_to T p) ≡ []
 end_of_way T [] = refl
 end_of_way T (m ∷ p) = behind_all (λ q. group T (m ∷ q)) p
-
-within : (T : Tree) (p : Path) (n : ℕ) → n ≤ length p → prefix_group T p n ≡ group T (take n p)
-within T p n h = let b : nat_le n (length p) ≡ true = grind (arith, nat_tests, h) in ap (λ t. cond t (group T (take n p)) None) b
 
 -- ---- from the path up to the root
 
@@ -74,14 +70,3 @@ pub narrowed_on_way : (T : Tree) (p : Path) → narrowed_upward T.online (ancest
 narrowed_on_way T p =
     ap (narrowed_along (narrowed_upward T.online (ancestors T p))) (sym (end_of_way T p))
     ∙ narrowed_so_far T p T.online (length p) (omega arith)
-
--- ---- the parent
-
-last_along : (f : Path → Option Settings) (n : Name) (p : Path) → last_of (along f (n ∷ p)) ≡ f (take (length p) (n ∷ p))
-last_along f n [] = refl
-last_along f n (m ∷ p) = last_along (λ q. f (n ∷ q)) m p
-
-pub parent_is_prefix : (T : Tree) (p : Path) (d : ℕ) → length p ≡ d + 1 → prefix_group T p d ≡ parent_group T p
-parent_is_prefix T [] d h = absurd (omega (arith, h))
-parent_is_prefix T (n ∷ p) d h =
-    within T (n ∷ p) d (omega (arith, h)) ∙ sym (last_along (group T) n p ∙ ap (λ k. group T (take k (n ∷ p))) (omega (arith, h)))

@@ -5,4 +5,4 @@ mod files;
 mod values;
 
 pub use files::{check_file, file, procs};
-pub use values::{available, effective, frozen, parent_settings, populated};
+pub use values::{available, effective, frozen, populated};

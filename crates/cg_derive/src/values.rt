@@ -3,7 +3,6 @@
 ghost use Rattle.std.specs.Prelude.{◌≡◌, ◌&&◌, nat_lt};
 ghost use Rattle.cg_derive.specs.Upward.{narrowed_upward};
 ghost use Rattle.cg_model.specs.Derived.{available, effective, effective_cpus, frozen, has_freeze, is_frozen, narrowed, populated};
-ghost use Rattle.cg_model.specs.Tree.{parent_group};
 
 use cg_cpus::CpuSet;
 use cg_name::Path;
@@ -21,7 +20,7 @@ pub fn available(tree: &Tree, path: &Path) -> Option<Controllers>
     if path.is_root() {
         return Some(tree.controllers());
     }
-    let parent = parent_settings(tree, path)?;
+    let parent = tree.parent_settings(path)?;
     Some(parent.control)
 }
 
@@ -57,14 +56,6 @@ pub fn effective(tree: &Tree, path: &Path) -> Option<CpuSet>
         return None;
     }
     Some(effective_cpus(tree, path))
-}
-
-/// The settings of the parent of the path, if there is such a group. The root has no parent.
-pub fn parent_settings(tree: &Tree, path: &Path) -> Option<Settings>
-    ensures { result ≡ parent_group tree.now.tree path.now }
-{
-    let above = path.depth().checked_sub(1)?;
-    tree.prefix_settings(path, above)
 }
 
 // Whether a group from below the root down to the path has a freeze value of 1.

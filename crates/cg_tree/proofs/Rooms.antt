@@ -1,6 +1,6 @@
 -- What the fields mean, as the map of the groups is read and written.
-use Rattle.std.proofs.lemmas.Bool.{false≢true, le-leb}
-use Rattle.std.proofs.Common.{◌≡◌, ◌≢◌, ℕ, ◌≤◌, length, take, IsSome, true, false, Option, Some, None, is_some, not, ◌&&◌, ◌||◌, refl, sym, ap, ◌∙◌, cond}
+use Rattle.std.proofs.lemmas.Bool.{false≢true}
+use Rattle.std.proofs.Common.{◌≡◌, ◌≢◌, ◌∷◌, [], ℕ, IsSome, true, false, Option, Some, None, is_some, not, ◌&&◌, ◌||◌, refl, sym, ap, ◌∙◌, cond}
 use Rattle.std.specs.Option.{option_flatten}
 use Rattle.cg_maps.specs.FiniteMap.{get, set_at, domain}
 use Rattle.cg_maps.proofs.Maps.{set_same}
@@ -11,7 +11,6 @@ use Rattle.cg_model.specs.Tree.{Tree, group, place_of, parent_group}
 use Rattle.cg_tree.specs.declared.tree.Tree.TheInside.{Inside}
 use Rattle.cg_tree.specs.Contents.{Contents}
 use Rattle.cg_tree.specs.Inside.{room_of}
-use Rattle.cg_tree.specs.Prefix.{prefix_group}
 use Rattle.cg_tree.specs.Present.{present}
 use Rattle.cg_tree.specs.Room.{TreeWithRoom, has_entry, may_have_entry, with_entry, without_dead, MaySweepIfDead}
 use Rattle.cg_tree.proofs.Presence.{get-present, present-set, present_kept, is_some-domain, domain-set, domain-replaced}
@@ -73,8 +72,10 @@ nothing_written t p None e room =
     let none : None ≡ group (room_of t).tree p = settings_there t (room_of t) refl p None e in
     λ i. record { tree = record (room_of t).tree { groups = sym (ap (set_at (present t.groups.groups) p) none ∙ set_same path_cmp_total path_cmp_exact (present t.groups.groups) p) i }; entries = domain t.groups.groups }
 
-pub prefix_found : (T : Tree) (p : Path) (n : ℕ) → n ≤ length p → group T (take n p) ≡ prefix_group T p n
-prefix_found T p n h = ap (λ b. cond b (group T (take n p)) None) (sym (le-leb n (length p) h))
+-- the settings of the parent, which the root has not
+pub parent_there : (t : Inside) (u : TreeWithRoom) → room_of t ≡ u → (p : Path) (w : Option (Option Settings)) → (is_root p ≡ true → w ≡ None) → (is_root p ≡ false → w ≡ get t.groups.groups (parent_path p)) → option_flatten w ≡ parent_group u.tree p
+parent_there t u is [] w root below = ap option_flatten (root refl)
+parent_there t u is (n ∷ p) w root below = settings_there t u is (parent_path (n ∷ p)) w (below refl) ∙ sym (parent_along (group u.tree) (n ∷ p) refl)
 
 -- where an entry may be made, the parent has one
 pub parent_has_entry : (t : Inside) (u : TreeWithRoom) → room_of t ≡ u → (p : Path) → may_have_entry u.tree p ≡ true → is_root p ≡ false → IsSome (get t.groups.groups (parent_path p))

@@ -6,7 +6,6 @@ pub mod Entries
 pub mod Inside
 pub mod Listing
 pub mod Placed
-pub mod Prefix
 pub mod Present
 pub mod Room
 pub mod Seen

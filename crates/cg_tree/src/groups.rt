@@ -17,7 +17,7 @@ use crate::ancestors::{Ancestors, deepest, deepest_above};
 use crate::counting::{add_dead, count_process, put};
 use crate::entry::Entry;
 use crate::listed::{Listed, asking_for_cpus, passed_on};
-use crate::looking::{entry, prefix_entry};
+use crate::looking::{entry, parent_entry, prefix_entry};
 use cg_name::{Path, PathRef};
 use cg_path_tree::{NodeKey, PathTree};
 use cg_places::Places;
@@ -73,11 +73,12 @@ impl Groups {
         Some(entry(&self.nodes, path)?.settings)
     }
 
-    // What the map has at the path of the first `depth` names, or of all where there are fewer.
-    pub(crate) fn get_prefix(&self, path: &Path, depth: u32) -> Option<Option<Settings>>
-        ensures { result ≡ get self.now.groups (take depth path.now) }
+    // What the map has at the path one name shorter; none for the root's.
+    pub(crate) fn get_parent(&self, path: &Path) -> Option<Option<Settings>>
+        ensures root { is_root path.now ≡ true → result ≡ None }
+        ensures value { is_root path.now ≡ false → result ≡ get self.now.groups (parent_path path.now) }
     {
-        Some(prefix_entry(&self.nodes, path, depth)?.settings)
+        Some(parent_entry(&self.nodes, path)?.settings)
     }
 
     // Whether the map has an entry at the path.

@@ -3,12 +3,11 @@ ghost use Rattle.std.specs.Prelude.{◌≡◌, ◌↔◌, IsTrue, is_some, false
 ghost use Rattle.cg_maps.specs.FiniteMap.{domain, entries, keys, set_at};
 ghost use Rattle.cg_model.specs.Sound.{Sound};
 ghost use Rattle.cg_model.specs.Key.{replaced};
-ghost use Rattle.cg_model.specs.Tree.{group, place_of};
+ghost use Rattle.cg_model.specs.Tree.{group, parent_group, place_of};
 ghost use Rattle.cg_model.specs.Derived.{is_in, is_in_subtree};
 ghost use Rattle.cg_tree.specs.Edit.{edited, needed_entry, RoomForEdit};
 ghost use Rattle.cg_tree.specs.Unlimited.{AreUnlimited};
 ghost use Rattle.cg_tree.specs.Present.{present};
-ghost use Rattle.cg_tree.specs.Prefix.{prefix_group};
 ghost use Rattle.cg_tree.specs.Room.{has_entry, may_have_entry, with_entry, without_dead, IsRooted, MaySweepIfDead};
 ghost use Rattle.cg_world.specs.Representable.{AreCpusUpTo};
 
@@ -136,15 +135,12 @@ impl Tree {
         self.groups.get(path)?
     }
 
-    /// The settings of the group at the first names of the path, so many as `depth` says, if there is one: none where
-    /// the path has fewer names. Takes no memory, and copies no path.
-    pub fn prefix_settings(&self, path: &Path, depth: u32) -> Option<Settings>
-        ensures { result ≡ prefix_group self.now.tree path.now depth }
+    /// The settings of the parent of the path, if there is such a group: none for the root, which has no parent. One look-up, which
+    /// takes no memory.
+    pub fn parent_settings(&self, path: &Path) -> Option<Settings>
+        ensures { result ≡ parent_group self.now.tree path.now }
     {
-        if depth > path.depth() {
-            return None;
-        }
-        self.groups.get_prefix(path, depth)?
+        self.groups.get_parent(path)?
     }
 
     /// Whether the process is in the group at the path itself; no where no process has this PID.

@@ -1,7 +1,6 @@
 //! The tree that commands change: made of a world, given back as one, and edited.
 use crate::opening::{LARGER, tree};
 use cg_cpus::CpuSet;
-use cg_derive::parent_settings;
 use cg_name::{Path, Refusal};
 use cg_text::{Settings, write_procs};
 use cg_tree::{Edit, Tree};
@@ -24,7 +23,7 @@ fn a_tree_gives_its_world_back(rt: HostRuntime) {
 // Makes the group at the path that a word spells, where its parent is there.
 fn make_group(alloc: Global, tree: &mut Tree, word: &str) -> Result<(), Refusal> {
     let path = Path::read(alloc, word)?;
-    if parent_settings(tree, &path).is_none() {
+    if tree.parent_settings(&path).is_none() {
         return Err(Refusal::NoGroup);
     }
     let settings = Some(Settings::fresh());
