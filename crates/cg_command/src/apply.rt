@@ -59,8 +59,8 @@ pub(crate) fn remove(
         // The group of an accepted command is there.
         unreachable!()
     };
-    // A tree tells what holds of it when it is asked for a group.
-    let _ = tree.find(path);
+    // Each group has an entry.
+    tree.laws();
     let change = Change::Group {
         path: path.copy(alloc)?,
         before: Some(BoxedSettings::new(alloc, settings)?),
@@ -85,7 +85,7 @@ pub(crate) fn migrate(
         unreachable!()
     };
     // As above.
-    let _ = tree.find(path);
+    tree.laws();
     let change = Change::Place {
         pid,
         before,

@@ -118,6 +118,14 @@ impl Tree {
         self.may_limit
     }
 
+    /// What holds of every tree: each group has an entry, and what else `IsRooted` says. Does nothing.
+    pub fn laws(&self)
+        ensures { IsRooted self.now }
+    {
+        // A tree tells what holds of it when a part of it is looked at.
+        let _ = &self.controllers;
+    }
+
     /// Whether there is a group at the path.
     pub fn find(&self, path: &Path) -> bool
         ensures value { result ≡ is_some (group self.now.tree path.now) }

@@ -86,6 +86,19 @@ module _ (t : ℕ) (f : List Mark) (R : TreeWithRoom) (H H' : Holdings) where
     pub held_on : IsReleased t f H H' → 0 < holdings H' t (X q) → IsLetGo t f R H R H'
     held_on r low = record { released = r; tree = refl; entries = λ p. stays p (held_stays low p) }
 
+    -- a group is there: no entry goes
+    there_stays : is_some (group R.tree q) ≡ true → (p : Path) → Goes p ≡ false
+    there_stays there p = elim (same_path p q) as (λ b. same_path p q ≡ b → Goes p ≡ false) [
+      | true ↦ λ e.
+          ap (λ b. marks_subtree p f && ((holdings H' t (X p) == 0) && not b)) (ap (λ x. is_some (group R.tree x)) (same_path-is p q e) ∙ there)
+          ∙ ap (λ b. marks_subtree p f && b) (and_false (holdings H' t (X p) == 0))
+          ∙ and_false (marks_subtree p f)
+      | false ↦ λ e. ap (λ b. b && ((holdings H' t (X p) == 0) && not (is_some (group R.tree p)))) (marked f p q is ∙ e)
+    ] refl
+
+    pub group_stays : IsReleased t f H H' → is_some (group R.tree q) ≡ true → IsLetGo t f R H R H'
+    group_stays r there = record { released = r; tree = refl; entries = λ p. stays p (there_stays there p) }
+
     -- it is held no more: the entry of its path goes, where that is no group
     module _ (r : IsReleased t f H H') (none : holdings H' t (X q) ≡ 0) where
       goes_there : (p : Path) → Goes p ≡ same_path p q && not (is_some (group R.tree p))

@@ -15,6 +15,10 @@ fn let_go(tree: &mut Tree, locks: &mut LockTable, number: TxnNumber, footprint: 
 {
     locks.release(number, footprint);
     if let Some(path) = footprint.changed() {
+        // As a rule a group is there, and no entry goes.
+        if tree.find(path) {
+            return;
+        }
         if !locks.holds_changed(number, path) {
             tree.sweep(path);
         }

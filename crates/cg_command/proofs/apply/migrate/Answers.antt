@@ -5,7 +5,7 @@ use Rattle.cg_command.proofs.Changing.{moved_into_group}
 use Rattle.cg_command.proofs.apply.migrate.Goals as goal
 
 pub change_one-requires-clause-made : goal.change_one-requires-clause-made
-change_one-requires-clause-made c = ap (has_entry c.args.tree.now) c.in_ok-copy.ensures.value ∙ c.find.ensures.rooted.groups c.args.path.now (moved_into_group c.args.tree.now.tree c.args.pid c.args.path.now c.requires)
+change_one-requires-clause-made c = ap (has_entry c.args.tree.now) c.in_ok-copy.ensures.value ∙ c.laws.ensures.groups c.args.path.now (moved_into_group c.args.tree.now.tree c.args.pid c.args.path.now c.requires)
 
 pub change_one-requires-clause-undone : goal.change_one-requires-clause-undone
-change_one-requires-clause-undone c = c.find.ensures.rooted.places c.args.pid c.in-Some.before (sym c.in_ok-before.ensures ∙ c.in-Some.is)
+change_one-requires-clause-undone c = c.laws.ensures.places c.args.pid c.in-Some.before (sym c.in_ok-before.ensures ∙ c.in-Some.is)

@@ -1,9 +1,13 @@
--- By whether a subtree is marked, and whether it is held on.
-use Rattle.std.proofs.Common.{◌≡◌, sym}
+-- By whether a subtree is marked, whether a group is there, and whether it is held on.
+use Rattle.std.proofs.Common.{◌≡◌, sym, ◌∙◌}
 use Rattle.cg_model.specs.Footprint.{X}
 use Rattle.cg_locks.specs.Holdings.{holdings}
-use Rattle.cg_txn.proofs.Letting.{held_on, let_go_there, may_sweep, not_held}
+use Rattle.cg_txn.proofs.Letting.{group_stays, held_on, let_go_there, may_sweep, not_held}
 use Rattle.cg_txn.proofs.letting_go.let_go.Goals as goal
+
+pub returns-then-find : goal.returns-then-find
+returns-then-find c =
+    group_stays c.args.number.0 c.args.footprint.now c.args.tree.now c.args.locks.now c.release.new.self c.in-Some.path.now (sym c.in-Some.ensures) c.release.ensures (sym c.find.ensures.value ∙ c.if-find.true)
 
 pub sweep-requires : goal.sweep-requires
 sweep-requires c =
