@@ -75,7 +75,7 @@ drop_at {A} xs i x h = at xs i h ∙ ap (λ j. x ∷ drop j xs) (sym (add-one i)
 
 -- ---- lists by two tests
 
-both_pass : {A : Type 0} (P : A → Type 0) (a b c : A → Bool) → ((x : A) → P x → b x ≡ c x) → (xs : List A) → AllByRecursion P xs → filter (λ x. a x && b x) xs ≡ filter c (filter a xs)
+pub both_pass : {A : Type 0} (P : A → Type 0) (a b c : A → Bool) → ((x : A) → P x → b x ≡ c x) → (xs : List A) → AllByRecursion P xs → filter (λ x. a x && b x) xs ≡ filter c (filter a xs)
 both_pass P a b c same [] h = refl
 both_pass {A} P a b c same (x ∷ xs) h = by (a x) (b x) (same x h.0) (both_pass P a b c same xs h.1)
   where

@@ -70,7 +70,7 @@ module _ (comes : Bool) (p : Path) (first : FiniteMap path_cmp Entry) (e : Entry
         let before = from_mapped (recounted Processes comes (is_prefix q p)) (get first q) x (sym (values q) ∙ h) in
         let old = counts q before.0 before.1 in
         subst (λ m. IsCounted m q x) (sym same_groups)
-        (subst (λ (y : Entry). IsCounted (groups_in first) q y) before.2 (record { below = old.below; right_below = old.right_below }))
+        (subst (λ (y : Entry). IsCounted (groups_in first) q y) before.2 (record { groups = record { below = old.groups.below; right_below = old.groups.right_below }; passing = old.passing }))
 
     counts_seen : (b : Bool) (w : Option Entry) → option_map processes_of (option_map (recounted Processes comes b) w) ≡ option_map (counted_if comes b) (option_map processes_of w)
     counts_seen b None = refl

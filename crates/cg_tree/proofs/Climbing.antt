@@ -1,5 +1,5 @@
 -- The paths above one, step by step along parents.
-use Rattle.std.proofs.Common.{◌≡◌, ◌≢◌, ◌<◌, suc, ◌&&◌, not, Bool, true, false, cond, [], ◌∷◌, length, Option, Some, None, option_map, is_some, inl, inr, refl, sym, ap, subst, ◌∙◌, true≢false, arith}
+use Rattle.std.proofs.Common.{◌≡◌, ◌≢◌, ◌<◌, suc, ◌&&◌, not, Bool, true, false, [], ◌∷◌, length, Option, Some, None, option_map, is_some, inl, inr, refl, sym, ap, subst, ◌∙◌, true≢false, arith}
 use Rattle.std.proofs.lemmas.Bool.{and_parts, false≢true}
 use Rattle.std.proofs.lemmas.Option.{none-some}
 use Rattle.cg_maps.specs.FiniteMap.{get, set_at}
@@ -15,7 +15,7 @@ use Rattle.cg_path_tree.proofs.Parents.{below_parent, length-parent, no_child, r
 use Rattle.cg_tree.specs.declared.entry.Count.{Count}
 use Rattle.cg_tree.specs.declared.entry.Count.TheVariants.{Groups, Processes}
 use Rattle.cg_tree.specs.declared.entry.Entry.{Entry}
-use Rattle.cg_tree.specs.Entries.{counted, entry_at, path_at, recounted, with_right_below, CanCount}
+use Rattle.cg_tree.specs.Entries.{entry_at, path_at, recounted}
 
 -- ---- above a path are its parent and what is above that
 
@@ -221,15 +221,16 @@ climbed_all change first now p at c top q =
 
 -- ---- the parent alone
 
-module _ (comes : Bool) (a : Nodes Entry) (key : NodeKey) (one : HaveOnePath a.keys) (own : IsKey a.keys key) (w : Option NodeKey)
+module _ (change : Bool → Entry → Entry) (stays : (e : Entry) → change false e ≡ e) (a : Nodes Entry) (key : NodeKey) (one : HaveOnePath a.keys) (own : IsKey a.keys key) (w : Option NodeKey)
     (root : (q : Path) → get a.keys q ≡ Some key → is_some w ≡ not (is_root q)) (value : (q : Path) → get a.keys q ≡ Some key → is_root q ≡ false → w ≡ get a.keys (parent_path q)) where
-  start : HasClimbed (recounted Groups comes) a a (path_at a key) key
-  start = not_climbed (recounted Groups comes) a key (not_recounted Groups comes) one own
+  start : HasClimbed change a a (path_at a key) key
+  start = not_climbed change a key stays one own
 
-  pub no_parent : w ≡ None → (q : Path) → get a.values q ≡ option_map (with_right_below comes (path_at a key) q) (get a.values q)
-  no_parent e q =
-      let none : is_parent q (path_at a key) ≡ false = root_no_child q (path_at a key) (ends start w root value e) in
-      same_entry (get a.values q) (with_right_below comes (path_at a key) q) (λ x i. record x { right_below = cond (none i) (counted comes x.right_below) x.right_below })
+  left_alone : (q : Path) → is_parent q (path_at a key) ≡ false → get a.values q ≡ option_map (change (is_parent q (path_at a key))) (get a.values q)
+  left_alone q none = same_entry (get a.values q) (change (is_parent q (path_at a key))) (λ x. ap (λ b. change b x) none ∙ stays x)
+
+  pub no_parent : w ≡ None → (q : Path) → get a.values q ≡ option_map (change (is_parent q (path_at a key))) (get a.values q)
+  no_parent e q = left_alone q (root_no_child q (path_at a key) (ends start w root value e))
 
   module _ (up : NodeKey) (is : w ≡ Some up) where
     parent_is_it : is_parent (path_at a up) (path_at a key) ≡ true
@@ -238,21 +239,20 @@ module _ (comes : Bool) (a : Nodes Entry) (key : NodeKey) (one : HaveOnePath a.k
     parent_place : path_at a up ≡ parent_path (path_at a key)
     parent_place = above_is start (goes_on start w root value up is) up (goes_to start w root value up is)
 
-    pub has_room_right : (e : Entry) → entry_at a up ≡ Some e → ((q : Path) (x : Entry) → is_parent q (path_at a key) ≡ true → get a.values q ≡ Some x → CanCount comes x.right_below) → CanCount comes e.right_below
+    pub has_room_right : {Room : Entry → Type 0} → (e : Entry) → entry_at a up ≡ Some e → ((q : Path) (x : Entry) → is_parent q (path_at a key) ≡ true → get a.values q ≡ Some x → Room x) → Room e
     has_room_right e there room = room (path_at a up) e parent_is_it there
 
     pub entry_of_parent : ((q : Path) → is_some (get a.values q) ≡ is_some (get a.keys q)) → (e : Entry) × (entry_at a up ≡ Some e)
     entry_of_parent both = entry_up start (goes_on start w root value up is) up (goes_to start w root value up is) both
 
-    pub counted_at_parent : (e : Entry) → entry_at a up ≡ Some e → (next : Nodes Entry) → next ≡ with_value a (path_at a up) (record e { right_below = counted comes e.right_below })
-        → (q : Path) → get next.values q ≡ option_map (with_right_below comes (path_at a key) q) (get a.values q)
-    counted_at_parent e there next made q = ap (λ n. get n.values q) made ∙ (elim (cases path_cmp_total path_cmp_exact q (path_at a up)) [
-      | inl same ↦ subst (λ x. get (set_at a.values (path_at a up) (Some (record e { right_below = counted comes e.right_below }))) x ≡ option_map (with_right_below comes (path_at a key) x) (get a.values x)) (sym same)
-          (get_here path_cmp_total path_cmp_exact a.values (path_at a up) (Some (record e { right_below = counted comes e.right_below }))
-          ∙ (λ i. Some (record e { right_below = cond (sym parent_is_it i) (counted comes e.right_below) e.right_below }))
-          ∙ ap (option_map (with_right_below comes (path_at a key) (path_at a up))) (sym there))
+    pub changed_at_parent : (e : Entry) → entry_at a up ≡ Some e → (next : Nodes Entry) → next ≡ with_value a (path_at a up) (change true e)
+        → (q : Path) → get next.values q ≡ option_map (change (is_parent q (path_at a key))) (get a.values q)
+    changed_at_parent e there next made q = ap (λ n. get n.values q) made ∙ (elim (cases path_cmp_total path_cmp_exact q (path_at a up)) [
+      | inl same ↦ subst (λ x. get (set_at a.values (path_at a up) (Some (change true e))) x ≡ option_map (change (is_parent x (path_at a key))) (get a.values x)) (sym same)
+          (get_here path_cmp_total path_cmp_exact a.values (path_at a up) (Some (change true e))
+          ∙ (λ i. Some (change (sym parent_is_it i) e))
+          ∙ ap (option_map (change (is_parent (path_at a up) (path_at a key)))) (sym there))
       | inr ne ↦
-          let none : is_parent q (path_at a key) ≡ false = no_child q (path_at a key) (λ f. ne (f ∙ sym parent_place)) in
-          get_apart path_cmp_total path_cmp_exact a.values (path_at a up) (Some (record e { right_below = counted comes e.right_below })) q ne
-          ∙ same_entry (get a.values q) (with_right_below comes (path_at a key) q) (λ x i. record x { right_below = cond (none i) (counted comes x.right_below) x.right_below })
+          get_apart path_cmp_total path_cmp_exact a.values (path_at a up) (Some (change true e)) q ne
+          ∙ left_alone q (no_child q (path_at a key) (λ f. ne (f ∙ sym parent_place)))
     ])

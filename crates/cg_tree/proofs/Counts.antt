@@ -6,9 +6,12 @@ use Rattle.std.specs.FinMap.{IsAntisymmetric}
 use Rattle.std.specs.FinMap.Entries.{is_sorted-put, length-put, where_key}
 use Rattle.cg_maps.specs.FiniteMap.{FiniteMap, bare, domain, empty, get, insert, len, retain, set_at, list-checked}
 use Rattle.cg_maps.proofs.Maps.{same_map, get-domain, get-empty, get-retain, get_here, get_apart, cases, set_same, set_set}
+use Rattle.cg_name.specs.declared.controller.Controller.{Controller}
+use Rattle.cg_name.specs.declared.controller.Controller.TheVariants.{Cpuset, Cpu, Io, Memory, Hugetlb, Pids, Rdma, Misc}
 use Rattle.cg_name.specs.Order.{path_cmp_total, path_cmp_exact}
 use Rattle.cg_name.specs.Path.{Path, path_cmp}
 use Rattle.cg_tree.specs.Entries.{counted, CanCount}
+use Rattle.cg_tree.specs.Passing.{step, tally, times, CanStep}
 use Rattle.cg_tree.specs.Present.{present, held_entries, with_held}
 use Rattle.cg_tree.proofs.Presence.{get-present, present-set}
 
@@ -126,6 +129,15 @@ few_present m = length-held m.list
 
 -- ---- groups
 
+-- an entry is written: of the groups whose path and settings pass, its own alone comes or goes
+pub passing_by-written : {X : Type 0} (m : FiniteMap path_cmp (Option X)) (t : Path → Option X → Bool) (p : Path) (w : Option (Option X))
+    → len (retain (present (set_at m p w)) (λ q. t q (get (present (set_at m p w)) q))) + cond (t p (option_flatten (get m p)) && is_some (option_flatten (get m p))) 1 0
+    ≡ len (retain (present m) (λ q. t q (get (present m) q))) + cond (t p (option_flatten w) && is_some (option_flatten w)) 1 0
+passing_by-written m t p w =
+    ap (λ n. len (retain n (λ q. t q (get n q))) + cond (t p (option_flatten (get m p)) && is_some (option_flatten (get m p))) 1 0) (present-set path_cmp_total path_cmp_exact m p w)
+    ∙ ap (λ x. len (retain (set_at (present m) p (option_flatten w)) (λ q. t q (get (set_at (present m) p (option_flatten w)) q))) + cond (t p x && is_some x) 1 0) (sym (get-present path_cmp_total path_cmp_exact m p))
+    ∙ passing-set path_cmp_total path_cmp_exact (present m) p (option_flatten w) t
+
 module _ {X : Type 0} (m : FiniteMap path_cmp (Option X)) (t : Path → Bool) where
   abbrev pub passing : ℕ
   passing = len (retain (present m) t)
@@ -139,10 +151,7 @@ module _ {X : Type 0} (m : FiniteMap path_cmp (Option X)) (t : Path → Bool) wh
 
   -- an entry is written
   pub passing-written : (p : Path) (w : Option (Option X)) → len (retain (present (set_at m p w)) t) + cond (t p && is_some (option_flatten (get m p))) 1 0 ≡ passing + cond (t p && is_some (option_flatten w)) 1 0
-  passing-written p w =
-      ap (λ n. len (retain n t) + cond (t p && is_some (option_flatten (get m p))) 1 0) (present-set path_cmp_total path_cmp_exact m p w)
-      ∙ ap (λ x. len (retain (set_at (present m) p (option_flatten w)) t) + cond (t p && is_some x) 1 0) (sym (get-present path_cmp_total path_cmp_exact m p))
-      ∙ passing-set path_cmp_total path_cmp_exact (present m) p (option_flatten w) (λ q _. t q)
+  passing-written p w = passing_by-written m (λ q _. t q) p w
 
 -- ---- the count of an entry, as a group comes or goes
 
@@ -162,3 +171,31 @@ room_to_count true false false n k most e f h low fits = absurd (true≢false (s
 room_to_count false true true n k most e f h low fits = absurd (true≢false e)
 room_to_count false true false n k most e f h low fits = omega arith
 room_to_count false false new n k most e f h low fits = absurd (true≢false (sym f))
+
+-- ---- the count of those that pass on a controller, as one of them is counted before and after
+
+pub steps : (before after : Bool) (n k : ℕ) → k + cond before 1 0 ≡ n + cond after 1 0 → k ≡ step before after n
+steps true true n k h = omega (arith, h)
+steps true false n k h = omega (arith, h)
+steps false true n k h = omega (arith, h)
+steps false false n k h = omega (arith, h)
+
+pub room_to_step : (before after : Bool) (n k most : ℕ) → k + cond before 1 0 ≡ n + cond after 1 0 → k ≤ most → most < 2 ^ 64 → CanStep before after n
+room_to_step true true n k most h low fits = tt
+room_to_step true false n k most h low fits = omega (arith, h)
+room_to_step false true n k most h low fits = omega (arith, h, low, fits)
+room_to_step false false n k most h low fits = tt
+
+pub stays_counted : (b : Bool) (n : ℕ) → step b b n ≡ n
+stays_counted true n = refl
+stays_counted false n = refl
+
+pub times-tally : (f : Controller → ℕ) (c : Controller) → times (tally f) c ≡ f c
+times-tally f Cpuset = refl
+times-tally f Cpu = refl
+times-tally f Io = refl
+times-tally f Memory = refl
+times-tally f Hugetlb = refl
+times-tally f Pids = refl
+times-tally f Rdma = refl
+times-tally f Misc = refl

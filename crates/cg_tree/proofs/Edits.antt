@@ -1,29 +1,13 @@
 -- What an edit means, and the entry that it needs.
-use Rattle.std.proofs.Common.{◌≡◌, true, Option, Some, None, IsSome, sym, ap, subst, ◌∙◌}
+use Rattle.std.proofs.Common.{◌≡◌, true, Option, Some, None, IsSome, sym, subst}
 use Rattle.std.proofs.lemmas.Bool.{false≢true}
 use Rattle.std.proofs.lemmas.Option.{none-some, same_Some}
-use Rattle.cg_maps.specs.FiniteMap.{set_at}
-use Rattle.cg_maps.proofs.Maps.{set_same}
 use Rattle.cg_name.specs.Path.{Path}
-use Rattle.cg_name.specs.Order.{path_cmp_total, path_cmp_exact}
 use Rattle.cg_text.specs.declared.settings.Settings.{Settings}
-use Rattle.cg_model.specs.Key.{Field, Setting, with_setting, part_replaced, put, Part}
-use Rattle.cg_model.specs.Tree.{Tree, group}
 use Rattle.cg_tree.specs.declared.edit.Edit.{Edit}
 use Rattle.cg_tree.specs.declared.edit.Edit.TheVariants as edits
 use Rattle.cg_tree.specs.Edit.{needed_entry, RoomForEdit}
 use Rattle.cg_tree.specs.Room.{TreeWithRoom, has_entry}
-
--- ---- an edit of a setting
-
-module _ (T : Tree) (p : Path) (f : Field) (v : Setting f) where
-  -- of a group that is there it is a write of its settings
-  pub part_put : (s : Settings) → group T p ≡ Some s → record T { groups = set_at T.groups p (Some (with_setting f v s)) } ≡ put (Part p f) (Some v) T
-  part_put s e = ap (λ w. record T { groups = set_at T.groups p (part_replaced f (Some v) w) }) (sym e)
-
-  -- and else nothing
-  pub part_absent : group T p ≡ None → T ≡ put (Part p f) (Some v) T
-  part_absent e = ap (λ m. record T { groups = m }) (sym (ap (set_at T.groups p) (ap (part_replaced f (Some v)) e ∙ sym e) ∙ set_same path_cmp_total path_cmp_exact T.groups p))
 
 -- ---- the entry that an edit needs
 

@@ -7,7 +7,7 @@ use Rattle.std.proofs.lemmas.Bool.{false≢true}
 use Rattle.std.proofs.lemmas.Bool.Decides.{nat_tests}
 use Rattle.std.proofs.lemmas.Option.{none-some, same_Some}
 use Rattle.cg_maps.specs.FiniteMap.{FiniteMap, empty, get, is_nonempty, keys, len, retain, set_at}
-use Rattle.cg_maps.proofs.Maps.{cases, get-empty, get_apart, get_here, same_map, set_same, set_set}
+use Rattle.cg_maps.proofs.Maps.{cases, get-empty, get_apart, get_here, set_set}
 use Rattle.cg_model.specs.Derived.{is_in_subtree}
 use Rattle.cg_name.specs.Order.{path_cmp_total, path_cmp_exact}
 use Rattle.cg_name.specs.Path.{Path, path_cmp, is_prefix}
@@ -152,22 +152,3 @@ held_written m p w = seen-set processes_of path_cmp_total path_cmp_exact m p w
 
 pub held_there : (m : FiniteMap path_cmp Entry) (p : Path) (e : Entry) → get m p ≡ Some e → get (held_in m) p ≡ Some e.processes
 held_there m p e h = get-seen processes_of m p ∙ ap (option_map processes_of) h
-
--- an entry is written over one with the same count
-pub held_in_place : (m : FiniteMap path_cmp Entry) (p : Path) (e : Entry) → get m p ≡ Some e → (x : Entry) → x.processes ≡ e.processes → held_in (set_at m p (Some x)) ≡ held_in m
-held_in_place m p e there x alike =
-    held_written m p (Some x)
-    ∙ ap (set_at (held_in m) p) (ap Some alike ∙ sym (held_there m p e there))
-    ∙ set_same path_cmp_total path_cmp_exact (held_in m) p
-
--- each entry is changed, and keeps its count
-pub same_by_entries : (new old : FiniteMap path_cmp Entry) (f : Path → Entry → Entry) → ((q : Path) (e : Entry) → (f q e).processes ≡ e.processes) → ((q : Path) → get new q ≡ option_map (f q) (get old q)) → held_in new ≡ held_in old
-same_by_entries new old f alike is = same_map path_cmp_total path_cmp_exact (held_in new) (held_in old) (λ q.
-    get-seen processes_of new q
-    ∙ ap (option_map processes_of) (is q)
-    ∙ by q (get old q)
-    ∙ sym (get-seen processes_of old q))
-  where
-    by : (q : Path) (w : Option Entry) → option_map processes_of (option_map (f q) w) ≡ option_map processes_of w
-    by q None = refl
-    by q (Some e) = ap Some (alike q e)

@@ -7,6 +7,7 @@ mod Holding
 mod Listing
 mod NodeLists
 mod Numbering
+mod PassingOn
 mod Places
 mod Prefixes
 mod Presence
@@ -17,5 +18,6 @@ mod Rooting
 mod Seeing
 mod Unlimited
 mod Unordered
+mod Values
 mod WorldGroups
 pub mod Downward

@@ -6,18 +6,22 @@ use Rattle.std.proofs.lemmas.Bool.{and_parts, false≢true}
 use Rattle.std.proofs.lemmas.Option.{none-some, same_Some}
 use Rattle.cg_maps.specs.FiniteMap.{FiniteMap, domain, empty, get, len, retain, set_at}
 use Rattle.cg_maps.proofs.Maps.{cases, get_here, get_apart, get-empty, same_map}
+use Rattle.cg_name.specs.declared.controller.Controller.{Controller}
 use Rattle.cg_name.specs.Name.{same_name}
 use Rattle.cg_name.specs.Order.{path_cmp_total, path_cmp_exact}
 use Rattle.cg_name.specs.Path.{Path, path_cmp, is_above, is_parent, is_prefix}
 use Rattle.cg_path_tree.specs.declared.node.NodeKey.{NodeKey}
 use Rattle.cg_path_tree.specs.Nodes.{Nodes, with_value, AreClosed}
+use Rattle.cg_text.specs.Controllers.{has}
 use Rattle.cg_text.specs.declared.settings.Settings.{Settings}
 use Rattle.cg_tree.specs.declared.entry.Count.TheVariants.{Groups}
 use Rattle.cg_tree.specs.declared.entry.Entry.{Entry}
-use Rattle.cg_tree.specs.Entries.{counted, entry_at, group_count, groups_in, path_at, recounted, settings_of, with_right_below, AreCounted, CanCount, IsCounted}
+use Rattle.cg_tree.specs.declared.passing.Passing.{Passing}
+use Rattle.cg_tree.specs.Entries.{counted, entry_at, group_count, groups_in, path_at, recounted, settings_of, with_right_below, AreCounted, AreCountedBelow, CanCount, IsCounted, IsCountedBelow}
+use Rattle.cg_tree.specs.Passing.{control_of, passing_count, tally, times}
 use Rattle.cg_tree.specs.Present.{present}
 use Rattle.cg_tree.proofs.Climbing.{not_above_itself, parent_is_above}
-use Rattle.cg_tree.proofs.Counts.{few_passing, len-domain, none_held, passing-written, recounts, room_to_count}
+use Rattle.cg_tree.proofs.Counts.{few_passing, len-domain, none_held, passing-written, recounts, room_to_count, times-tally}
 use Rattle.cg_tree.proofs.Presence.{domain-replaced, present_kept, is_some-domain}
 use Rattle.cg_tree.proofs.Seeing.{get-seen, len-seen, seen-set, there}
 
@@ -77,14 +81,14 @@ from_mapped f (Some x) y e = (x, refl, same_Some _ _ e)
 pub groups_written : (m : FiniteMap path_cmp Entry) (p : Path) (w : Option Entry) → groups_in (set_at m p w) ≡ set_at (groups_in m) p (option_map settings_of w)
 groups_written m p w = seen-set settings_of path_cmp_total path_cmp_exact m p w
 
-held_at : (m : FiniteMap path_cmp Entry) (p : Path) (e : Entry) → get m p ≡ Some e → option_flatten (get (groups_in m) p) ≡ e.settings
+pub held_at : (m : FiniteMap path_cmp Entry) (p : Path) (e : Entry) → get m p ≡ Some e → option_flatten (get (groups_in m) p) ≡ e.settings
 held_at m p e h = ap option_flatten (get-seen settings_of m p ∙ ap (option_map settings_of) h)
 
 -- the entry of a node is found
 pub entry_found : (n : Nodes Entry) (key : NodeKey) → get n.keys (path_at n key) ≡ Some key → ((p : Path) → is_some (get n.values p) ≡ is_some (get n.keys p)) → (e : Entry) × (entry_at n key ≡ Some e)
 entry_found n key h both = some_of (entry_at n key) (both (path_at n key) ∙ ap is_some h)
 
-module _ (a : Nodes Entry) (key : NodeKey) (e : Entry) (there : entry_at a key ≡ Some e) (s : Option Settings) (counts : AreCounted a.values) where
+module _ (a : Nodes Entry) (key : NodeKey) (e : Entry) (there : entry_at a key ≡ Some e) (s : Option Settings) (counts : AreCountedBelow a.values) where
   abbrev p : Path
   p = path_at a key
 
@@ -95,13 +99,13 @@ module _ (a : Nodes Entry) (key : NodeKey) (e : Entry) (there : entry_at a key �
   written_groups = groups_written a.values p (Some (record e { settings = s }))
 
   -- the counts are still those before
-  counts_before : (q : Path) (x : Entry) → get written.values q ≡ Some x → IsCounted (groups_in a.values) q x
+  counts_before : (q : Path) (x : Entry) → get written.values q ≡ Some x → IsCountedBelow (groups_in a.values) q x
   counts_before q x h = elim (cases path_cmp_total path_cmp_exact q p) [
     | inl same ↦
         let own : record e { settings = s } ≡ x = same_Some _ _ (sym (get_here path_cmp_total path_cmp_exact a.values p (Some (record e { settings = s }))) ∙ ap (get written.values) (sym same) ∙ h) in
-        let old : IsCounted (groups_in a.values) p e = counts p e there in
-        subst (λ (y : Entry). IsCounted (groups_in a.values) q y) own
-        (subst (λ y. IsCounted (groups_in a.values) y (record e { settings = s })) (sym same) (record { below = old.below; right_below = old.right_below }))
+        let old : IsCountedBelow (groups_in a.values) p e = counts p e there in
+        subst (λ (y : Entry). IsCountedBelow (groups_in a.values) q y) own
+        (subst (λ y. IsCountedBelow (groups_in a.values) y (record e { settings = s })) (sym same) (record { below = old.below; right_below = old.right_below }))
     | inr ne ↦ counts q x (sym (get_apart path_cmp_total path_cmp_exact a.values p (Some (record e { settings = s })) q ne) ∙ h)
   ]
 
@@ -113,7 +117,7 @@ module _ (a : Nodes Entry) (key : NodeKey) (e : Entry) (there : entry_at a key �
       ∙ passing-written (groups_in a.values) t p (Some s)
 
   -- no group comes or goes
-  pub counted_alike : is_some s ≡ is_some e.settings → AreCounted written.values
+  pub counted_alike : is_some s ≡ is_some e.settings → AreCountedBelow written.values
   counted_alike alike q x h =
       let old = counts_before q x h in
       record { below = old.below ∙ same (is_above q); right_below = old.right_below ∙ same (is_parent q) }
@@ -146,10 +150,10 @@ module _ (a : Nodes Entry) (key : NodeKey) (e : Entry) (there : entry_at a key �
     pub room_right_below : (most : ℕ) → len a.values ≡ most → most < 2 ^ 64 → (q : Path) (x : Entry) → is_parent q p ≡ true → get written.values q ≡ Some x → CanCount comes x.right_below
     room_right_below most length fits q x passes h = room most length fits (is_parent q) passes x.right_below (counts_before q x h).right_below
 
-    module _ (b : Nodes Entry) (right : (q : Path) → get b.values q ≡ option_map (with_right_below comes p q) (get written.values q)) where
+    module _ (b : Nodes Entry) (right : (q : Path) → get b.values q ≡ option_map (with_right_below comes (is_parent q p)) (get written.values q)) where
       pub room_below : (most : ℕ) → len a.values ≡ most → most < 2 ^ 64 → (q : Path) (x : Entry) → is_above q p ≡ true → get b.values q ≡ Some x → CanCount comes x.below
       room_below most length fits q x passes h =
-          let before = from_mapped (with_right_below comes p q) (get written.values q) x (sym (right q) ∙ h) in
+          let before = from_mapped (with_right_below comes (is_parent q p)) (get written.values q) x (sym (right q) ∙ h) in
           room most length fits (is_above q) passes x.below (ap (λ (y : Entry). y.below) (sym before.2) ∙ (counts_before q before.0 before.1).below)
 
       module _ (c : Nodes Entry) (above : (q : Path) → get c.values q ≡ option_map (recounted Groups comes (is_above q p)) (get b.values q)) where
@@ -164,7 +168,7 @@ module _ (a : Nodes Entry) (key : NodeKey) (e : Entry) (there : entry_at a key �
             ∙ ap (option_map settings_of) (above q)
             ∙ settings_kept (recounted Groups comes (is_above q p)) (λ x. refl) (get b.values q)
             ∙ ap (option_map settings_of) (right q)
-            ∙ settings_kept (with_right_below comes p q) (λ x. refl) (get written.values q)
+            ∙ settings_kept (with_right_below comes (is_parent q p)) (λ x. refl) (get written.values q)
             ∙ sym (get-seen settings_of written.values q))
             ∙ written_groups
 
@@ -173,12 +177,12 @@ module _ (a : Nodes Entry) (key : NodeKey) (e : Entry) (there : entry_at a key �
             sym (recounts comes (t p) (is_some e.settings) (is_some s) n (group_count (groups_in written.values) t) new old (changed t ∙ ap (λ k. k + cond (t p && is_some s) 1 0) (sym is)))
             ∙ ap (λ m. group_count m t) (written_groups ∙ sym counted_groups)
 
-        pub counted_anew : AreCounted c.values
+        pub counted_anew : AreCountedBelow c.values
         counted_anew q x h =
             let last = from_mapped (recounted Groups comes (is_above q p)) (get b.values q) x (sym (above q) ∙ h) in
-            let first = from_mapped (with_right_below comes p q) (get written.values q) last.0 (sym (right q) ∙ last.1) in
+            let first = from_mapped (with_right_below comes (is_parent q p)) (get written.values q) last.0 (sym (right q) ∙ last.1) in
             let old = counts_before q first.0 first.1 in
-            subst (λ (y : Entry). IsCounted (groups_in c.values) q y) (ap (recounted Groups comes (is_above q p)) first.2 ∙ last.2)
+            subst (λ (y : Entry). IsCountedBelow (groups_in c.values) q y) (ap (recounted Groups comes (is_above q p)) first.2 ∙ last.2)
             (record { below = recount (is_above q) first.0.below old.below; right_below = recount (is_parent q) first.0.right_below old.right_below })
 
 -- ---- an entry of no group comes or goes
@@ -189,8 +193,11 @@ module _ (m : FiniteMap path_cmp Entry) (p : Path) (w : Option Entry) (counts : 
 
   same_counts : (q : Path) (x : Entry) → IsCounted (groups_in m) q x → IsCounted (groups_in (set_at m p w)) q x
   same_counts q x h = record {
-    below = h.below ∙ ap (λ n. len (retain n (is_above q))) (sym same_present);
-    right_below = h.right_below ∙ ap (λ n. len (retain n (is_parent q))) (sym same_present);
+    groups = record {
+      below = h.groups.below ∙ ap (λ n. len (retain n (is_above q))) (sym same_present);
+      right_below = h.groups.right_below ∙ ap (λ n. len (retain n (is_parent q))) (sym same_present);
+    };
+    passing = λ c. h.passing c ∙ ap (λ n. len (retain n (λ r. is_parent q r && has (control_of (get n r)) c))) (sym same_present);
   }
 
   pub counted_kept : ((x : Entry) → w ≡ Some x → IsCounted (groups_in m) p x) → AreCounted (set_at m p w)
@@ -229,14 +236,21 @@ leaf_made old new closed p key absent is q h = elim (cases path_cmp_total path_c
 pub none_counted_below : (a : Nodes Entry) → AreClosed a.keys → ((p : Path) → is_some (get a.values p) ≡ is_some (get a.keys p)) → (p : Path) → is_some (get a.keys p) ≡ false → group_count (groups_in a.values) (is_above p) ≡ 0
 none_counted_below a closed both p none = none_held (groups_in a.values) (is_above p) (none_above a closed both p none)
 
+pub none_passing_right_below : (a : Nodes Entry) → AreClosed a.keys → ((p : Path) → is_some (get a.values p) ≡ is_some (get a.keys p)) → (p : Path) → is_some (get a.keys p) ≡ false → (c : Controller) → passing_count (groups_in a.values) p c ≡ 0
+none_passing_right_below a closed both p none c =
+    none_held (groups_in a.values) (λ q. is_parent p q && has (control_of (get (present (groups_in a.values)) q)) c) (λ q h. none_above a closed both p none q (parent_is_above p q (and_parts (is_parent p q) _ h).0))
+
 pub none_counted_right_below : (a : Nodes Entry) → AreClosed a.keys → ((p : Path) → is_some (get a.values p) ≡ is_some (get a.keys p)) → (p : Path) → is_some (get a.keys p) ≡ false → group_count (groups_in a.values) (is_parent p) ≡ 0
 none_counted_right_below a closed both p none = none_held (groups_in a.values) (is_parent p) (λ q h. none_above a closed both p none q (parent_is_above p q h))
 
 -- ---- a dead entry that is made
 
-module _ (a : Nodes Entry) (closed : AreClosed a.keys) (both : (p : Path) → is_some (get a.values p) ≡ is_some (get a.keys p)) (p : Path) (absent : get a.keys p ≡ None) where
+module _ (a : Nodes Entry) (closed : AreClosed a.keys) (both : (p : Path) → is_some (get a.values p) ≡ is_some (get a.keys p)) (p : Path) (absent : get a.keys p ≡ None) (n : Passing) (none : n ≡ tally (λ c. 0)) where
   abbrev dead : Entry
-  dead = record { settings = None; below = 0; right_below = 0; processes = 0 }
+  dead = record { settings = None; below = 0; right_below = 0; passing = n; processes = 0 }
+
+  none_passing_there : (c : Controller) → times n c ≡ passing_count (groups_in a.values) p c
+  none_passing_there c = ap (λ k. times k c) none ∙ times-tally (λ d. 0) c ∙ sym (none_passing_right_below a closed both p (ap is_some absent) c)
 
   none_held_there : option_flatten (get (groups_in a.values) p) ≡ None
   none_held_there = by (get a.values p) refl
@@ -248,7 +262,10 @@ module _ (a : Nodes Entry) (closed : AreClosed a.keys) (both : (p : Path) → is
   pub counted_added : AreCounted a.values → AreCounted (set_at a.values p (Some dead))
   counted_added counts = counted_kept a.values p (Some dead) counts none_held_there refl (λ x e.
       subst (λ (y : Entry). IsCounted (groups_in a.values) p y) (same_Some _ _ e)
-      (record { below = sym (none_counted_below a closed both p (ap is_some absent)); right_below = sym (none_counted_right_below a closed both p (ap is_some absent)) }))
+      (record {
+        groups = record { below = sym (none_counted_below a closed both p (ap is_some absent)); right_below = sym (none_counted_right_below a closed both p (ap is_some absent)) };
+        passing = none_passing_there;
+      }))
 
   pub groups_added : groups_in (set_at a.values p (Some dead)) ≡ set_at (groups_in a.values) p (Some None)
   groups_added = groups_written a.values p (Some dead)

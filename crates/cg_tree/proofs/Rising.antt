@@ -203,7 +203,7 @@ told_of nodes closed both counted p d = at (get nodes.values (take d p)) refl
         let none = none_counted_below nodes closed both (take d p) (sym (both (take d p)) ∙ ap is_some e) in
         λ i. record { depth = d; settings = groups None e i; descendants = sym none i }
     at (Some x) e =
-        let count = (counted (take d p) x e).below in
+        let count = (counted (take d p) x e).groups.below in
         λ i. record { depth = d; settings = groups (Some x) e i; descendants = count i }
 
 pub all_told : (nodes : Nodes Entry) → AreClosed nodes.keys → HaveOnePath nodes.keys → ((q : Path) → is_some (get nodes.values q) ≡ is_some (get nodes.keys q)) → AreCounted nodes.values

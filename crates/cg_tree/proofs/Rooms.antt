@@ -1,9 +1,9 @@
 -- What the fields mean, as the map of the groups is read and written.
 use Rattle.std.proofs.lemmas.Bool.{false≢true}
-use Rattle.std.proofs.Common.{◌≡◌, ◌≢◌, ◌∷◌, [], ℕ, IsSome, true, false, Option, Some, None, is_some, not, ◌&&◌, ◌||◌, refl, sym, ap, ◌∙◌, cond}
+use Rattle.std.proofs.Common.{◌≡◌, ◌≢◌, ◌∷◌, [], ℕ, IsSome, true, false, Option, Some, None, is_some, not, ◌&&◌, ◌||◌, refl, sym, ap, ◌∙◌, cond, option_map}
 use Rattle.std.specs.Option.{option_flatten}
 use Rattle.cg_maps.specs.FiniteMap.{get, set_at, domain}
-use Rattle.cg_maps.proofs.Maps.{set_same}
+use Rattle.cg_maps.proofs.Maps.{get-domain, set_same}
 use Rattle.cg_name.specs.Path.{Path, is_parent, is_root}
 use Rattle.cg_name.specs.Order.{path_cmp_total, path_cmp_exact}
 use Rattle.cg_text.specs.declared.settings.Settings.{Settings}
@@ -11,9 +11,11 @@ use Rattle.cg_model.specs.Tree.{Tree, group, place_of, parent_group}
 use Rattle.cg_tree.specs.declared.tree.Tree.TheInside.{Inside}
 use Rattle.cg_tree.specs.Contents.{Contents}
 use Rattle.cg_tree.specs.Inside.{room_of}
+use Rattle.cg_tree.specs.declared.new_value.NewValue.{NewValue}
+use Rattle.cg_tree.specs.NewValue.{with_new}
 use Rattle.cg_tree.specs.Present.{present}
 use Rattle.cg_tree.specs.Room.{TreeWithRoom, has_entry, may_have_entry, with_entry, without_dead, MaySweepIfDead}
-use Rattle.cg_tree.proofs.Presence.{get-present, present-set, present_kept, is_some-domain, domain-set, domain-replaced}
+use Rattle.cg_tree.proofs.Presence.{nothing, get-present, present-set, present_kept, is_some-domain, domain-set, domain-replaced}
 use Rattle.cg_tree.proofs.Climbing.{parent_is_above}
 use Rattle.cg_tree.proofs.Prefixes.{parent_along}
 use Rattle.cg_tree.proofs.Rooting.{with_group, with_entries}
@@ -30,6 +32,14 @@ settings_there t u is p w e = ap option_flatten e ∙ sym (get-present path_cmp_
 pub entry_there : (t : Inside) (u : TreeWithRoom) → room_of t ≡ u → (p : Path) → is_some (get t.groups.groups p) ≡ has_entry u p
 entry_there t u is p = sym (is_some-domain path_cmp_total path_cmp_exact t.groups.groups p) ∙ ap (λ v. has_entry v p) is
 
+new_flattened : (n : NewValue) (w : Option (Option Settings)) → option_flatten (option_map (with_new n) w) ≡ with_new n (option_flatten w)
+new_flattened n None = refl
+new_flattened n (Some x) = refl
+
+nothing_mapped : {X Y : Type 0} (f : X → Y) (w : Option X) → nothing (option_map f w) ≡ nothing w
+nothing_mapped f None = refl
+nothing_mapped f (Some x) = refl
+
 module _ (t : Inside) (p : Path) (g : Contents) (same : g.places ≡ t.groups.places) where
   abbrev pub with_map : Inside
   with_map = record t { groups = g }
@@ -39,6 +49,20 @@ module _ (t : Inside) (p : Path) (g : Contents) (same : g.places ≡ t.groups.pl
   group_written s e h =
       let groups : present g.groups ≡ set_at (present t.groups.groups) p s = ap present e ∙ present-set path_cmp_total path_cmp_exact t.groups.groups p (Some s) in
       let entries : domain g.groups ≡ domain t.groups.groups = ap domain e ∙ domain-replaced path_cmp_total path_cmp_exact t.groups.groups p s h in
+      λ i. record { tree = record (room_of t).tree { groups = groups i; places = same i }; entries = entries i }
+
+  -- a value of a group that may be there
+  pub value_written : (n : NewValue) → g.groups ≡ set_at t.groups.groups p (option_map (with_new n) (get t.groups.groups p)) → room_of with_map ≡ with_group (room_of t) p (with_new n (group (room_of t).tree p))
+  value_written n e =
+      let groups : present g.groups ≡ set_at (present t.groups.groups) p (with_new n (group (room_of t).tree p)) =
+      ap present e
+      ∙ present-set path_cmp_total path_cmp_exact t.groups.groups p (option_map (with_new n) (get t.groups.groups p))
+      ∙ ap (set_at (present t.groups.groups) p) (new_flattened n (get t.groups.groups p) ∙ ap (with_new n) (settings_there t (room_of t) refl p _ refl)) in
+      let entries : domain g.groups ≡ domain t.groups.groups =
+      ap domain e
+      ∙ domain-set path_cmp_total path_cmp_exact t.groups.groups p (option_map (with_new n) (get t.groups.groups p))
+      ∙ ap (set_at (domain t.groups.groups) p) (nothing_mapped (with_new n) (get t.groups.groups p) ∙ sym (get-domain t.groups.groups p))
+      ∙ set_same path_cmp_total path_cmp_exact (domain t.groups.groups) p in
       λ i. record { tree = record (room_of t).tree { groups = groups i; places = same i }; entries = entries i }
 
   pub entry_made : g.groups ≡ set_at t.groups.groups p (Some None) → get t.groups.groups p ≡ None → room_of with_map ≡ with_entries (room_of t) (set_at (domain t.groups.groups) p (Some tt))

@@ -5,7 +5,7 @@ use Rattle.std.specs.Cmp.{IsTotalOrder}
 use Rattle.std.specs.FinMap.{IsAntisymmetric}
 use Rattle.std.specs.FinMap.Entries.{find}
 use Rattle.cg_maps.specs.FiniteMap.{FiniteMap, get, set_at, empty, entries, len}
-use Rattle.cg_maps.proofs.Maps.{same_map, get-set_at}
+use Rattle.cg_maps.proofs.Maps.{same_map, set_same, get-set_at}
 use Rattle.cg_name.specs.Order.{path_cmp_total, path_cmp_exact}
 use Rattle.cg_name.specs.Path.{Path, path_cmp}
 use Rattle.cg_tree.specs.Seen.{seen, seen_map}
@@ -71,3 +71,25 @@ module _ {X Y : Type 0} (part : X → Y) (m : FiniteMap path_cmp X) (n : FiniteM
 
   pub set_so : (k : Path) (w : Option X) (l : FiniteMap path_cmp X) → l ≡ set_at m k w → seen_map part l ≡ set_at n k (option_map part w)
   set_so k w l h = ap (seen_map part) h ∙ seen-set part path_cmp_total path_cmp_exact m k w ∙ ap (λ j. set_at j k (option_map part w)) is
+
+-- ---- what keeps that part
+
+module _ {X Y : Type 0} (part : X → Y) where
+  -- each value is changed, and keeps it
+  pub same_seen : (new old : FiniteMap path_cmp X) (f : Path → X → X) → ((q : Path) (x : X) → part (f q x) ≡ part x) → ((q : Path) → get new q ≡ option_map (f q) (get old q)) → seen_map part new ≡ seen_map part old
+  same_seen new old f alike is = same_map path_cmp_total path_cmp_exact (seen_map part new) (seen_map part old) (λ q.
+      get-seen part new q
+      ∙ ap (option_map part) (is q)
+      ∙ by q (get old q)
+      ∙ sym (get-seen part old q))
+    where
+      by : (q : Path) (w : Option X) → option_map part (option_map (f q) w) ≡ option_map part w
+      by q None = refl
+      by q (Some x) = ap Some (alike q x)
+
+  -- one is written over one with the same
+  pub seen_in_place : (m : FiniteMap path_cmp X) (p : Path) (e : X) → get m p ≡ Some e → (x : X) → part x ≡ part e → seen_map part (set_at m p (Some x)) ≡ seen_map part m
+  seen_in_place m p e here x alike =
+      seen-set part path_cmp_total path_cmp_exact m p (Some x)
+      ∙ ap (set_at (seen_map part m) p) (ap Some alike ∙ sym (get-seen part m p ∙ ap (option_map part) here))
+      ∙ set_same path_cmp_total path_cmp_exact (seen_map part m) p

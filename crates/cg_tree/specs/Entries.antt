@@ -1,13 +1,17 @@
 -- What the nodes of the tree of groups hold: the settings of each group, and how many groups and processes are below each path.
 use Rattle.std.specs.Prelude.{◌≡◌, ◌<◌, ◌+◌, ◌-◌, ◌^◌, ℕ, Bool, true, false, cond, Option, Some}
 use Rattle.cg_maps.specs.FiniteMap.{FiniteMap, get, len, retain}
+use Rattle.cg_name.specs.declared.controller.Controller.{Controller}
 use Rattle.cg_name.specs.Path.{Path, path_cmp, is_above, is_parent}
 use Rattle.cg_path_tree.specs.declared.node.NodeKey.{NodeKey}
 use Rattle.cg_path_tree.specs.Nodes.{Nodes, path_of}
+use Rattle.cg_text.specs.declared.controllers.Controllers.{Controllers}
 use Rattle.cg_text.specs.declared.settings.Settings.{Settings}
 use Rattle.cg_tree.specs.declared.entry.Count.{Count}
 use Rattle.cg_tree.specs.declared.entry.Count.TheVariants.{Groups, Processes}
 use Rattle.cg_tree.specs.declared.entry.Entry.{Entry}
+use Rattle.cg_tree.specs.declared.passing.Passing.{Passing}
+use Rattle.cg_tree.specs.Passing.{passing_count, stepped_if, times}
 use Rattle.cg_tree.specs.Present.{present}
 use Rattle.cg_tree.specs.Seen.{seen_map}
 
@@ -25,14 +29,30 @@ processes_of e = e.processes
 abbrev pub held_in : FiniteMap path_cmp Entry → FiniteMap path_cmp ℕ
 held_in m = seen_map processes_of m
 
+abbrev pub passing_of : Entry → Passing
+passing_of e = e.passing
+
+-- the map of the counts of groups that pass on controllers
+abbrev pub passing_in : FiniteMap path_cmp Entry → FiniteMap path_cmp Passing
+passing_in m = seen_map passing_of m
+
 -- the number of groups at paths that pass a test
 abbrev pub group_count : FiniteMap path_cmp (Option Settings) → (Path → Bool) → ℕ
 group_count m test = len (retain (present m) test)
 
--- the counts of an entry are those of its path
-pub record IsCounted (m : FiniteMap path_cmp (Option Settings)) (p : Path) (e : Entry) : Type 0 where
+-- the counts of groups of an entry are those of its path
+pub record IsCountedBelow (m : FiniteMap path_cmp (Option Settings)) (p : Path) (e : Entry) : Type 0 where
   pub below : e.below ≡ group_count m (is_above p)
   pub right_below : e.right_below ≡ group_count m (is_parent p)
+
+-- each entry has the counts of groups of its path
+abbrev pub AreCountedBelow : FiniteMap path_cmp Entry → Type 0
+AreCountedBelow m = (p : Path) (e : Entry) → get m p ≡ Some e → IsCountedBelow (groups_in m) p e
+
+-- and the counts of those that pass on a controller
+pub record IsCounted (m : FiniteMap path_cmp (Option Settings)) (p : Path) (e : Entry) : Type 0 where
+  pub groups : IsCountedBelow m p e
+  pub passing : (c : Controller) → times e.passing c ≡ passing_count m p c
 
 -- each entry has the counts of its path
 abbrev pub AreCounted : FiniteMap path_cmp Entry → Type 0
@@ -63,9 +83,14 @@ abbrev pub recounted : Count → Bool → Bool → Entry → Entry
 recounted Groups comes here e = record e { below = counted_if comes here e.below }
 recounted Processes comes here e = record e { processes = counted_if comes here e.processes }
 
--- the entry of q, as the group at p comes or goes: counted among those right below
-abbrev pub with_right_below : Bool → Path → Path → Entry → Entry
-with_right_below comes p q e = record e { right_below = counted_if comes (is_parent q p) e.right_below }
+-- the entry with the count of those right below changed, where it is counted
+abbrev pub with_right_below : Bool → Bool → Entry → Entry
+with_right_below comes here e = record e { right_below = counted_if comes here e.right_below }
+
+-- the entry with the counts of those that pass on a controller changed, where the group is counted: it passes on the second
+-- set in place of the first
+abbrev pub with_passing : Controllers → Controllers → Bool → Entry → Entry
+with_passing before after here e = record e { passing = stepped_if here before after e.passing }
 
 -- ---- nodes
 

@@ -5,6 +5,8 @@ pub mod Edit
 pub mod Entries
 pub mod Inside
 pub mod Listing
+pub mod NewValue
+pub mod Passing
 pub mod Placed
 pub mod Present
 pub mod Room

@@ -35,8 +35,7 @@ impl Tree {
         self.groups().children_with_cpus(alloc, path)
     }
 
-    /// The controllers that a child of the group at the path passes on. Goes over the children in no order, and takes no
-    /// memory.
+    /// The controllers that a child of the group at the path passes on. One look-up.
     pub fn control_below(&self, path: &Path) -> Controllers
         ensures { result ≡ used_below (children self.now.tree path.now) }
     {

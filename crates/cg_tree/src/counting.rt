@@ -4,12 +4,14 @@ ghost use Rattle.cg_maps.specs.FiniteMap.{get, set_at};
 ghost use Rattle.cg_name.specs.Path.{is_above, is_parent, is_prefix};
 ghost use Rattle.cg_path_tree.specs.Nodes.{with_value, HasParent, IsKey};
 ghost use Rattle.cg_tree.specs.declared.entry.Entry.{Entry};
-ghost use Rattle.cg_tree.specs.Entries.{count_of, counted, counted_if, entry_at, groups_in, held_in, path_at, recounted, with_right_below, AreCounted, CanCount};
+ghost use Rattle.cg_tree.specs.Entries.{count_of, counted, counted_if, entry_at, groups_in, held_in, passing_in, path_at, recounted, with_passing, with_right_below, AreCounted, AreCountedBelow, CanCount};
+ghost use Rattle.cg_tree.specs.Passing.{stepped, CanPass};
 
 use crate::entry::{Count, Entry, counted};
+use crate::passing::{Passing, control_of};
 use cg_name::Path;
 use cg_path_tree::{NodeKey, PathTree};
-use cg_text::Settings;
+use cg_text::{Controllers, Settings};
 use std::alloc::{AllocError, Global};
 
 // Writes the settings of a node.
@@ -43,6 +45,21 @@ fn count_right_below(nodes: &mut PathTree<Entry>, key: NodeKey, comes: bool)
     entry.right_below = counted(entry.right_below, comes);
 }
 
+// What a group right below a node passes on is another set.
+fn change_passing(
+    nodes: &mut PathTree<Entry>,
+    key: NodeKey,
+    before: &Controllers,
+    after: &Controllers,
+)
+    requires key { IsKey nodes.old.keys key }
+    requires room { (e : Entry) → entry_at nodes.old key ≡ Some e → CanPass before.now after.now e.passing }
+    ensures { (e : Entry) → entry_at nodes.old key ≡ Some e → nodes.new ≡ with_value nodes.old (path_at nodes.old key) (record e { passing = stepped before.now after.now e.passing }) }
+{
+    let entry = nodes.get_mut(key);
+    entry.passing = entry.passing.changed(before, after);
+}
+
 // One more or less in that count of each node above that of the key.
 fn count_above(nodes: &mut PathTree<Entry>, key: NodeKey, which: Count, comes: bool)
     requires key { IsKey nodes.old.keys key }
@@ -63,7 +80,7 @@ fn count_at_parent(nodes: &mut PathTree<Entry>, key: NodeKey, comes: bool)
     requires key { IsKey nodes.old.keys key }
     requires room { (q : List (List ℕ)) (e : Entry) → is_parent q (path_at nodes.old key) ≡ true → get nodes.old.values q ≡ Some e → CanCount comes e.right_below }
     ensures keys { nodes.new.keys ≡ nodes.old.keys }
-    ensures values { (q : List (List ℕ)) → get nodes.new.values q ≡ option_map (with_right_below comes (path_at nodes.old key) q) (get nodes.old.values q) }
+    ensures values { (q : List (List ℕ)) → get nodes.new.values q ≡ option_map (with_right_below comes (is_parent q (path_at nodes.old key))) (get nodes.old.values q) }
 {
     nodes.laws();
     if let Some(parent) = nodes.parent(key) {
@@ -71,13 +88,32 @@ fn count_at_parent(nodes: &mut PathTree<Entry>, key: NodeKey, comes: bool)
     }
 }
 
-// Puts the settings at the node: where a group comes or goes, it is counted above.
-pub(crate) fn put(nodes: &mut PathTree<Entry>, key: NodeKey, settings: Option<Settings>)
+// What the group of the node passes on is another set: counted at the parent.
+fn pass_at_parent(
+    nodes: &mut PathTree<Entry>,
+    key: NodeKey,
+    before: &Controllers,
+    after: &Controllers,
+)
     requires key { IsKey nodes.old.keys key }
-    requires counted { AreCounted nodes.old.values }
+    requires room { (q : List (List ℕ)) (e : Entry) → is_parent q (path_at nodes.old key) ≡ true → get nodes.old.values q ≡ Some e → CanPass before.now after.now e.passing }
+    ensures keys { nodes.new.keys ≡ nodes.old.keys }
+    ensures values { (q : List (List ℕ)) → get nodes.new.values q ≡ option_map (with_passing before.now after.now (is_parent q (path_at nodes.old key))) (get nodes.old.values q) }
+{
+    nodes.laws();
+    if let Some(parent) = nodes.parent(key) {
+        change_passing(nodes, parent, before, after);
+    }
+}
+
+// Puts the settings at the node: where a group comes or goes, it is counted above.
+fn put_group(nodes: &mut PathTree<Entry>, key: NodeKey, settings: Option<Settings>)
+    requires key { IsKey nodes.old.keys key }
+    requires counted { AreCountedBelow nodes.old.values }
     ensures keys { nodes.new.keys ≡ nodes.old.keys }
     ensures groups { groups_in nodes.new.values ≡ set_at (groups_in nodes.old.values) (path_at nodes.old key) (Some settings) }
-    ensures counted { AreCounted nodes.new.values }
+    ensures counted { AreCountedBelow nodes.new.values }
+    ensures passing { passing_in nodes.new.values ≡ passing_in nodes.old.values }
     ensures held { held_in nodes.new.values ≡ held_in nodes.old.values }
 {
     // A tree can tell how many nodes it has, so that each count has room.
@@ -89,6 +125,28 @@ pub(crate) fn put(nodes: &mut PathTree<Entry>, key: NodeKey, settings: Option<Se
     if comes != was {
         count_at_parent(nodes, key, comes);
         count_above(nodes, key, Count::Groups, comes);
+    }
+}
+
+// Puts the settings at the node: where a group comes or goes, it is counted above, and where what it passes on changes, at its
+// parent.
+pub(crate) fn put(nodes: &mut PathTree<Entry>, key: NodeKey, settings: Option<Settings>)
+    requires key { IsKey nodes.old.keys key }
+    requires counted { AreCounted nodes.old.values }
+    ensures keys { nodes.new.keys ≡ nodes.old.keys }
+    ensures groups { groups_in nodes.new.values ≡ set_at (groups_in nodes.old.values) (path_at nodes.old key) (Some settings) }
+    ensures counted { AreCounted nodes.new.values }
+    ensures held { held_in nodes.new.values ≡ held_in nodes.old.values }
+{
+    nodes.laws();
+    let before = control_of(&nodes.get(key).settings);
+    let after = control_of(&settings);
+    put_group(nodes, key, settings);
+    nodes.laws();
+    // As in `put_group`.
+    let _ = nodes.len();
+    if before != after {
+        pass_at_parent(nodes, key, &before, &after);
     }
 }
 
@@ -127,6 +185,7 @@ pub(crate) fn add_dead(
         settings: None,
         below: 0,
         right_below: 0,
+        passing: Passing::none(),
         processes: 0,
     };
     let Ok(key) = nodes.add(alloc, path, entry) else {

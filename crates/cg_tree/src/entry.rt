@@ -2,9 +2,11 @@
 ghost use Rattle.std.specs.Prelude.{◌≡◌};
 ghost use Rattle.cg_tree.specs.Entries.{counted, CanCount};
 
+use crate::passing::Passing;
 use cg_text::Settings;
 
-// The settings of a group, how many groups are below, and how many processes are in it and below.
+// The settings of a group, how many groups are below and what those right below pass on, and how many processes are in it and
+// below.
 pub(crate) struct Entry {
     // The settings of the group, and `None` where the path is dead.
     pub(crate) settings: Option<Settings>,
@@ -12,6 +14,8 @@ pub(crate) struct Entry {
     pub(crate) below: usize,
     // How many of them are right below it.
     pub(crate) right_below: usize,
+    // For each controller, how many of these pass it on.
+    pub(crate) passing: Passing,
     // How many processes are in the groups at the path and below it.
     pub(crate) processes: usize,
 }
@@ -32,6 +36,7 @@ impl Drop for Entry {
             settings: _,
             below: _,
             right_below: _,
+            passing: _,
             processes: _,
         } = self;
     }

@@ -1,6 +1,6 @@
 // The groups of a tree and its dead paths, each found by one look-up, with how many groups and processes are below, and the
 // processes in them.
-ghost use Rattle.std.specs.Prelude.{◌≡◌, ◌≢◌, ◌≤◌, ◌<◌, ℕ, false, filter, is_some, length, suc, true, take, IsSome, IfOk, OnErr, OnOk, Some, None};
+ghost use Rattle.std.specs.Prelude.{◌≡◌, ◌≢◌, ◌≤◌, ◌<◌, ℕ, false, filter, is_some, length, option_map, suc, true, take, IsSome, IfOk, OnErr, OnOk, Some, None};
 ghost use Rattle.std.specs.Option.{option_flatten};
 ghost use Rattle.cg_maps.specs.FiniteMap.{empty, entries, get, is_nonempty, keys, retain, set_at};
 ghost use Rattle.cg_model.specs.Control.{used_below};
@@ -11,13 +11,15 @@ ghost use Rattle.cg_path_tree.specs.Nodes.{number_of, parent_path};
 ghost use Rattle.cg_tree.specs.Ancestors.{ancestor_in, downward};
 ghost use Rattle.cg_tree.specs.Entries.{group_count};
 ghost use Rattle.cg_tree.specs.Listing.{asks_for_cpus};
+ghost use Rattle.cg_tree.specs.NewValue.{with_new};
 ghost use Rattle.cg_tree.specs.Present.{present};
 
 use crate::ancestors::{Ancestors, deepest, deepest_above};
 use crate::counting::{add_dead, count_process, put};
 use crate::entry::Entry;
-use crate::listed::{Listed, asking_for_cpus, passed_on};
+use crate::listed::{Listed, asking_for_cpus};
 use crate::looking::{entry, parent_entry, prefix_entry};
+use crate::new_value::NewValue;
 use cg_name::{Path, PathRef};
 use cg_path_tree::{NodeKey, PathTree};
 use cg_places::Places;
@@ -81,6 +83,16 @@ impl Groups {
         Some(parent_entry(&self.nodes, path)?.settings)
     }
 
+    // Whether there is a group at the path.
+    pub(crate) fn has_group(&self, path: &Path) -> bool
+        ensures { result ≡ is_some (option_flatten (get self.now.groups path.now)) }
+    {
+        match entry(&self.nodes, path) {
+            Some(entry) => entry.settings.is_some(),
+            None => false,
+        }
+    }
+
     // Whether the map has an entry at the path.
     pub(crate) fn contains(&self, path: &Path) -> bool
         ensures { result ≡ is_some (get self.now.groups path.now) }
@@ -124,6 +136,24 @@ impl Groups {
         if let Some(key) = self.nodes.find(path) {
             put(&mut self.nodes, key, settings);
         }
+    }
+
+    // Puts the value of one setting of the group at the path, if there is a group, and says whether there is.
+    pub(crate) fn change(&mut self, path: &Path, value: &NewValue) -> bool
+        ensures found { result ≡ is_some (option_flatten (get self.old.groups path.now)) }
+        ensures groups { self.new.groups ≡ set_at self.old.groups path.now (option_map (with_new value.now) (get self.old.groups path.now)) }
+        ensures places { self.new.places ≡ self.old.places }
+    {
+        self.nodes.laws();
+        let Some(key) = self.nodes.find(path) else {
+            return false;
+        };
+        let Some(mut settings) = self.nodes.get(key).settings else {
+            return false;
+        };
+        value.assign(&mut settings);
+        put(&mut self.nodes, key, Some(settings));
+        true
     }
 
     // Takes out the entry at the path, if there is one: it is no group's, none is right below it, and no process is in it.
@@ -224,8 +254,8 @@ impl Groups {
         ensures { result ≡ used_below (entries (retain (present self.now.groups) (is_parent path.now))) }
     {
         self.nodes.laws();
-        match self.nodes.find(path) {
-            Some(key) => passed_on(&self.nodes, self.nodes.children(key)),
+        match entry(&self.nodes, path) {
+            Some(entry) => entry.passing.controllers(),
             None => Controllers::empty(),
         }
     }

@@ -10,6 +10,8 @@ mod groups;
 mod limits;
 mod listed;
 mod looking;
+mod new_value;
+mod passing;
 mod pids;
 mod placed;
 mod processes;

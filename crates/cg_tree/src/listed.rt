@@ -1,13 +1,12 @@
 //! Groups of a tree, one by one.
 ghost use Rattle.std.specs.Prelude.{◌≡◌, ◌∷◌, [], filter, MatchOption, IfOk, drop, slice_get};
 ghost use Rattle.std.specs.Iterator.{item_count, YieldsFirstBy};
-ghost use Rattle.cg_model.specs.Control.{used_below};
 ghost use Rattle.cg_tree.specs.Listing.{asks, asks_at, listed, AreKeys};
 
 use crate::entry::Entry;
 use cg_name::PathRef;
 use cg_path_tree::{NodeKey, PathTree};
-use cg_text::{Controllers, Settings};
+use cg_text::Settings;
 use std::alloc::{AllocError, Global};
 use std::marker::Model;
 
@@ -84,21 +83,6 @@ fn key_at(keys: &[NodeKey], index: usize) -> Option<NodeKey>
     ensures { result ≡ slice_get keys.now index }
 {
     keys.get(index).copied()
-}
-
-// The controllers that a group among the nodes passes on.
-pub(crate) fn passed_on(nodes: &PathTree<Entry>, keys: &[NodeKey]) -> Controllers
-    requires { AreKeys nodes.now keys.now }
-    ensures { result ≡ used_below (listed nodes.now keys.now) }
-{
-    nodes.laws();
-    let mut used = Controllers::empty();
-    for key in keys {
-        if let Some(settings) = &nodes.get(*key).settings {
-            used = used.union(&settings.control);
-        }
-    }
-    used
 }
 
 // Those of the nodes that are groups which ask for CPUs.

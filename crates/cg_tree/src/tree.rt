@@ -7,6 +7,7 @@ ghost use Rattle.cg_model.specs.Tree.{group, parent_group, place_of};
 ghost use Rattle.cg_model.specs.Derived.{is_in, is_in_subtree};
 ghost use Rattle.cg_tree.specs.Edit.{edited, needed_entry, RoomForEdit};
 ghost use Rattle.cg_tree.specs.Unlimited.{AreUnlimited};
+ghost use Rattle.cg_tree.specs.NewValue.{with_new};
 ghost use Rattle.cg_tree.specs.Present.{present};
 ghost use Rattle.cg_tree.specs.Room.{has_entry, may_have_entry, with_entry, without_dead, IsRooted, MaySweepIfDead};
 ghost use Rattle.cg_world.specs.Representable.{AreCpusUpTo};
@@ -14,6 +15,7 @@ ghost use Rattle.cg_world.specs.Representable.{AreCpusUpTo};
 use crate::edit::Edit;
 use crate::groups::Groups;
 use crate::limits::{has_limit, have_limit};
+use crate::new_value::NewValue;
 use crate::pids::Pids;
 use crate::placed::Placed;
 use crate::worlds::{add_groups, add_places, add_processes, pids_of, with_entries};
@@ -133,7 +135,7 @@ impl Tree {
     {
         // A tree tells what holds of it when a part of it is looked at.
         let _ = &self.controllers;
-        self.settings(path).is_some()
+        self.groups.has_group(path)
     }
 
     /// The settings of the group at the path, if there is one.
@@ -260,41 +262,17 @@ impl Tree {
         ensures tree { self.new.tree ≡ edited edit self.old.tree }
         ensures entries { self.new.entries ≡ self.old.entries }
     {
-        // As in `find`: each group has an entry.
-        let _ = &self.controllers;
         match edit {
             Edit::Group { path, settings } => self.put_group(&path, settings),
             Edit::Place { pid, path } => self.put_place(pid, &path),
-            Edit::Control { path, value } => {
-                if let Some(mut settings) = self.settings(&path) {
-                    settings.control = value;
-                    self.put_group(&path, Some(settings));
-                }
-            }
-            Edit::Freeze { path, value } => {
-                if let Some(mut settings) = self.settings(&path) {
-                    settings.freeze = value;
-                    self.put_group(&path, Some(settings));
-                }
-            }
-            Edit::Cpus { path, value } => {
-                if let Some(mut settings) = self.settings(&path) {
-                    settings.cpus = value;
-                    self.put_group(&path, Some(settings));
-                }
-            }
-            Edit::MaxDescendants { path, value } => {
-                if let Some(mut settings) = self.settings(&path) {
-                    settings.max_descendants = value;
-                    self.put_group(&path, Some(settings));
-                }
-            }
-            Edit::MaxDepth { path, value } => {
-                if let Some(mut settings) = self.settings(&path) {
-                    settings.max_depth = value;
-                    self.put_group(&path, Some(settings));
-                }
-            }
+            Edit::Control { path, value } => self.put_value(&path, &NewValue::Control(value)),
+            Edit::Freeze { path, value } => self.put_value(&path, &NewValue::Freeze(value)),
+            Edit::Cpus { path, value } => self.put_value(&path, &NewValue::Cpus(value)),
+            Edit::MaxDescendants { path, value } => self.put_value(
+                &path,
+                &NewValue::MaxDescendants(value),
+            ),
+            Edit::MaxDepth { path, value } => self.put_value(&path, &NewValue::MaxDepth(value)),
             Edit::Online { value } => self.put_online(value),
         }
     }
@@ -321,6 +299,18 @@ impl Tree {
         tell_cpus(&settings);
         self.may_limit |= has_limit(&settings);
         self.groups.replace(path, settings);
+    }
+
+    // Puts the value of one setting of the group at the path, if there is one.
+    fn put_value(&mut self, path: &Path, value: &NewValue)
+        ensures tree { self.new.tree ≡ record self.old.tree { groups = set_at self.old.tree.groups path.now (with_new value.now (group self.old.tree path.now)) } }
+        ensures entries { self.new.entries ≡ self.old.entries }
+    {
+        // As above.
+        let _ = path.names();
+        value.tell_cpus();
+        let found = self.groups.change(path, value);
+        self.may_limit |= found & value.is_limit();
     }
 
     // Puts the process into the group, if there is a process with this PID.

@@ -1,128 +1,55 @@
--- The entry that is written is that of the key's path, and what is above is counted.
-use Rattle.std.proofs.Common.{◌≡◌, ◌<◌, ◌^◌, Some, option_map, is_some, true, not, refl, sym, ap, subst, ◌∙◌, arith}
+-- What the group passes on is counted at its parent.
+use Rattle.std.proofs.Common.{◌≡◌, ◌<◌, ◌^◌, Some, option_map, true, refl, ap, sym, subst, ◌∙◌, arith}
 use Rattle.cg_maps.specs.FiniteMap.{get, len}
-use Rattle.cg_name.specs.Path.{is_above, is_parent}
-use Rattle.cg_path_tree.specs.Nodes.{path_of, IsKey}
-use Rattle.cg_tree.specs.declared.entry.Count.TheVariants.{Groups}
-use Rattle.cg_tree.specs.Entries.{entry_at, groups_in, held_in, path_at, recounted, with_right_below, AreCounted}
+use Rattle.cg_name.specs.Path.{Path, is_parent}
+use Rattle.cg_path_tree.specs.Nodes.{path_of}
+use Rattle.cg_tree.specs.Entries.{entry_at, path_at, processes_of, with_passing}
+use Rattle.cg_tree.specs.Passing.{control_of, CanPass}
 use Rattle.cg_tree.proofs.Climbing.{at_own_path}
-use Rattle.cg_tree.proofs.Holding.{held_in_place, same_by_entries}
-use Rattle.cg_tree.proofs.Putting.{as_many, counted_alike, counted_anew, counted_groups, differ, agree, room_below, room_right_below, written_groups}
+use Rattle.cg_tree.proofs.PassingOn.{all_counted, not_passing, room_to_pass, same_groups, same_sets}
+use Rattle.cg_tree.proofs.Putting.{as_many}
+use Rattle.cg_tree.proofs.Seeing.{same_seen}
 use Rattle.cg_tree.proofs.counting.put.Goals as goal
+use Rattle.cg_tree.proofs.counting.put.Goals.{After-pass_at_parent, After-put_group}
 
-pub count_at_parent-requires-clause-key : goal.count_at_parent-requires-clause-key
-count_at_parent-requires-clause-key c =
-    let key = at_own_path c.args.nodes.now c.args.key c.laws.ensures.one_path c.requires.key in
-    let e = c.get.result.now in
-    let there : entry_at c.args.nodes.now c.args.key ≡ Some e = c.get.ensures (path_at c.args.nodes.now c.args.key) key in
-    let wrote = c.write_settings.ensures e there in
-    subst (λ k. IsKey k c.args.key) (sym (ap (λ n. n.keys) wrote)) c.requires.key
+there : (c : After-put_group) → entry_at c.args.nodes.now c.args.key ≡ Some c.get.result.now
+there c = c.get.ensures (path_at c.args.nodes.now c.args.key) (at_own_path c.args.nodes.now c.args.key c.laws.ensures.one_path c.requires.key)
 
-pub count_at_parent-requires-clause-room : goal.count_at_parent-requires-clause-room
-count_at_parent-requires-clause-room c q x parent found =
-    let key = at_own_path c.args.nodes.now c.args.key c.laws.ensures.one_path c.requires.key in
-    let e = c.get.result.now in
-    let there : entry_at c.args.nodes.now c.args.key ≡ Some e = c.get.ensures (path_at c.args.nodes.now c.args.key) key in
-    let wrote = c.write_settings.ensures e there in
-    let new : is_some c.args.settings ≡ c.is_some-comes.result = sym c.is_some-comes.ensures in
-    let old : is_some e.settings ≡ not c.is_some-comes.result = sym c.is_some-was.ensures ∙ differ c.is_some-comes.result c.is_some-was.result c.if-comes-was.true in
-    let many : len c.args.nodes.now.values ≡ c.len.result = as_many c.args.nodes.now c.laws.ensures.both ∙ sym c.len.ensures in
+-- where the key's node is
+same_place : (c : After-put_group) → path_at c.put_group.new.nodes c.args.key ≡ path_at c.args.nodes.now c.args.key
+same_place c = ap (λ k. path_of k c.args.key) c.put_group.ensures.keys
+
+pub pass_at_parent-requires-clause-room : goal.pass_at_parent-requires-clause-room
+pass_at_parent-requires-clause-room c q x right found =
+    let many : len c.put_group.new.nodes.values ≡ c.len.result = as_many c.put_group.new.nodes c.laws-2.ensures.both ∙ sym c.len.ensures in
     let fits : c.len.result < 2 ^ 64 = omega arith in
-    room_right_below c.args.nodes.now c.args.key e there c.args.settings c.requires.counted c.is_some-comes.result new old c.len.result many fits q x
-    (subst (λ n. is_parent q (path_at n c.args.key) ≡ true) wrote parent) (subst (λ n. get n.values q ≡ Some x) wrote found)
+    let room = room_to_pass c.args.nodes.now c.put_group.new.nodes (path_at c.args.nodes.now c.args.key) c.get.result.now (there (goal.at.pass_at_parent-requires-clause-room c).After-put_group) c.args.settings c.put_group.ensures.groups c.requires.counted c.put_group.ensures.passing c.len.result many fits q x (subst (λ p. is_parent q p ≡ true) (same_place (goal.at.pass_at_parent-requires-clause-room c).After-put_group) right) found in
+    subst (λ u. CanPass u c.control_of-after.result x.passing) (sym c.control_of-before.ensures) (subst (λ v. CanPass (control_of c.get.result.now.settings) v x.passing) (sym c.control_of-after.ensures) room)
 
-pub count_above-requires-clause-key : goal.count_above-requires-clause-key
-count_above-requires-clause-key c =
-    let key = at_own_path c.args.nodes.now c.args.key c.laws.ensures.one_path c.requires.key in
-    let e = c.get.result.now in
-    let there : entry_at c.args.nodes.now c.args.key ≡ Some e = c.get.ensures (path_at c.args.nodes.now c.args.key) key in
-    let wrote = c.write_settings.ensures e there in
-    subst (λ k. IsKey k c.args.key) (sym (c.count_at_parent.ensures.keys ∙ ap (λ n. n.keys) wrote)) c.requires.key
+-- what is counted at the parent
+counted_at : (c : After-pass_at_parent) (place : path_at c.put_group.new.nodes c.args.key ≡ path_at c.args.nodes.now c.args.key) (q : Path)
+    → get c.pass_at_parent.new.nodes.values q ≡ option_map (with_passing (control_of c.get.result.now.settings) (control_of c.args.settings) (is_parent q (path_at c.args.nodes.now c.args.key))) (get c.put_group.new.nodes.values q)
+counted_at c place q =
+    c.pass_at_parent.ensures.values q
+    ∙ (λ i. option_map (with_passing (c.control_of-before.ensures i) (c.control_of-after.ensures i) (is_parent q (place i))) (get c.put_group.new.nodes.values q))
 
-pub count_above-requires-clause-room : goal.count_above-requires-clause-room
-count_above-requires-clause-room c q x above found =
-    let key = at_own_path c.args.nodes.now c.args.key c.laws.ensures.one_path c.requires.key in
-    let e = c.get.result.now in
-    let there : entry_at c.args.nodes.now c.args.key ≡ Some e = c.get.ensures (path_at c.args.nodes.now c.args.key) key in
-    let wrote = c.write_settings.ensures e there in
-    let new : is_some c.args.settings ≡ c.is_some-comes.result = sym c.is_some-comes.ensures in
-    let old : is_some e.settings ≡ not c.is_some-comes.result = sym c.is_some-was.ensures ∙ differ c.is_some-comes.result c.is_some-was.result c.if-comes-was.true in
-    let many : len c.args.nodes.now.values ≡ c.len.result = as_many c.args.nodes.now c.laws.ensures.both ∙ sym c.len.ensures in
-    let fits : c.len.result < 2 ^ 64 = omega arith in
-    room_below c.args.nodes.now c.args.key e there c.args.settings c.requires.counted c.is_some-comes.result new old c.count_at_parent.new.nodes (λ r. subst (λ n. get c.count_at_parent.new.nodes.values r ≡ option_map (with_right_below c.is_some-comes.result (path_at n c.args.key) r) (get n.values r)) wrote (c.count_at_parent.ensures.values r)) c.len.result many fits q x
-    (subst (λ k. is_above q (path_of k c.args.key) ≡ true) (c.count_at_parent.ensures.keys ∙ ap (λ n. n.keys) wrote) above) found
+pub returns-then-ne-clause-groups : goal.returns-then-ne-clause-groups
+returns-then-ne-clause-groups c =
+    same_groups c.args.nodes.now c.put_group.new.nodes (path_at c.args.nodes.now c.args.key) c.get.result.now (there (goal.at.returns-then-ne-clause-groups c).After-put_group) c.args.settings c.put_group.ensures.groups c.requires.counted c.put_group.ensures.passing c.put_group.ensures.counted c.pass_at_parent.new.nodes (counted_at c (same_place (goal.at.returns-then-ne-clause-groups c).After-put_group))
+    ∙ c.put_group.ensures.groups
 
-pub returns-then-comes-was-clause-keys : goal.returns-then-comes-was-clause-keys
-returns-then-comes-was-clause-keys c =
-    let key = at_own_path c.args.nodes.now c.args.key c.laws.ensures.one_path c.requires.key in
-    let e = c.get.result.now in
-    let there : entry_at c.args.nodes.now c.args.key ≡ Some e = c.get.ensures (path_at c.args.nodes.now c.args.key) key in
-    let wrote = c.write_settings.ensures e there in
-    c.count_above.ensures.keys ∙ c.count_at_parent.ensures.keys ∙ ap (λ n. n.keys) wrote
+pub returns-then-ne-clause-counted : goal.returns-then-ne-clause-counted
+returns-then-ne-clause-counted c =
+    all_counted c.args.nodes.now c.put_group.new.nodes (path_at c.args.nodes.now c.args.key) c.get.result.now (there (goal.at.returns-then-ne-clause-counted c).After-put_group) c.args.settings c.put_group.ensures.groups c.requires.counted c.put_group.ensures.passing c.put_group.ensures.counted c.pass_at_parent.new.nodes (counted_at c (same_place (goal.at.returns-then-ne-clause-counted c).After-put_group))
 
-pub returns-then-comes-was-clause-groups : goal.returns-then-comes-was-clause-groups
-returns-then-comes-was-clause-groups c =
-    let key = at_own_path c.args.nodes.now c.args.key c.laws.ensures.one_path c.requires.key in
-    let e = c.get.result.now in
-    let there : entry_at c.args.nodes.now c.args.key ≡ Some e = c.get.ensures (path_at c.args.nodes.now c.args.key) key in
-    let wrote = c.write_settings.ensures e there in
-    let new : is_some c.args.settings ≡ c.is_some-comes.result = sym c.is_some-comes.ensures in
-    let old : is_some e.settings ≡ not c.is_some-comes.result = sym c.is_some-was.ensures ∙ differ c.is_some-comes.result c.is_some-was.result c.if-comes-was.true in
-    counted_groups c.args.nodes.now c.args.key e there c.args.settings c.requires.counted c.is_some-comes.result new old c.count_at_parent.new.nodes (λ r. subst (λ n. get c.count_at_parent.new.nodes.values r ≡ option_map (with_right_below c.is_some-comes.result (path_at n c.args.key) r) (get n.values r)) wrote (c.count_at_parent.ensures.values r)) c.count_above.new.nodes
-    (λ r. subst (λ k. get c.count_above.new.nodes.values r ≡ option_map (recounted Groups c.is_some-comes.result (is_above r (path_of k c.args.key))) (get c.count_at_parent.new.nodes.values r)) (c.count_at_parent.ensures.keys ∙ ap (λ n. n.keys) wrote) (c.count_above.ensures.values r))
+pub returns-then-ne-clause-held : goal.returns-then-ne-clause-held
+returns-then-ne-clause-held c =
+    same_seen processes_of c.pass_at_parent.new.nodes.values c.put_group.new.nodes.values (λ q. with_passing c.control_of-before.result c.control_of-after.result (is_parent q (path_at c.put_group.new.nodes c.args.key))) (λ q x. refl) c.pass_at_parent.ensures.values
+    ∙ c.put_group.ensures.held
 
-pub returns-then-comes-was-clause-counted : goal.returns-then-comes-was-clause-counted
-returns-then-comes-was-clause-counted c =
-    let key = at_own_path c.args.nodes.now c.args.key c.laws.ensures.one_path c.requires.key in
-    let e = c.get.result.now in
-    let there : entry_at c.args.nodes.now c.args.key ≡ Some e = c.get.ensures (path_at c.args.nodes.now c.args.key) key in
-    let wrote = c.write_settings.ensures e there in
-    let new : is_some c.args.settings ≡ c.is_some-comes.result = sym c.is_some-comes.ensures in
-    let old : is_some e.settings ≡ not c.is_some-comes.result = sym c.is_some-was.ensures ∙ differ c.is_some-comes.result c.is_some-was.result c.if-comes-was.true in
-    counted_anew c.args.nodes.now c.args.key e there c.args.settings c.requires.counted c.is_some-comes.result new old c.count_at_parent.new.nodes (λ r. subst (λ n. get c.count_at_parent.new.nodes.values r ≡ option_map (with_right_below c.is_some-comes.result (path_at n c.args.key) r) (get n.values r)) wrote (c.count_at_parent.ensures.values r)) c.count_above.new.nodes
-    (λ r. subst (λ k. get c.count_above.new.nodes.values r ≡ option_map (recounted Groups c.is_some-comes.result (is_above r (path_of k c.args.key))) (get c.count_at_parent.new.nodes.values r)) (c.count_at_parent.ensures.keys ∙ ap (λ n. n.keys) wrote) (c.count_above.ensures.values r))
-
-pub returns-else-comes-was-clause-keys : goal.returns-else-comes-was-clause-keys
-returns-else-comes-was-clause-keys c =
-    let key = at_own_path c.args.nodes.now c.args.key c.laws.ensures.one_path c.requires.key in
-    let e = c.get.result.now in
-    let there : entry_at c.args.nodes.now c.args.key ≡ Some e = c.get.ensures (path_at c.args.nodes.now c.args.key) key in
-    let wrote = c.write_settings.ensures e there in
-    ap (λ n. n.keys) wrote
-
-pub returns-else-comes-was-clause-groups : goal.returns-else-comes-was-clause-groups
-returns-else-comes-was-clause-groups c =
-    let key = at_own_path c.args.nodes.now c.args.key c.laws.ensures.one_path c.requires.key in
-    let e = c.get.result.now in
-    let there : entry_at c.args.nodes.now c.args.key ≡ Some e = c.get.ensures (path_at c.args.nodes.now c.args.key) key in
-    let wrote = c.write_settings.ensures e there in
-    ap (λ n. groups_in n.values) wrote ∙ written_groups c.args.nodes.now c.args.key e there c.args.settings c.requires.counted
-
-pub returns-else-comes-was-clause-counted : goal.returns-else-comes-was-clause-counted
-returns-else-comes-was-clause-counted c =
-    let key = at_own_path c.args.nodes.now c.args.key c.laws.ensures.one_path c.requires.key in
-    let e = c.get.result.now in
-    let there : entry_at c.args.nodes.now c.args.key ≡ Some e = c.get.ensures (path_at c.args.nodes.now c.args.key) key in
-    let wrote = c.write_settings.ensures e there in
-    subst (λ n. AreCounted n.values) (sym wrote)
-    (counted_alike c.args.nodes.now c.args.key e there c.args.settings c.requires.counted (sym c.is_some-comes.ensures ∙ agree c.is_some-comes.result c.is_some-was.result c.if-comes-was.false ∙ c.is_some-was.ensures))
-
-pub returns-then-comes-was-clause-held : goal.returns-then-comes-was-clause-held
-returns-then-comes-was-clause-held c =
-    let key = at_own_path c.args.nodes.now c.args.key c.laws.ensures.one_path c.requires.key in
-    let e = c.get.result.now in
-    let there : entry_at c.args.nodes.now c.args.key ≡ Some e = c.get.ensures (path_at c.args.nodes.now c.args.key) key in
-    let wrote = c.write_settings.ensures e there in
-    same_by_entries c.count_above.new.nodes.values c.count_at_parent.new.nodes.values _ (λ q e. refl) c.count_above.ensures.values
-    ∙ same_by_entries c.count_at_parent.new.nodes.values c.write_settings.new.nodes.values (with_right_below c.is_some-comes.result (path_at c.write_settings.new.nodes c.args.key)) (λ q e. refl) c.count_at_parent.ensures.values
-    ∙ ap (λ n. held_in n.values) wrote
-    ∙ held_in_place c.args.nodes.now.values (path_at c.args.nodes.now c.args.key) e there (record e { settings = c.args.settings }) refl
-
-pub returns-else-comes-was-clause-held : goal.returns-else-comes-was-clause-held
-returns-else-comes-was-clause-held c =
-    let key = at_own_path c.args.nodes.now c.args.key c.laws.ensures.one_path c.requires.key in
-    let e = c.get.result.now in
-    let there : entry_at c.args.nodes.now c.args.key ≡ Some e = c.get.ensures (path_at c.args.nodes.now c.args.key) key in
-    let wrote = c.write_settings.ensures e there in
-    ap (λ n. held_in n.values) wrote
-    ∙ held_in_place c.args.nodes.now.values (path_at c.args.nodes.now c.args.key) e there (record e { settings = c.args.settings }) refl
+pub returns-else-ne-clause-counted : goal.returns-else-ne-clause-counted
+returns-else-ne-clause-counted c =
+    let alike : control_of c.get.result.now.settings ≡ control_of c.args.settings =
+    sym c.control_of-before.ensures ∙ same_sets c.control_of-before.result c.control_of-after.result (sym c.ne.ensures ∙ c.if-ne.false) ∙ c.control_of-after.ensures in
+    all_counted c.args.nodes.now c.put_group.new.nodes (path_at c.args.nodes.now c.args.key) c.get.result.now (there (goal.at.returns-else-ne-clause-counted c).After-put_group) c.args.settings c.put_group.ensures.groups c.requires.counted c.put_group.ensures.passing c.put_group.ensures.counted c.put_group.new.nodes
+    (λ q. not_passing (control_of c.get.result.now.settings) (control_of c.args.settings) alike (is_parent q (path_at c.args.nodes.now c.args.key)) (get c.put_group.new.nodes.values q))

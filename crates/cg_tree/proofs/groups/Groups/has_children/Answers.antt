@@ -14,7 +14,7 @@ returns-in-Some c =
     let p = c.args.path.now in
     let there : Some c.in-Some.entry.now ≡ get c.self.inside.nodes.values p = c.in-Some.ensures in
     let counted = c.self.invariant.counted p c.in-Some.entry.now (sym there) in
-    ap (nat_lt 0) counted.right_below
+    ap (nat_lt 0) counted.groups.right_below
     ∙ positive _
     ∙ sym (nonempty_by_len (retain (present (groups_in c.self.inside.nodes.values)) (is_parent p)))
     ∙ ap (λ g. is_nonempty (entries (retain (present g) (is_parent p)))) (ap (λ (v : Contents). v.groups) c.self.view_is)

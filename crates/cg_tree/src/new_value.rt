@@ -1,0 +1,66 @@
+// One setting of a group, and the value that it is to have.
+ghost use Rattle.std.specs.Prelude.{◌≡◌};
+ghost use Rattle.cg_model.specs.Key.{with_setting};
+ghost use Rattle.cg_tree.specs.NewValue.{field_of, is_limit, is_limited, value_of, HasCpusUpTo};
+
+use cg_cpus::CpuSet;
+use cg_text::{Controllers, Limit, Settings};
+
+// Which setting, and its value.
+#[derive(Drop)]
+pub(crate) enum NewValue {
+    // `cgroup.subtree_control`.
+    Control(Controllers),
+    // `cgroup.freeze`.
+    Freeze(bool),
+    // `cpuset.cpus`.
+    Cpus(CpuSet),
+    // `cgroup.max.descendants`.
+    MaxDescendants(Limit),
+    // `cgroup.max.depth`.
+    MaxDepth(Limit),
+}
+
+impl NewValue {
+    // Puts it in the place of the setting's value.
+    pub(crate) fn assign(&self, settings: &mut Settings)
+        ensures { settings.new ≡ with_setting (field_of self.now) (value_of self.now) settings.old }
+    {
+        match self {
+            NewValue::Control(value) => settings.control = *value,
+            NewValue::Freeze(value) => settings.freeze = *value,
+            NewValue::Cpus(value) => settings.cpus = *value,
+            NewValue::MaxDescendants(value) => settings.max_descendants = *value,
+            NewValue::MaxDepth(value) => settings.max_depth = *value,
+        }
+    }
+
+    // CPUs tell what holds of them.
+    pub(crate) fn tell_cpus(&self)
+        ensures { HasCpusUpTo 1023 self.now }
+    {
+        if let NewValue::Cpus(cpus) = self {
+            let _ = cpus.contains(0);
+        }
+    }
+
+    // Whether it is a limit other than `max`.
+    pub(crate) fn is_limit(&self) -> bool
+        ensures { result ≡ is_limit self.now }
+    {
+        match self {
+            NewValue::MaxDescendants(value) => is_limited(value),
+            NewValue::MaxDepth(value) => is_limited(value),
+            _ => false,
+        }
+    }
+}
+
+fn is_limited(limit: &Limit) -> bool
+    ensures { result ≡ is_limited limit.now }
+{
+    match limit {
+        Limit::Max => false,
+        Limit::UpTo(_) => true,
+    }
+}
