@@ -1,5 +1,5 @@
 -- The nodes above a path, made one after another.
-use Rattle.std.proofs.Common.{◌≡◌, ◌≢◌, ℕ, suc, ◌<◌, ◌≤◌, length, take, Some, None, IsSome, is_some, ap, ◌∙◌, arith}
+use Rattle.std.proofs.Common.{◌≡◌, ◌≢◌, ℕ, suc, ◌<◌, ◌≤◌, length, take, Option, Some, None, IsSome, is_some, sym, ap, ◌∙◌, arith}
 use Rattle.std.proofs.lemmas.List.{length-take-le}
 use Rattle.cg_maps.specs.FiniteMap.{FiniteMap, get, set_at}
 use Rattle.cg_maps.proofs.Maps as maps
@@ -18,6 +18,11 @@ AreMissing keys p d = (m : ℕ) → d ≤ m → m ≤ length p → get keys (tak
 -- and the one before has one, if there is one
 abbrev pub IsReached : Keys → Path → ℕ → Type 0
 IsReached keys p d = (m : ℕ) → suc m ≡ d → IsSome (get keys (take m p))
+
+-- and has this key; there is none, if there is none
+pub record IsLast (keys : Keys) (p : Path) (d : ℕ) (parent : Option NodeKey) : Type 0 where
+  pub none : d ≡ 0 → parent ≡ None
+  pub key : (m : ℕ) → suc m ≡ d → parent ≡ get keys (take m p)
 
 module _ (keys keys' : Keys) (p : Path) (d : ℕ) (k : NodeKey) (short : d < length p) (put : keys' ≡ set_at keys (take d p) (Some k)) where
   longer : (m : ℕ) → d < m → m ≤ length p → take m p ≢ take d p
@@ -38,8 +43,17 @@ module _ (keys keys' : Keys) (p : Path) (d : ℕ) (k : NodeKey) (short : d < len
       let is : m ≡ d = omega (arith, e) in
       ap is_some (ap (λ n. get keys' (take n p)) is ∙ ap (λ M. get M (take d p)) put ∙ maps.get_here path_cmp_total path_cmp_exact keys (take d p) (Some k))
 
+  pub next_last : IsLast keys' p (suc d) (Some k)
+  next_last = record {
+    none = λ e. absurd (omega (arith, e));
+    key = λ m e.
+        let is : m ≡ d = omega (arith, e) in
+        sym (ap (λ n. get keys' (take n p)) is ∙ ap (λ M. get M (take d p)) put ∙ maps.get_here path_cmp_total path_cmp_exact keys (take d p) (Some k));
+  }
+
 -- what is known of the nodes before each turn
-pub record IsMade (T : HeldByPath) (p : Path) (d : ℕ) (T' : HeldByPath) (keys : Keys) : Type 0 where
+pub record IsMade (T : HeldByPath) (p : Path) (d : ℕ) (parent : Option NodeKey) (T' : HeldByPath) (keys : Keys) : Type 0 where
   pub held : IsSameHeld T T'
   pub missing : AreMissing keys p d
   pub reached : IsReached keys p d
+  pub last : IsLast keys p d parent

@@ -131,6 +131,57 @@ module _ (t : ℕ) where
     | false ↦ λ high. omega arith
   ] refl
 
+-- ---- a place sought from the front
+
+-- the entries before those that are left, so many, have lower numbers
+pub record IsPassed (t : ℕ) (es : List (ℕ × ℕ)) (k : ℕ) (left : List (ℕ × ℕ)) : Type 0 where
+  pub sorted : T (is_sorted nat_cmp left)
+  pub same : find nat_cmp t es ≡ find nat_cmp t left
+  pub place : place_of t es ≡ k + place_of t left
+
+module _ (t : ℕ) (es : List (ℕ × ℕ)) (k : ℕ) (left : List (ℕ × ℕ)) (h : IsPassed t es k left) where
+  -- none is left
+  pub last_place : left ≡ [] → k ≡ place_of t es
+  last_place is = let a = h.place in let b : place_of t left ≡ 0 = ap (place_of t) is in omega (arith, a, b)
+
+  pub never_found : left ≡ [] → 0 ≡ unwrap_or (find nat_cmp t es) 0
+  never_found is = sym (ap (λ r. unwrap_or r 0) (h.same ∙ ap (find nat_cmp t) is))
+
+  module _ (e : ℕ × ℕ) (rest : List (ℕ × ℕ)) (is : left ≡ e ∷ rest) where
+    in_order : T (is_sorted nat_cmp (e ∷ rest))
+    in_order = subst (λ xs. T (is_sorted nat_cmp xs)) is h.sorted
+
+    pub place_here : t ≤ e.0 → k ≡ place_of t es
+    place_here low =
+        let a = h.place in
+        let no : nat_lt e.0 t ≡ false = grind (arith, nat_tests, low) in
+        let b : place_of t left ≡ 0 = ap (place_of t) is ∙ ap (λ x. cond x (suc (place_of t rest)) 0) no in
+        omega (arith, a, b)
+
+    pub found_here : e.0 ≡ t → e.1 ≡ unwrap_or (find nat_cmp t es) 0
+    found_here own =
+        let here : eq_by_cmp nat_cmp t e.0 ≡ true = subst (λ x. eq_by_cmp nat_cmp x e.0 ≡ true) own (maps.here nat_cmp_total nat_cmp-IsAntisymmetric e.0) in
+        sym (ap (λ r. unwrap_or r 0) (h.same ∙ ap (find nat_cmp t) is ∙ ap (λ b. cond b (Some e.1) (find nat_cmp t rest)) here))
+
+    pub not_found : t < e.0 → 0 ≡ unwrap_or (find nat_cmp t es) 0
+    not_found low =
+        let l : nat_lt t e.0 ≡ true = grind (arith, nat_tests, low) in
+        let less : nat_cmp t e.0 ≡ Less = ap (λ b. cond b Less (cond (t == e.0) Equal Greater)) l in
+        let none : find nat_cmp t rest ≡ None = none_below nat_cmp_total nat_cmp-IsAntisymmetric t rest (below_less nat_cmp_total nat_cmp-IsAntisymmetric t e.0 rest less (and_first _ _ in_order)) in
+        sym (ap (λ r. unwrap_or r 0) (h.same ∙ ap (find nat_cmp t) is ∙ ap (λ r. cond (is_eq r) (Some e.1) (find nat_cmp t rest)) less ∙ none))
+
+    pub one_passed : e.0 < t → IsPassed t es (k + 1) rest
+    one_passed low =
+        let a = h.place in
+        let yes : nat_lt e.0 t ≡ true = grind (arith, nat_tests, low) in
+        let b : place_of t left ≡ suc (place_of t rest) = ap (place_of t) is ∙ ap (λ x. cond x (suc (place_of t rest)) 0) yes in
+        let other : eq_by_cmp nat_cmp t e.0 ≡ false = maps.apart nat_cmp_total nat_cmp-IsAntisymmetric t e.0 (λ same. omega (arith, low, same)) in
+        record {
+          sorted = and_second _ _ in_order;
+          same = h.same ∙ ap (find nat_cmp t) is ∙ ap (λ x. cond x (Some e.1) (find nat_cmp t rest)) other;
+          place = omega (arith, a, b);
+        }
+
 -- ---- as a map
 
 -- who holds it has a number there
@@ -140,6 +191,9 @@ some_there (Some n) low = (n, refl)
 
 pub held_there : (es : List (ℕ × ℕ)) (C : Counts) (t : ℕ) → from_entries nat_cmp es ≡ C → unwrap_or (find nat_cmp t es) 0 ≡ held_by C t
 held_there es C t view = ap (λ r. unwrap_or r 0) (sym (maps.get-from_entries nat_cmp_total nat_cmp-IsAntisymmetric es t)) ∙ ap (λ M. held_by M t) view
+
+pub is_count : (es ds : List (ℕ × ℕ)) (C : Counts) (t n : ℕ) → ds ≡ es → from_entries nat_cmp es ≡ C → n ≡ unwrap_or (find nat_cmp t ds) 0 → n ≡ held_by C t
+is_count es ds C t n same view e = e ∙ ap (λ xs. unwrap_or (find nat_cmp t xs) 0) same ∙ held_there es C t view
 
 view_by : (es fs : List (ℕ × ℕ)) (t : ℕ) (w : Option ℕ) → ((q : ℕ) → find nat_cmp q fs ≡ cond (eq_by_cmp nat_cmp q t) w (find nat_cmp q es)) → from_entries nat_cmp fs ≡ set_at (from_entries nat_cmp es) t w
 view_by es fs t w h = maps.same_map nat_cmp_total nat_cmp-IsAntisymmetric _ _ (λ q.

@@ -12,3 +12,7 @@ went_well (Err x) e h = absurd (false≢true (sym e))
 pub went_wrong : {A E P : Type 0} (r : Result A E) → is_err r ≡ true → OnErr r P → P
 went_wrong (Ok x) e h = absurd (false≢true e)
 went_wrong (Err x) e h = h
+
+pub after_err : {A E P : Type 0} (r : Result A E) → P → OnErr r P
+after_err (Ok x) h = tt
+after_err (Err x) h = h

@@ -11,8 +11,8 @@ ghost use Rattle.cg_model.specs.Tree.{place_of};
 use crate::mark::Mark;
 use cg_command::Command;
 use cg_name::Path;
-use cg_text::{Limit, Settings};
-use cg_tree::{Ancestors, Tree};
+use cg_text::Limit;
+use cg_tree::{Ancestor, Ancestors, Tree};
 use smallvec::SmallVec;
 use std::alloc::{AllocError, Global};
 use std::marker::Model;
@@ -65,8 +65,8 @@ impl Footprint {
             Command::Subtree { path, .. } => of_change(alloc, path),
             Command::Freeze { path, .. } => of_change(alloc, path),
             Command::Cpus { path, .. } => of_change(alloc, path),
-            Command::Show { path, .. } => Footprint::one(alloc, Mark::Read(path.copy(alloc)?)),
-            Command::Online { .. } => Footprint::one(alloc, Mark::Changed(Path::root(alloc))),
+            Command::Show { path, .. } => Ok(Footprint::one(alloc, Mark::Read(path.copy(alloc)?))),
+            Command::Online { .. } => Ok(Footprint::one(alloc, Mark::Changed(Path::root(alloc)))),
             Command::MaxDescendants { path, .. } => of_change(alloc, path),
             Command::MaxDepth { path, .. } => of_change(alloc, path),
         }
@@ -102,15 +102,13 @@ impl Footprint {
     }
 
     // That with this mark alone.
-    fn one(alloc: Global, mark: Mark) -> Result<Footprint, AllocError>
-        ensures { IfOk result (λ f. f ≡ mark_of mark ∷ []) }
+    fn one(alloc: Global, mark: Mark) -> Footprint
+        ensures { result ≡ mark_of mark ∷ [] }
     {
-        let mut marks = SmallVec::new(alloc);
-        marks.push(mark)?;
-        Ok(Footprint {
-            marks,
+        Footprint {
+            marks: SmallVec::from_buf(alloc, [mark]),
             depths: Vec::new(alloc),
-        })
+        }
     }
 }
 
@@ -125,7 +123,7 @@ pub(crate) fn times_in(marks: &[Mark], mark: &Mark) -> usize
 fn of_change(alloc: Global, path: &Path) -> Result<Footprint, AllocError>
     ensures { IfOk result (λ f. f ≡ model.X path.now ∷ []) }
 {
-    Footprint::one(alloc, Mark::Changed(path.copy(alloc)?))
+    Ok(Footprint::one(alloc, Mark::Changed(path.copy(alloc)?)))
 }
 
 // That of a command which makes a group or takes one away: it changes the number of descendants of each group above.
@@ -133,8 +131,7 @@ fn with_counts(alloc: Global, path: &Path, tree: &Tree) -> Result<Footprint, All
     ensures { IfOk result (λ f. f ≡ model.X path.now ∷ counts tree.now.tree path.now) }
 {
     let depths = limited_above(alloc, path, tree)?;
-    let mut marks = SmallVec::new(alloc);
-    marks.push(Mark::Changed(path.copy(alloc)?))?;
+    let marks = SmallVec::from_buf(alloc, [Mark::Changed(path.copy(alloc)?)]);
     Ok(Footprint { marks, depths })
 }
 
@@ -153,24 +150,22 @@ fn limited_above(alloc: Global, path: &Path, tree: &Tree) -> Result<Vec<u32>, Al
 }
 
 // Adds those of these groups.
-fn push_limited(depths: &mut Vec<u32>, mut above: Ancestors<'_>) -> Result<(), AllocError>
+fn push_limited(depths: &mut Vec<u32>, above: Ancestors<'_>) -> Result<(), AllocError>
     ensures { OnOk result (depths.new.items ≡ depths.old.items ++ limited_depths above.entry) }
 {
-    let Some(group) = above.next() else {
-        return Ok(());
-    };
-    if !is_limited(group.settings) {
-        return push_limited(depths, above);
+    for group in above {
+        if is_limited(&group) {
+            depths.push(group.depth)?;
+        }
     }
-    depths.push(group.depth)?;
-    push_limited(depths, above)
+    Ok(())
 }
 
 // That of a command which moves a process: the group that it is in stays as well.
 fn of_migration(alloc: Global, pid: u32, path: &Path, tree: &Tree) -> Result<Footprint, AllocError>
     ensures { IfOk result (λ f. f ≡ model.Pid pid ∷ model.N path.now ∷ old_place (place_of tree.now.tree pid)) }
 {
-    let mut marks = SmallVec::new(alloc);
+    let mut marks = SmallVec::with_capacity(alloc, 3)?;
     marks.push(Mark::Process(pid))?;
     marks.push(Mark::Stays(path.copy(alloc)?))?;
     if let Some(place) = tree.location(alloc, pid)? {
@@ -183,10 +178,10 @@ fn of_migration(alloc: Global, pid: u32, path: &Path, tree: &Tree) -> Result<Foo
 }
 
 // Whether the group is there, and its descendants are limited in number.
-fn is_limited(settings: Option<Settings>) -> bool
-    ensures { result ≡ is_limited settings }
+fn is_limited(group: &Ancestor) -> bool
+    ensures { result ≡ is_limited group.now.settings }
 {
-    match settings {
+    match &group.settings {
         Some(settings) => match settings.max_descendants {
             Limit::Max => false,
             Limit::UpTo(_) => true,

@@ -1,5 +1,5 @@
 //! Who holds what at one path.
-ghost use Rattle.std.specs.Prelude.{◌≡◌, ◌+◌, ◌<◌, ℕ, IsTrue, OnErr, OnOk, option_map};
+ghost use Rattle.std.specs.Prelude.{◌≡◌, ◌+◌, ◌<◌, ℕ, IfOk, IsTrue, OnErr, OnOk, option_map};
 ghost use Rattle.cg_locks.specs.Held.{above_of, at_or_below, at_path, here_of, part_of, IsHeldMore};
 ghost use Rattle.cg_locks.specs.Holders.{held_by, number_of, IsLeastOther};
 ghost use Rattle.cg_locks.specs.declared.held.Part.{Part};
@@ -163,9 +163,11 @@ impl Held {
         )
     }
 
-    // One holding more by the transaction in this part. An error, where there is no memory for it, changes nothing.
-    pub(crate) fn add(&mut self, part: Part, transaction: TxnNumber) -> Result<(), AllocError>
+    // One holding more by the transaction in this part, and how many it has there then. An error, where there is no memory
+    // for it, changes nothing.
+    pub(crate) fn add(&mut self, part: Part, transaction: TxnNumber) -> Result<usize, AllocError>
         ensures ok { OnOk result (IsHeldMore self.old part transaction.0 self.new) }
+        ensures count { IfOk result (λ n. n ≡ held_by (part_of part self.old) transaction.0 + 1) }
         ensures err { OnErr result (self.new ≡ self.old) }
     {
         match part {
@@ -179,10 +181,12 @@ impl Held {
         }
     }
 
-    // One holding less by the transaction in this part, where it has one. Takes no memory.
-    pub(crate) fn remove(&mut self, part: Part, transaction: TxnNumber)
+    // One holding less by the transaction in this part, where it has one, and how many are left to it there. Takes no
+    // memory.
+    pub(crate) fn remove(&mut self, part: Part, transaction: TxnNumber) -> usize
         requires { 0 < held_by (part_of part self.old) transaction.0 }
-        ensures { IsHeldMore self.new part transaction.0 self.old }
+        ensures less { IsHeldMore self.new part transaction.0 self.old }
+        ensures left { result + 1 ≡ held_by (part_of part self.old) transaction.0 }
     {
         match part {
             Part::ChangedAt => self.changed.remove(transaction),

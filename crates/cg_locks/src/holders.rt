@@ -1,6 +1,6 @@
 //! The transactions that hold one thing, each with how often.
-ghost use Rattle.std.specs.Prelude.{◌≡◌, ◌+◌, ◌<◌, ◌≤◌, ◌==◌, ℕ, IsTrue, OnErr, OnOk, length, option_map, slice_set};
-ghost use Rattle.std.specs.FinMap.Entries.{find};
+ghost use Rattle.std.specs.Prelude.{◌≡◌, ◌+◌, ◌<◌, ◌≤◌, ◌==◌, ◌++◌, ◌∷◌, ℕ, IfOk, IsTrue, OnErr, OnOk, T, drop, length, option_map, slice_set, suc, take};
+ghost use Rattle.std.specs.FinMap.Entries.{find, is_sorted};
 ghost use Rattle.std.specs.Option.{unwrap_or};
 ghost use Rattle.std.specs.Ordering.{nat_cmp};
 ghost use Rattle.cg_locks.specs.Holders.{held_by, lesser_of, number_of, one, place_of, IsLeastOther};
@@ -70,35 +70,39 @@ impl Holders {
         None
     }
 
-    // One holding more by the transaction. An error, where there is no memory for it, changes nothing.
-    pub(crate) fn add(&mut self, transaction: TxnNumber) -> Result<(), AllocError>
+    // One holding more by the transaction, and how many it has then. An error, where there is no memory for it, changes
+    // nothing.
+    pub(crate) fn add(&mut self, transaction: TxnNumber) -> Result<usize, AllocError>
         ensures ok { OnOk result ((u : ℕ) → held_by self.new u ≡ held_by self.old u + one (u == transaction.0)) }
+        ensures count { IfOk result (λ n. n ≡ held_by self.old transaction.0 + 1) }
         ensures err { OnErr result (self.new ≡ self.old) }
     {
-        let Some(more) = self.count(transaction).checked_add(1) else {
+        let (place, count) = place_in(self.counts.as_slice(), transaction.0);
+        let Some(more) = count.checked_add(1) else {
             return Err(AllocError);
         };
-        let place = place_in(self.counts.as_slice(), transaction.0);
         if more > 1 {
             set_count(self.counts.as_mut_slice(), place, transaction.0, more);
         } else {
-            self.counts.insert(place, (transaction.0, more))?;
+            put_in(&mut self.counts, place, (transaction.0, more))?;
         }
-        Ok(())
+        Ok(more)
     }
 
-    // One holding less by the transaction, which has one. Takes no memory.
-    pub(crate) fn remove(&mut self, transaction: TxnNumber)
+    // One holding less by the transaction, which has one, and how many are left to it. Takes no memory.
+    pub(crate) fn remove(&mut self, transaction: TxnNumber) -> usize
         requires { 0 < held_by self.old transaction.0 }
-        ensures { (u : ℕ) → held_by self.old u ≡ held_by self.new u + one (u == transaction.0) }
+        ensures less { (u : ℕ) → held_by self.old u ≡ held_by self.new u + one (u == transaction.0) }
+        ensures left { result + 1 ≡ held_by self.old transaction.0 }
     {
-        let left = self.count(transaction) - 1;
-        let place = place_in(self.counts.as_slice(), transaction.0);
+        let (place, count) = place_in(self.counts.as_slice(), transaction.0);
+        let left = count - 1;
         if left == 0 {
-            self.counts.remove(place);
+            take_out(&mut self.counts, place);
         } else {
             set_count(self.counts.as_mut_slice(), place, transaction.0, left);
         }
+        left
     }
 }
 
@@ -114,17 +118,52 @@ fn count_in(entries: &[(u32, usize)], transaction: u32) -> usize
     0
 }
 
-// How many lower numbers stand before the place of the transaction's.
-fn place_in(entries: &[(u32, usize)], transaction: u32) -> usize
-    ensures value { result ≡ place_of transaction entries.now }
-    ensures within { result ≤ length entries.now }
+// How many lower numbers stand before the place of the transaction's, and the number that stands beside it there, or 0.
+fn place_in(entries: &[(u32, usize)], transaction: u32) -> (usize, usize)
+    requires { T (is_sorted nat_cmp entries.now) }
+    ensures place { result.0 ≡ place_of transaction entries.now }
+    ensures within { result.0 ≤ length entries.now }
+    ensures count { result.1 ≡ unwrap_or (find nat_cmp transaction entries.now) 0 }
 {
-    for (index, (holder, _count)) in entries.iter().enumerate() {
-        if *holder >= transaction {
-            return index;
+    for (index, (holder, count)) in entries.iter().enumerate() {
+        if *holder == transaction {
+            return (index, *count);
+        }
+        if *holder > transaction {
+            return (index, 0);
         }
     }
-    entries.len()
+    (entries.len(), 0)
+}
+
+// Puts an entry at the place: at the end, most often, where none has to move.
+fn put_in(
+    entries: &mut SmallVec<(u32, usize), 1>,
+    place: usize,
+    entry: (u32, usize),
+) -> Result<(), AllocError>
+    requires { place ≤ length entries.old.items }
+    ensures ok { OnOk result (entries.new.items ≡ take place entries.old.items ++ entry ∷ drop place entries.old.items) }
+    ensures err { OnErr result (entries.new ≡ entries.old) }
+{
+    if place == entries.len() {
+        entries.push(entry)?;
+    } else {
+        entries.insert(place, entry)?;
+    }
+    Ok(())
+}
+
+// Takes the entry at the place out: the last one, most often, where none has to move.
+fn take_out(entries: &mut SmallVec<(u32, usize), 1>, place: usize)
+    requires { place < length entries.old.items }
+    ensures { entries.new.items ≡ take place entries.old.items ++ drop (suc place) entries.old.items }
+{
+    if place == entries.len() - 1 {
+        let _ = entries.pop();
+    } else {
+        entries.remove(place);
+    }
 }
 
 // Writes the entry at that place.

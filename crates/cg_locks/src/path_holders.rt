@@ -86,7 +86,7 @@ impl PathHolders {
                 self.nodes.get(key).least_here(kind, transaction),
                 least_above(&self.nodes, key, kind, transaction),
             ),
-            None => match self.nodes.deepest(path) {
+            None => match self.nodes.deepest_above(path) {
                 Some((key, _depth)) => least_above(&self.nodes, key, kind, transaction),
                 None => None,
             },
@@ -102,7 +102,7 @@ impl PathHolders {
             return false;
         }
         self.nodes.laws();
-        match self.nodes.find_prefix(path, 0) {
+        match self.nodes.root() {
             Some(root) => {
                 let held = self.nodes.get(root);
                 held.least_here(Kind::Changed, transaction).is_none()

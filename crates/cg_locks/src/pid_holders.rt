@@ -42,7 +42,8 @@ pub(crate) fn add(
     ensures err { OnErr result ((k u : ℕ) → held_for holders.new.entries k u ≡ held_for holders.old.entries k u) }
 {
     if let Some(there) = holders.get_mut(&pid) {
-        return there.add(transaction);
+        there.add(transaction)?;
+        return Ok(());
     }
     let mut there = Holders::new(alloc);
     there.add(transaction)?;

@@ -1,7 +1,8 @@
 //! Walks from a node upward, and the nodes that they need.
-ghost use Rattle.std.specs.Prelude.{◌≡◌, ◌<◌, ◌≤◌, true, List, ℕ, IfOk, None, OnErr, OnOk, Some, length, option_map, suc, take, IsSome};
+ghost use Rattle.std.specs.Prelude.{◌≡◌, ◌+◌, ◌<◌, ◌≤◌, true, false, List, ℕ, IfOk, None, OnErr, OnOk, Some, length, option_map, suc, take, IsSome};
 ghost use Rattle.cg_maps.specs.FiniteMap.{get, set_at};
-ghost use Rattle.cg_path_tree.specs.Nodes.{HasParent, IsKey};
+ghost use Rattle.cg_name.specs.Path.{is_root};
+ghost use Rattle.cg_path_tree.specs.Nodes.{parent_path, HasParent, IsKey};
 ghost use Rattle.cg_locks.specs.Held.{above_of, at_path};
 ghost use Rattle.cg_locks.specs.HeldByPath.{in_part, weighed_above, AreSummedUp, HasBranches, HasMoreThanBranches, IsMarkMore, IsOneMoreIn, IsOneMoreUp, IsSameHeld};
 ghost use Rattle.cg_locks.specs.Holders.{held_at, number_of, IsLeastOther};
@@ -30,43 +31,37 @@ pub(crate) fn least_above(
     }
 }
 
-// One holding more by the transaction in this part of the node. An error, where there is no memory for it, changes
-// nothing.
+// One holding more by the transaction in this part of the node, and how many it has there then. An error, where there is no
+// memory for it, changes nothing.
 pub(crate) fn add_at(
     nodes: &mut PathTree<Held>,
     key: NodeKey,
     part: Part,
     transaction: TxnNumber,
-) -> Result<(), AllocError>
+) -> Result<usize, AllocError>
     requires { IsKey nodes.old.keys key }
     ensures keys { nodes.new.keys ≡ nodes.old.keys }
     ensures ok { OnOk result ((p : List (List ℕ)) → get nodes.old.keys p ≡ Some key → IsOneMoreIn nodes.old.values part p transaction.0 nodes.new.values) }
+    ensures count { IfOk result (λ n. (p : List (List ℕ)) → get nodes.old.keys p ≡ Some key → n ≡ held_at (in_part part nodes.old.values) p transaction.0 + 1) }
     ensures err { OnErr result (nodes.new ≡ nodes.old) }
 {
     nodes.get_mut(key).add(part, transaction)
 }
 
-// One holding less by the transaction in this part of the node, where it has one.
+// One holding less by the transaction in this part of the node, where it has one, and how many are left to it there.
 pub(crate) fn remove_at(
     nodes: &mut PathTree<Held>,
     key: NodeKey,
     part: Part,
     transaction: TxnNumber,
-)
+) -> usize
     requires there { IsKey nodes.old.keys key }
     requires held { (p : List (List ℕ)) → get nodes.old.keys p ≡ Some key → 0 < held_at (in_part part nodes.old.values) p transaction.0 }
     ensures keys { nodes.new.keys ≡ nodes.old.keys }
     ensures less { (p : List (List ℕ)) → get nodes.old.keys p ≡ Some key → IsOneMoreIn nodes.new.values part p transaction.0 nodes.old.values }
+    ensures left { (p : List (List ℕ)) → get nodes.old.keys p ≡ Some key → result + 1 ≡ held_at (in_part part nodes.old.values) p transaction.0 }
 {
-    nodes.get_mut(key).remove(part, transaction);
-}
-
-// How often the transaction holds what is in this part of the node.
-fn count_at(nodes: &PathTree<Held>, key: NodeKey, part: Part, transaction: TxnNumber) -> usize
-    requires { IsKey nodes.now.keys key }
-    ensures { (p : List (List ℕ)) → get nodes.now.keys p ≡ Some key → result ≡ held_at (in_part part nodes.now.values) p transaction.0 }
-{
-    nodes.get(key).part(part).count(transaction)
+    nodes.get_mut(key).remove(part, transaction)
 }
 
 // One holding more by the transaction in this part of the node. Where that is its first there, the node above has one more
@@ -84,8 +79,8 @@ fn add_up(
     ensures err { OnErr result (IsSameHeld nodes.old.values nodes.new.values) }
 {
     nodes.laws();
-    add_at(nodes, key, part, transaction)?;
-    if count_at(nodes, key, part, transaction) > 1 {
+    let count = add_at(nodes, key, part, transaction)?;
+    if count > 1 {
         return Ok(());
     }
     let Some(parent) = nodes.parent(key) else {
@@ -108,8 +103,8 @@ fn remove_up(nodes: &mut PathTree<Held>, key: NodeKey, part: Part, transaction: 
     ensures less { (p : List (List ℕ)) → get nodes.old.keys p ≡ Some key → IsOneMoreUp nodes.new.values part p transaction.0 nodes.old.values }
 {
     nodes.laws();
-    remove_at(nodes, key, part, transaction);
-    if count_at(nodes, key, part, transaction) > 0 {
+    let left = remove_at(nodes, key, part, transaction);
+    if left > 0 {
         return;
     }
     if let Some(parent) = nodes.parent(key) {
@@ -177,47 +172,63 @@ pub(crate) fn drop_free(nodes: &mut PathTree<Held>, key: NodeKey)
     }
 }
 
-// Makes a node at a path that has none.
-fn put(nodes: &mut PathTree<Held>, alloc: Global, path: &Path) -> Result<NodeKey, AllocError>
+// Makes a node at a path that has none, right below this one; below none, where it is the root's.
+fn put(
+    nodes: &mut PathTree<Held>,
+    alloc: Global,
+    path: &Path,
+    parent: Option<NodeKey>,
+) -> Result<NodeKey, AllocError>
     requires absent { get nodes.old.keys path.now ≡ None }
-    requires parent { HasParent nodes.old.keys path.now }
+    requires there { HasParent nodes.old.keys path.now }
+    requires root { is_root path.now ≡ true → parent ≡ None }
+    requires parent { is_root path.now ≡ false → parent ≡ get nodes.old.keys (parent_path path.now) }
     ensures keys { IfOk result (λ key. nodes.new.keys ≡ set_at nodes.old.keys path.now (Some key)) }
     ensures held { IsSameHeld nodes.old.values nodes.new.values }
 {
     nodes.laws();
-    let key = nodes.add(alloc, path, Held::new(alloc))?;
+    let key = nodes.add_below(alloc, path, parent, Held::new(alloc))?;
     Ok(key)
 }
 
-// How many names the first path has that has no node, among those with which this one begins, of that many names.
-fn first_missing(nodes: &PathTree<Held>, path: &Path, end: u32) -> u32
+// How many names the first path has that has no node, among those with which this one begins, of that many names; and the
+// node of the one before, if there is one.
+fn first_missing(nodes: &PathTree<Held>, path: &Path, end: u32) -> (u32, Option<NodeKey>)
     requires absent { get nodes.now.keys path.now ≡ None }
     requires end { end ≡ length path.now }
-    ensures within { result ≤ length path.now }
-    ensures absent { (d : ℕ) → result ≤ d → d ≤ length path.now → get nodes.now.keys (take d path.now) ≡ None }
-    ensures there { (d : ℕ) → suc d ≡ result → IsSome (get nodes.now.keys (take d path.now)) }
+    ensures within { result.0 ≤ length path.now }
+    ensures absent { (d : ℕ) → result.0 ≤ d → d ≤ length path.now → get nodes.now.keys (take d path.now) ≡ None }
+    ensures there { (d : ℕ) → suc d ≡ result.0 → IsSome (get nodes.now.keys (take d path.now)) }
+    ensures none { result.0 ≡ 0 → result.1 ≡ None }
+    ensures key { (d : ℕ) → suc d ≡ result.0 → result.1 ≡ get nodes.now.keys (take d path.now) }
 {
-    match nodes.deepest(path) {
-        Some((_, depth)) => end.min(depth.saturating_add(1)),
-        None => 0,
+    match nodes.deepest_by_halving(path) {
+        Some((key, depth)) => (end.min(depth.saturating_add(1)), Some(key)),
+        None => (0, None),
     }
 }
 
-// Makes the nodes that are missing above a path that has none. An error, where there is no memory for them, leaves some of
-// them, which hold nothing.
-fn make_above(nodes: &mut PathTree<Held>, alloc: Global, path: &Path) -> Result<(), AllocError>
+// Makes the nodes that are missing above a path that has none, and gives the one right above. An error, where there is no
+// memory for them, leaves some of them, which hold nothing.
+fn make_above(
+    nodes: &mut PathTree<Held>,
+    alloc: Global,
+    path: &Path,
+) -> Result<Option<NodeKey>, AllocError>
     requires { get nodes.old.keys path.now ≡ None }
     ensures absent { OnOk result (get nodes.new.keys path.now ≡ None) }
-    ensures parent { OnOk result (HasParent nodes.new.keys path.now) }
+    ensures there { OnOk result (HasParent nodes.new.keys path.now) }
+    ensures root { IfOk result (λ parent. is_root path.now ≡ true → parent ≡ None) }
+    ensures parent { IfOk result (λ parent. is_root path.now ≡ false → parent ≡ get nodes.new.keys (parent_path path.now)) }
     ensures held { IsSameHeld nodes.old.values nodes.new.values }
 {
     let end = path.depth();
-    let first = first_missing(nodes, path, end);
+    let (first, mut parent) = first_missing(nodes, path, end);
     for depth in first..end {
         let above = path.prefix(alloc, depth)?;
-        put(nodes, alloc, &above)?;
+        parent = Some(put(nodes, alloc, &above, parent)?);
     }
-    Ok(())
+    Ok(parent)
 }
 
 // The node at the path, which it makes where there is none. An error, where there is no memory for it, leaves what was held.
@@ -232,9 +243,10 @@ pub(crate) fn reach(
     if let Some(key) = nodes.find(path) {
         return Ok(key);
     }
-    if nodes.has_parent(path) {
-        return put(nodes, alloc, path);
+    let parent = nodes.find_parent(path);
+    if parent.is_some() || path.is_root() {
+        return put(nodes, alloc, path, parent);
     }
-    make_above(nodes, alloc, path)?;
-    put(nodes, alloc, path)
+    let parent = make_above(nodes, alloc, path)?;
+    put(nodes, alloc, path, parent)
 }

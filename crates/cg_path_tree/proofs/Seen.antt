@@ -29,6 +29,21 @@ module _ {V Z : Type 0} (es : List (String Z × NodeKey)) (nodes : slab.Slab (No
   pub found_is : (p : Path) → find path_cmp p (paths_of es) ≡ get g.keys p
   found_is p = sym (get_by_find (paths_of es) p) ∙ ap (λ v. get v.keys p) is
 
+  no_bytes : (bs : List ℕ) → length bs ≡ 0 → names_in bs ≡ []
+  no_bytes [] h = refl
+  no_bytes (b ∷ bs) h = absurd (omega (arith, h))
+
+  first_found : (xs : List (Path × NodeKey)) (k : NodeKey) → slice_get xs 0 ≡ Some ([], k) → find path_cmp [] xs ≡ Some k
+  first_found [] k h = absurd (some_not_none ([], k) None h refl)
+  first_found (x ∷ xs) k h = ap (λ (y : Path × NodeKey). find path_cmp [] (y ∷ xs)) (same_some x ([], k) h)
+
+  -- an entry that stands first, and has no names, is the root's
+  pub first_is_root : (e : String Z × NodeKey) → slice_get es 0 ≡ Some e → length (string_bytes e.0) ≡ 0 → Some e.1 ≡ get g.keys []
+  first_is_root e there none =
+      let path : names_in (string_bytes e.0) ≡ [] = no_bytes (string_bytes e.0) none in
+      let first : slice_get (paths_of es) 0 ≡ Some ([], e.1) = same_at (λ k. string_bytes k) es 0 ∙ ap (option_map (by_path (λ k. string_bytes k))) there ∙ ap (λ p. Some (p, e.1)) path in
+      sym (first_found (paths_of es) e.1 first) ∙ found_is []
+
   pub value_is : (p : Path) → value_there (node_in nodes) (find path_cmp p (paths_of es)) ≡ get g.values p
   value_is p = sym (get-values (node_in nodes) (paths_of es) (has_nodes (paths_of es) (node_in nodes) count l.tree) p) ∙ ap (λ v. get v.values p) is
 

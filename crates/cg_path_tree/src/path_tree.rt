@@ -1,5 +1,5 @@
 //! Trees of paths.
-ghost use Rattle.std.specs.Prelude.{◌≡◌, ◌↔◌, ◌==◌, Bool, false, true, ◌<◌, ◌≤◌, ℕ, List, Contains, length, take, slice_get, not, is_some, IsTrue, IfOk, IfErr, IfNone, IfSome, OnOk, OnErr, None, Some};
+ghost use Rattle.std.specs.Prelude.{◌≡◌, [], ◌↔◌, ◌==◌, Bool, false, true, ◌<◌, ◌≤◌, ℕ, List, Contains, length, take, slice_get, not, is_some, IsTrue, IfOk, IfErr, IfNone, IfSome, OnOk, OnErr, None, Some};
 ghost use Rattle.std.specs.Borrow.{sem};
 ghost use Rattle.cg_maps.specs.FiniteMap.{empty, entries, get, len, retain, set_at};
 ghost use Rattle.cg_name.specs.Packed.{names_in, IsPacked};
@@ -109,6 +109,19 @@ impl<V: Drop> PathTree<V> {
         self.index.get(parent_text(path)).copied()
     }
 
+    /// The root's node, if there is any node. Takes no memory.
+    pub fn root(&self) -> Option<NodeKey>
+        ensures { result ≡ get self.now.keys [] }
+    {
+        // It is the first that is put in, and the last that goes: its entry stays the first.
+        if let Some((text, key)) = self.index.get_index(0) {
+            if text.as_str().is_empty() {
+                return Some(*key);
+            }
+        }
+        self.index.get("").copied()
+    }
+
     /// The deepest node on the path, and how many names it has, if there is any. Looks at few prefixes, by halving, and
     /// takes no memory.
     pub fn deepest(&self, path: &Path) -> Option<(NodeKey, u32)>
@@ -118,14 +131,37 @@ impl<V: Drop> PathTree<V> {
         ensures deepest { IfSome result (λ r. (d : ℕ) → r.1 < d → d ≤ length path.now → get self.now.keys (take d path.now) ≡ None) }
     {
         self.laws();
-        // Most often it is the path's own node or its parent's.
         if let Some(key) = self.find(path) {
             return Some((key, self.depth(key)));
         }
+        self.deepest_above(path)
+    }
+
+    /// The same for a path that has no node itself.
+    pub fn deepest_above(&self, path: &Path) -> Option<(NodeKey, u32)>
+        requires absent { get self.now.keys path.now ≡ None }
+        ensures none { IfNone result ((d : ℕ) → get self.now.keys (take d path.now) ≡ None) }
+        ensures within { IfSome result (λ r. r.1 ≤ length path.now) }
+        ensures found { IfSome result (λ r. get self.now.keys (take r.1 path.now) ≡ Some r.0) }
+        ensures deepest { IfSome result (λ r. (d : ℕ) → r.1 < d → d ≤ length path.now → get self.now.keys (take d path.now) ≡ None) }
+    {
+        self.laws();
+        // Most often it is the parent's.
         if let Some(key) = self.find_parent(path) {
             return Some((key, self.depth(key)));
         }
-        let mut found = self.find_prefix(path, 0)?;
+        self.deepest_by_halving(path)
+    }
+
+    /// The same as `deepest`, by halving at once: for a path that has neither a node nor a parent's.
+    pub fn deepest_by_halving(&self, path: &Path) -> Option<(NodeKey, u32)>
+        ensures none { IfNone result ((d : ℕ) → get self.now.keys (take d path.now) ≡ None) }
+        ensures within { IfSome result (λ r. r.1 ≤ length path.now) }
+        ensures found { IfSome result (λ r. get self.now.keys (take r.1 path.now) ≡ Some r.0) }
+        ensures deepest { IfSome result (λ r. (d : ℕ) → r.1 < d → d ≤ length path.now → get self.now.keys (take d path.now) ≡ None) }
+    {
+        self.laws();
+        let mut found = self.root()?;
         let mut depth = 0;
         let mut above = path.depth() + 1;
         // There is a node at `depth` names, and none from `above` on.
@@ -279,6 +315,28 @@ impl<V: Drop> PathTree<V> {
         ensures err { OnErr result (self.new ≡ self.old) }
     {
         let parent = self.find_parent(path);
+        self.add_below(alloc, path, parent, value)
+    }
+
+    /// The same, where the node of the path one name shorter is known already, as `find_parent` gives it: the path is looked
+    /// up once.
+    pub fn add_below(
+        &mut self,
+        alloc: Global,
+        path: &Path,
+        parent: Option<NodeKey>,
+        value: V,
+    ) -> Result<NodeKey, AllocFailed<V>>
+        requires absent { get self.old.keys path.now ≡ None }
+        requires there { HasParent self.old.keys path.now }
+        requires root { is_root path.now ≡ true → parent ≡ None }
+        requires parent { is_root path.now ≡ false → parent ≡ get self.old.keys (parent_path path.now) }
+        ensures keys { IfOk result (λ key. self.new.keys ≡ set_at self.old.keys path.now (Some key)) }
+        ensures values { OnOk result (self.new.values ≡ set_at self.old.values path.now (Some value)) }
+        ensures fresh { IfOk result (λ key. ¬ (IsKey self.old.keys key)) }
+        ensures value_returned { IfErr result (λ failed. failed.value ≡ value) }
+        ensures err { OnErr result (self.new ≡ self.old) }
+    {
         let Ok(place) = make_room(&mut self.nodes, parent) else {
             return Err(AllocFailed { value });
         };

@@ -18,7 +18,7 @@ pub returns : goal.returns
 returns c = λ k u. elim c.match-get_mut.branch [
   | in-Some w ↦ for_one_less c.args.holders.now.entries c.match-get_mut.holders.entries c.args.pid (Some w.remove.new.self)
       (ap (λ m. from_entries nat_cmp m.entries) w.holders-is ∙ value_set c.args.holders.now.entries _ c.args.pid w.remove.new.self w.in-Some.there.now (c.get_mut.follows.holds w.remove.new.self).0 (get-view nat_cmp_total nat_cmp-IsAntisymmetric c.args.holders.now c.args.pid ∙ sym w.in-Some.ensures.value))
-      c.args.transaction.0 (λ v. ap (λ r. held_if r v) (get-view nat_cmp_total nat_cmp-IsAntisymmetric c.args.holders.now c.args.pid ∙ sym w.in-Some.ensures.value) ∙ w.remove.ensures v) k u
+      c.args.transaction.0 (λ v. ap (λ r. held_if r v) (get-view nat_cmp_total nat_cmp-IsAntisymmetric c.args.holders.now c.args.pid ∙ sym w.in-Some.ensures.value) ∙ w.remove.ensures.less v) k u
       ∙ ap (λ n. n + one ((k == c.args.pid) && (u == c.args.transaction.0))) (sym (c.drop_empty.ensures k u))
   | in_default w ↦ (let none = ap (λ r. held_if r c.args.transaction.0) (get-view nat_cmp_total nat_cmp-IsAntisymmetric c.args.holders.now c.args.pid ∙ sym w.in_default.ensures.value) in absurd (omega (arith, none, c.requires)))
 ]

@@ -2,7 +2,7 @@
 use Rattle.std.proofs.Common.{◌≡◌, ◌+◌, ◌<◌, suc, length, take, Some, ap, subst, ◌∙◌, arith}
 use Rattle.cg_maps.specs.FiniteMap.{set_at}
 use Rattle.cg_locks.proofs.HeldMaps.{alike_then}
-use Rattle.cg_locks.proofs.Missing.{next_missing, next_reached, AreMissing, IsReached}
+use Rattle.cg_locks.proofs.Missing.{next_last, next_missing, next_reached, AreMissing, IsLast, IsReached}
 use Rattle.cg_locks.proofs.upward.make_above.Goals as goal
 
 pub loop-depth-preserved : goal.loop-depth-preserved
@@ -16,4 +16,5 @@ loop-depth-preserved c =
       held = alike_then c.args.nodes.now.values c.loop-depth.nodes.values c.put.new.nodes.values c.loop-depth.invariant.held c.in_ok-put.ensures.held;
       missing = subst (AreMissing c.put.new.nodes.keys p) next (next_missing c.loop-depth.nodes.keys c.put.new.nodes.keys p d c.in_ok-put.field-0 short put c.loop-depth.invariant.missing);
       reached = subst (IsReached c.put.new.nodes.keys p) next (next_reached c.loop-depth.nodes.keys c.put.new.nodes.keys p d c.in_ok-put.field-0 short put);
+      last = subst (λ n. IsLast c.put.new.nodes.keys p n (Some c.in_ok-put.field-0)) next (next_last c.loop-depth.nodes.keys c.put.new.nodes.keys p d c.in_ok-put.field-0 short put);
     }

@@ -3,4 +3,4 @@ use Rattle.cg_locks.proofs.Missing.{IsMade}
 use Rattle.cg_locks.proofs.upward.make_above.Given as goal
 
 abbrev pub invariant-loop-depth : goal.invariant-loop-depth
-invariant-loop-depth l = IsMade l.fn.nodes.values l.path l.depth l.nodes.values l.nodes.keys
+invariant-loop-depth l = IsMade l.fn.nodes.values l.path l.depth l.parent l.nodes.values l.nodes.keys

@@ -5,4 +5,4 @@ use Rattle.cg_locks.proofs.upward.put.Goals as goal
 
 pub returns-clause-held : goal.returns-clause-held
 returns-clause-held c =
-    made_alike c.args.nodes.now.values c.add.new.self.values c.args.path.now c.new.result (absent_value c.args.nodes.now c.args.path.now (c.laws.ensures.both c.args.path.now) c.requires.absent) c.in_ok-key.ensures.values c.new.ensures
+    made_alike c.args.nodes.now.values c.add_below.new.self.values c.args.path.now c.new.result (absent_value c.args.nodes.now c.args.path.now (c.laws.ensures.both c.args.path.now) c.requires.absent) c.in_ok-key.ensures.values c.new.ensures

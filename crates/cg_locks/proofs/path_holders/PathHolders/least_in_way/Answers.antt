@@ -18,23 +18,23 @@ returns-in-Some c =
     (least_with_node nodes.values c.self.invariant k p t c.get.result.now (option_map number_of c.least_here.result) (option_map number_of c.least_above.result)
     (c.get.ensures p (sym c.in-Some.ensures)) c.least_here.ensures (c.least_above.ensures p (sym c.in-Some.ensures))))
 
-pub returns-in-Some-deepest : goal.returns-in-Some-deepest
-returns-in-Some-deepest c =
+pub returns-in-Some-deepest_above : goal.returns-in-Some-deepest_above
+returns-in-Some-deepest_above c =
     let t = c.args.transaction.0 in
     let p = c.args.path.now in
     let k = c.args.kind in
     let nodes = c.self.inside.nodes in
-    let d = c.in-Some-deepest._depth in
-    subst (λ m. IsLeastOther t (in_way m k p) (option_map number_of c.least_above-in-Some-deepest.result)) c.self.view_is
-    (least_from_deepest nodes.values c.self.invariant k p t (absent_value nodes p (c.laws.ensures.both p) (sym c.in-None.ensures)) d (option_map number_of c.least_above-in-Some-deepest.result) c.in-Some-deepest.ensures.within
-    (λ m low high. absent_value nodes (take m p) (c.laws.ensures.both (take m p)) (c.in-Some-deepest.ensures.deepest m low high))
-    (c.least_above-in-Some-deepest.ensures (take d p) c.in-Some-deepest.ensures.found))
+    let d = c.in-Some-deepest_above._depth in
+    subst (λ m. IsLeastOther t (in_way m k p) (option_map number_of c.least_above-in-Some-deepest_above.result)) c.self.view_is
+    (least_from_deepest nodes.values c.self.invariant k p t (absent_value nodes p (c.laws.ensures.both p) (sym c.in-None.ensures)) d (option_map number_of c.least_above-in-Some-deepest_above.result) c.in-Some-deepest_above.ensures.within
+    (λ m low high. absent_value nodes (take m p) (c.laws.ensures.both (take m p)) (c.in-Some-deepest_above.ensures.deepest m low high))
+    (c.least_above-in-Some-deepest_above.ensures (take d p) c.in-Some-deepest_above.ensures.found))
 
-pub returns-in-None-deepest : goal.returns-in-None-deepest
-returns-in-None-deepest c =
+pub returns-in-None-deepest_above : goal.returns-in-None-deepest_above
+returns-in-None-deepest_above c =
     let t = c.args.transaction.0 in
     let p = c.args.path.now in
     let k = c.args.kind in
     let nodes = c.self.inside.nodes in
     subst (λ m. IsLeastOther t (in_way m k p) None) c.self.view_is
-    (least_of_none nodes.values c.self.invariant k p t (absent_value nodes p (c.laws.ensures.both p) (sym c.in-None.ensures)) (λ m. absent_value nodes (take m p) (c.laws.ensures.both (take m p)) (c.in-None-deepest.ensures.none m)))
+    (least_of_none nodes.values c.self.invariant k p t (absent_value nodes p (c.laws.ensures.both p) (sym c.in-None.ensures)) (λ m. absent_value nodes (take m p) (c.laws.ensures.both (take m p)) (c.in-None-deepest_above.ensures.none m)))

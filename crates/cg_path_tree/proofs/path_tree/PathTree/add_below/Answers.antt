@@ -7,7 +7,7 @@ use Rattle.cg_path_tree.specs.Linked.{NodeView, node_view, node_in, HasRoom, Wri
 use Rattle.cg_path_tree.proofs.Seen.{found_is, parent_key_there}
 use Rattle.cg_path_tree.proofs.Adding.{linked-added, keys-added, values-added, fresh, is_new, parent_node, linked-same}
 use Rattle.cg_path_tree.proofs.Views.{other_number, writes-updates}
-use Rattle.cg_path_tree.proofs.path_tree.PathTree.add.Goals as goal
+use Rattle.cg_path_tree.proofs.path_tree.PathTree.add_below.Goals as goal
 
 -- what the node that goes in says
 abbrev put_in : {V : Type 0} → ℕ → NodeKey → ℕ → ℕ → List NodeKey → V → NodeView V
@@ -29,7 +29,7 @@ module _ {V : Type 0} (made grown put : slab.Slab (Node V)) (k : NodeKey) (numbe
 
 pub make_room-requires : goal.make_room-requires
 make_room-requires g c = record {
-  there = λ k is. parent_key_there c.self.inside.index.entries c.self.inside.nodes c.self.invariant c.args.self.now c.self.view_is c.args.path.now c.find_parent-parent.result c.find_parent-parent.ensures.root c.find_parent-parent.ensures.value k is;
+  there = λ k is. parent_key_there c.self.inside.index.entries c.self.inside.nodes c.self.invariant c.args.self.now c.self.view_is c.args.path.now c.args.parent c.requires.root c.requires.parent k is;
 }
 
 pub invariant_of-self : goal.invariant_of-self
@@ -46,19 +46,19 @@ invariant_of-self-in_default-enter g c =
 pub add_child-requires-clause-there : goal.add_child-requires-clause-there
 add_child-requires-clause-there g c =
     parent_node c.self.inside.index.entries c.enter.new.index.entries c.self.inside.nodes c.self.invariant c.args.self.now c.self.view_is c.args.path.now c.in-Ok-enter.key (put_in c.in-Ok-enter.entry c.unwrap_or.result c.depth.result c.in-Ok.place c.new.result.items c.args.value)
-    c.requires.absent c.requires.parent c.in-Ok-enter.ensures.entries c.in-Ok-enter.ensures.packed c.enter.new.nodes c.insert_reserved.new.self
+    c.requires.absent c.requires.there c.in-Ok-enter.ensures.entries c.in-Ok-enter.ensures.packed c.enter.new.nodes c.insert_reserved.new.self
     (kept c.self.inside.nodes c.make_room.new.nodes c.enter.new.nodes c.in-Ok-enter.ensures.slots c.make_room.ensures.same) (sym (c.make_room.ensures.same c.in-Ok-enter.key) ∙ c.in-Ok-enter.ensures.vacant)
     (put_there c.make_room.new.nodes c.enter.new.nodes c.insert_reserved.new.self c.in-Ok-enter.key c.insert_reserved.result c.in-Ok-enter.ensures.slots c.in-Ok-enter.ensures.key c.insert_reserved.ensures.key c.insert_reserved.ensures.updates)
-    c.in-Ok-enter.ensures.entry c.depth.ensures.value c.new.ensures.items c.find_parent-parent.result c.find_parent-parent.ensures.root c.find_parent-parent.ensures.value c.unwrap_or.ensures
+    c.in-Ok-enter.ensures.entry c.depth.ensures.value c.new.ensures.items c.args.parent c.requires.root c.requires.parent c.unwrap_or.ensures
     c.in-Ok.ensures.place c.in-Ok.ensures.below
 
 pub add_child-requires-clause-room : goal.add_child-requires-clause-room
 add_child-requires-clause-room g c k is =
     let new = is_new c.self.inside.index.entries c.enter.new.index.entries c.self.inside.nodes c.self.invariant c.args.self.now c.self.view_is c.args.path.now c.in-Ok-enter.key (put_in c.in-Ok-enter.entry c.unwrap_or.result c.depth.result c.in-Ok.place c.new.result.items c.args.value)
-    c.requires.absent c.requires.parent c.in-Ok-enter.ensures.entries c.in-Ok-enter.ensures.packed c.enter.new.nodes c.insert_reserved.new.self
+    c.requires.absent c.requires.there c.in-Ok-enter.ensures.entries c.in-Ok-enter.ensures.packed c.enter.new.nodes c.insert_reserved.new.self
     (kept c.self.inside.nodes c.make_room.new.nodes c.enter.new.nodes c.in-Ok-enter.ensures.slots c.make_room.ensures.same) (sym (c.make_room.ensures.same c.in-Ok-enter.key) ∙ c.in-Ok-enter.ensures.vacant)
     (put_there c.make_room.new.nodes c.enter.new.nodes c.insert_reserved.new.self c.in-Ok-enter.key c.insert_reserved.result c.in-Ok-enter.ensures.slots c.in-Ok-enter.ensures.key c.insert_reserved.ensures.key c.insert_reserved.ensures.updates)
-    c.in-Ok-enter.ensures.entry c.depth.ensures.value c.new.ensures.items c.find_parent-parent.result c.find_parent-parent.ensures.root c.find_parent-parent.ensures.value c.unwrap_or.ensures
+    c.in-Ok-enter.ensures.entry c.depth.ensures.value c.new.ensures.items c.args.parent c.requires.root c.requires.parent c.unwrap_or.ensures
     c.in-Ok.ensures.place c.in-Ok.ensures.below k is in
     still_room c.make_room.new.nodes c.enter.new.nodes c.insert_reserved.new.self c.in-Ok-enter.key c.insert_reserved.result c.in-Ok-enter.ensures.slots c.in-Ok-enter.ensures.key c.insert_reserved.ensures.key c.insert_reserved.ensures.updates
     k new (c.in-Ok.ensures.room k is)
@@ -66,38 +66,38 @@ add_child-requires-clause-room g c k is =
 pub invariant_of-self-2 : goal.invariant_of-self-2
 invariant_of-self-2 g c =
     linked-added c.self.inside.index.entries c.enter.new.index.entries c.self.inside.nodes c.self.invariant c.args.self.now c.self.view_is c.args.path.now c.in-Ok-enter.key (put_in c.in-Ok-enter.entry c.unwrap_or.result c.depth.result c.in-Ok.place c.new.result.items c.args.value)
-    c.requires.absent c.requires.parent c.in-Ok-enter.ensures.entries c.in-Ok-enter.ensures.packed c.enter.new.nodes c.insert_reserved.new.self
+    c.requires.absent c.requires.there c.in-Ok-enter.ensures.entries c.in-Ok-enter.ensures.packed c.enter.new.nodes c.insert_reserved.new.self
     (kept c.self.inside.nodes c.make_room.new.nodes c.enter.new.nodes c.in-Ok-enter.ensures.slots c.make_room.ensures.same) (sym (c.make_room.ensures.same c.in-Ok-enter.key) ∙ c.in-Ok-enter.ensures.vacant)
     (put_there c.make_room.new.nodes c.enter.new.nodes c.insert_reserved.new.self c.in-Ok-enter.key c.insert_reserved.result c.in-Ok-enter.ensures.slots c.in-Ok-enter.ensures.key c.insert_reserved.ensures.key c.insert_reserved.ensures.updates)
-    c.in-Ok-enter.ensures.entry c.depth.ensures.value c.new.ensures.items c.find_parent-parent.result c.find_parent-parent.ensures.root c.find_parent-parent.ensures.value c.unwrap_or.ensures
+    c.in-Ok-enter.ensures.entry c.depth.ensures.value c.new.ensures.items c.args.parent c.requires.root c.requires.parent c.unwrap_or.ensures
     c.in-Ok.ensures.place c.in-Ok.ensures.below
     c.add_child.new.nodes c.add_child.ensures.none c.add_child.ensures.some
 
 pub returns-clause-keys : goal.returns-clause-keys
 returns-clause-keys g c =
     keys-added c.self.inside.index.entries c.enter.new.index.entries c.self.inside.nodes c.self.invariant c.args.self.now c.self.view_is c.args.path.now c.in-Ok-enter.key (put_in c.in-Ok-enter.entry c.unwrap_or.result c.depth.result c.in-Ok.place c.new.result.items c.args.value)
-    c.requires.absent c.requires.parent c.in-Ok-enter.ensures.entries c.in-Ok-enter.ensures.packed c.enter.new.nodes c.insert_reserved.new.self
+    c.requires.absent c.requires.there c.in-Ok-enter.ensures.entries c.in-Ok-enter.ensures.packed c.enter.new.nodes c.insert_reserved.new.self
     (kept c.self.inside.nodes c.make_room.new.nodes c.enter.new.nodes c.in-Ok-enter.ensures.slots c.make_room.ensures.same) (sym (c.make_room.ensures.same c.in-Ok-enter.key) ∙ c.in-Ok-enter.ensures.vacant)
     (put_there c.make_room.new.nodes c.enter.new.nodes c.insert_reserved.new.self c.in-Ok-enter.key c.insert_reserved.result c.in-Ok-enter.ensures.slots c.in-Ok-enter.ensures.key c.insert_reserved.ensures.key c.insert_reserved.ensures.updates)
-    c.in-Ok-enter.ensures.entry c.depth.ensures.value c.new.ensures.items c.find_parent-parent.result c.find_parent-parent.ensures.root c.find_parent-parent.ensures.value c.unwrap_or.ensures
+    c.in-Ok-enter.ensures.entry c.depth.ensures.value c.new.ensures.items c.args.parent c.requires.root c.requires.parent c.unwrap_or.ensures
     c.in-Ok.ensures.place c.in-Ok.ensures.below
     c.add_child.new.nodes c.add_child.ensures.none c.add_child.ensures.some
 
 pub returns-clause-values : goal.returns-clause-values
 returns-clause-values g c =
     values-added c.self.inside.index.entries c.enter.new.index.entries c.self.inside.nodes c.self.invariant c.args.self.now c.self.view_is c.args.path.now c.in-Ok-enter.key (put_in c.in-Ok-enter.entry c.unwrap_or.result c.depth.result c.in-Ok.place c.new.result.items c.args.value)
-    c.requires.absent c.requires.parent c.in-Ok-enter.ensures.entries c.in-Ok-enter.ensures.packed c.enter.new.nodes c.insert_reserved.new.self
+    c.requires.absent c.requires.there c.in-Ok-enter.ensures.entries c.in-Ok-enter.ensures.packed c.enter.new.nodes c.insert_reserved.new.self
     (kept c.self.inside.nodes c.make_room.new.nodes c.enter.new.nodes c.in-Ok-enter.ensures.slots c.make_room.ensures.same) (sym (c.make_room.ensures.same c.in-Ok-enter.key) ∙ c.in-Ok-enter.ensures.vacant)
     (put_there c.make_room.new.nodes c.enter.new.nodes c.insert_reserved.new.self c.in-Ok-enter.key c.insert_reserved.result c.in-Ok-enter.ensures.slots c.in-Ok-enter.ensures.key c.insert_reserved.ensures.key c.insert_reserved.ensures.updates)
-    c.in-Ok-enter.ensures.entry c.depth.ensures.value c.new.ensures.items c.find_parent-parent.result c.find_parent-parent.ensures.root c.find_parent-parent.ensures.value c.unwrap_or.ensures
+    c.in-Ok-enter.ensures.entry c.depth.ensures.value c.new.ensures.items c.args.parent c.requires.root c.requires.parent c.unwrap_or.ensures
     c.in-Ok.ensures.place c.in-Ok.ensures.below
     c.add_child.new.nodes c.add_child.ensures.none c.add_child.ensures.some
 
 pub returns-clause-fresh : goal.returns-clause-fresh
 returns-clause-fresh g c =
     fresh c.self.inside.index.entries c.enter.new.index.entries c.self.inside.nodes c.self.invariant c.args.self.now c.self.view_is c.args.path.now c.in-Ok-enter.key (put_in c.in-Ok-enter.entry c.unwrap_or.result c.depth.result c.in-Ok.place c.new.result.items c.args.value)
-    c.requires.absent c.requires.parent c.in-Ok-enter.ensures.entries c.in-Ok-enter.ensures.packed c.enter.new.nodes c.insert_reserved.new.self
+    c.requires.absent c.requires.there c.in-Ok-enter.ensures.entries c.in-Ok-enter.ensures.packed c.enter.new.nodes c.insert_reserved.new.self
     (kept c.self.inside.nodes c.make_room.new.nodes c.enter.new.nodes c.in-Ok-enter.ensures.slots c.make_room.ensures.same) (sym (c.make_room.ensures.same c.in-Ok-enter.key) ∙ c.in-Ok-enter.ensures.vacant)
     (put_there c.make_room.new.nodes c.enter.new.nodes c.insert_reserved.new.self c.in-Ok-enter.key c.insert_reserved.result c.in-Ok-enter.ensures.slots c.in-Ok-enter.ensures.key c.insert_reserved.ensures.key c.insert_reserved.ensures.updates)
-    c.in-Ok-enter.ensures.entry c.depth.ensures.value c.new.ensures.items c.find_parent-parent.result c.find_parent-parent.ensures.root c.find_parent-parent.ensures.value c.unwrap_or.ensures
+    c.in-Ok-enter.ensures.entry c.depth.ensures.value c.new.ensures.items c.args.parent c.requires.root c.requires.parent c.unwrap_or.ensures
     c.in-Ok.ensures.place c.in-Ok.ensures.below

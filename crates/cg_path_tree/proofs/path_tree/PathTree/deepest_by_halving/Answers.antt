@@ -2,7 +2,7 @@
 use Rattle.std.proofs.Common.{◌≡◌, ◌+◌, ◌-◌, ◌/◌, ℕ, take, None, sym, ◌∙◌, arith}
 use Rattle.cg_maps.specs.FiniteMap.{get}
 use Rattle.cg_path_tree.proofs.Prefixes.{none_below}
-use Rattle.cg_path_tree.proofs.path_tree.PathTree.deepest.Goals as goal
+use Rattle.cg_path_tree.proofs.path_tree.PathTree.deepest_by_halving.Goals as goal
 
 pub returns-in_err-found-clause-none : goal.returns-in_err-found-clause-none
 returns-in_err-found-clause-none g c =
@@ -12,7 +12,7 @@ pub loop-above-preserved : goal.loop-above-preserved
 loop-above-preserved g c =
     let i = c.loop-above.invariant in
     let middle : ℕ = c.loop-above.depth + (c.loop-above.above - c.loop-above.depth) / 2 in
-    let none : get c.args.self.now.keys (take middle c.args.path.now) ≡ None = sym c.find_prefix-in-loop-above.ensures ∙ c.in-None.is in (
+    let none : get c.args.self.now.keys (take middle c.args.path.now) ≡ None = sym c.find_prefix.ensures ∙ c.in-None.is in (
       omega arith,
       omega arith,
       i.2,

@@ -1,7 +1,7 @@
 use Rattle.std.proofs.Common.{◌≡◌, ◌-◌, ◌+◌, ◌<◌, ◌≤◌, ℕ, length, take, None, Some}
 use Rattle.cg_maps.specs.FiniteMap.{get}
 use Rattle.cg_path_tree.specs.Nodes.{AreClosed}
-use Rattle.cg_path_tree.proofs.path_tree.PathTree.deepest.Given as goal
+use Rattle.cg_path_tree.proofs.path_tree.PathTree.deepest_by_halving.Given as goal
 
 abbrev pub invariant-loop-above : goal.invariant-loop-above
 invariant-loop-above g l =
