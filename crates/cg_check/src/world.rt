@@ -263,7 +263,8 @@ impl<'a> Pass<'a> {
                 "a group stands in one line alone",
             ));
         }
-        self.tree.set_group(path, settings)
+        self.tree.set_group(path, settings)?;
+        Ok(())
     }
 
     // Takes a process.

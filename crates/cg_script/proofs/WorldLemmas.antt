@@ -1,6 +1,6 @@
 -- Lines that are taken up to the first that ends a world.
 use Rattle.std.proofs.Common.{◌≡◌, ℕ, ◌+◌, ◌<◌, ◌≤◌, List, [], ◌∷◌, ◌++◌, length, sym, ap, ◌∙◌, refl, subst, inl, inr, arith, append-nil, append_assoc, length-append, true≢false}
-use Rattle.std.specs.Prelude.{◌⊎◌, Option, Some, None, IfSome, Result, Ok, Err, IfOk, OnOk}
+use Rattle.std.specs.Prelude.{◌⊎◌, Option, Some, None, IfSome, Result, Ok, Err, OnOk}
 use Rattle.std.specs.List.{AllByRecursion}
 use Rattle.std.specs.Io.KnownBytes.{Consumes}
 use Rattle.std.proofs.lemmas.List.{append_cancel_left}
@@ -309,14 +309,14 @@ stops_at_end (Some text) (Some rest) gathered line h = record {
 }
 
 -- what two facts of an outcome that is no error say together
-pub both_ok : {A E : Type 0} (r : Result A E) (P Q R : A → Type 0) → ((x : A) → P x → Q x → R x) → IfOk r P → IfOk r Q → IfOk r R
-both_ok (Ok x) P Q R f p q = f x p q
-both_ok (Err e) P Q R f p q = tt
+pub both_ok : {A E P Q R : Type 0} (r : Result A E) → (P → Q → R) → OnOk r P → OnOk r Q → OnOk r R
+both_ok (Ok x) f p q = f p q
+both_ok (Err e) f p q = tt
 
 -- and three
-pub three_ok : {A E S : Type 0} (r : Result A E) (P Q R : A → Type 0) → ((x : A) → P x → Q x → S → R x) → IfOk r P → IfOk r Q → OnOk r S → IfOk r R
-three_ok (Ok x) P Q R f p q s = f x p q s
-three_ok (Err e) P Q R f p q s = tt
+pub three_ok : {A E P Q R S : Type 0} (r : Result A E) → (P → Q → R → S) → OnOk r P → OnOk r Q → OnOk r R → OnOk r S
+three_ok (Ok x) f p q s = f p q s
+three_ok (Err e) f p q s = tt
 
 err_same : {T E : Type 0} {x y : E} → ◌≡◌ {A = Result T E} (Err x) (Err y) → x ≡ y
 err_same e = cc

@@ -31,22 +31,22 @@ pub fn read_world<S: Source>(
 {
     let mut part = Part::new();
     'lines: loop {
-        part = take_line(alloc, reader, part)?;
+        take_line(alloc, reader, &mut part)?;
         if part.world.has_ended() {
             return part.finish(alloc);
         }
     }
 }
 
-// Takes the reader's next line into the part.
+// Takes the reader's next line into the part, of which nothing is told after a fault.
 fn take_line<S: Source>(
     alloc: Global,
     reader: &mut LineReader<S>,
-    part: Part,
-) -> Result<Part, ScriptFault>
-    ensures taken { IfOk result (λ next. (start : Option (List ℕ)) → IsPart start part.world part.bytes (pending reader.old) → IsPartBehind start next.world next.bytes (pending reader.new)) }
+    part: &mut Part,
+) -> Result<(), ScriptFault>
+    ensures taken { OnOk result ((start : Option (List ℕ)) → IsPart start part.old.world part.old.bytes (pending reader.old) → IsPartBehind start part.new.world part.new.bytes (pending reader.new)) }
     ensures progress { OnOk result (bytes_to_come reader.new < bytes_to_come reader.old) }
-    ensures syntax { IsErrOf result faults.Syntax → (start : Option (List ℕ)) → IsPart start part.world part.bytes (pending reader.old) → IfSome start HasNoWorld }
+    ensures syntax { IsErrOf result faults.Syntax → (start : Option (List ℕ)) → IsPart start part.old.world part.old.bytes (pending reader.old) → IfSome start HasNoWorld }
     ensures reads { IsErrOf result faults.ReadFault → CanBreak reader.new.failed_before reader.new.failures reader.new.reads }
     ensures writes { ¬ (IsErrOf result faults.WriteFault) }
 {
@@ -82,11 +82,12 @@ impl Part {
         }
     }
 
-    // The part with a line more, of so many bytes with its newline. `Syntax` where it is bad or too much.
-    fn take(self, alloc: Global, line: &[u8], bytes: usize) -> Result<Part, ScriptFault>
-        ensures taken { IfOk result (λ next. (lines : List Line) → HasTaken self.world lines → HasTaken next.world (lines ++ line.now ∷ [])) }
-        ensures counted { IfOk result (λ next. next.bytes ≡ self.bytes + bytes) }
-        ensures syntax { IsErrOf result faults.Syntax → (lines : List Line) → HasTaken self.world lines → SpoilWorld (lines ++ line.now ∷ []) (self.bytes + bytes) }
+    // Takes a line more, of so many bytes with its newline. `Syntax` where it is bad or too much. After a fault nothing is
+    // told of the part.
+    fn take(&mut self, alloc: Global, line: &[u8], bytes: usize) -> Result<(), ScriptFault>
+        ensures taken { OnOk result ((lines : List Line) → HasTaken self.old.world lines → HasTaken self.new.world (lines ++ line.now ∷ [])) }
+        ensures counted { OnOk result (self.new.bytes ≡ self.old.bytes + bytes) }
+        ensures syntax { IsErrOf result faults.Syntax → (lines : List Line) → HasTaken self.old.world lines → SpoilWorld (lines ++ line.now ∷ []) (self.old.bytes + bytes) }
         ensures reads { ¬ (IsErrOf result faults.ReadFault) }
         ensures writes { ¬ (IsErrOf result faults.WriteFault) }
     {
@@ -94,27 +95,28 @@ impl Part {
             return Err(ScriptFault::Syntax);
         }
         match self.world.take_line(alloc, line) {
-            Ok(world) => Ok(Part {
-                world,
-                bytes: self.bytes + bytes,
-            }),
+            Ok(()) => {
+                self.bytes += bytes;
+                Ok(())
+            }
             Err(Refusal::Syntax) => Err(ScriptFault::Syntax),
             Err(_) => Err(ScriptFault::Memory),
         }
     }
 
-    // The part with the text's last line, which has no newline. `Syntax` where it ends no world, too.
-    fn take_last(self, alloc: Global, line: &[u8]) -> Result<Part, ScriptFault>
-        ensures taken { IfOk result (λ next. (lines : List Line) → HasTaken self.world lines → HasTaken next.world (lines ++ line.now ∷ [])) }
-        ensures counted { IfOk result (λ next. next.bytes ≡ self.bytes + length line.now) }
-        ensures ended { OnOk result ((lines : List Line) → HasTaken self.world lines → SomeEnds (lines ++ line.now ∷ [])) }
-        ensures syntax { IsErrOf result faults.Syntax → (lines : List Line) → HasTaken self.world lines → SpoilEnd lines line.now (self.bytes + length line.now) }
+    // Takes the text's last line, which has no newline. `Syntax` where it ends no world, too. After a fault nothing is told
+    // of the part.
+    fn take_last(&mut self, alloc: Global, line: &[u8]) -> Result<(), ScriptFault>
+        ensures taken { OnOk result ((lines : List Line) → HasTaken self.old.world lines → HasTaken self.new.world (lines ++ line.now ∷ [])) }
+        ensures counted { OnOk result (self.new.bytes ≡ self.old.bytes + length line.now) }
+        ensures ended { OnOk result ((lines : List Line) → HasTaken self.old.world lines → SomeEnds (lines ++ line.now ∷ [])) }
+        ensures syntax { IsErrOf result faults.Syntax → (lines : List Line) → HasTaken self.old.world lines → SpoilEnd lines line.now (self.old.bytes + length line.now) }
         ensures reads { ¬ (IsErrOf result faults.ReadFault) }
         ensures writes { ¬ (IsErrOf result faults.WriteFault) }
     {
-        let part = self.take(alloc, line, line.len())?;
-        if part.world.has_ended() {
-            Ok(part)
+        self.take(alloc, line, line.len())?;
+        if self.world.has_ended() {
+            Ok(())
         } else {
             Err(ScriptFault::Syntax)
         }

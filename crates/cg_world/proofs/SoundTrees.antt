@@ -1,5 +1,5 @@
 -- Soundness, part by part.
-use Rattle.std.proofs.Common.{◌≡◌, ◌↔◌, suc, ◌-◌, Bool, true, false, IsTrue, cond, not, ◌||◌, List, [], ◌∷◌, take, length, Option, Some, None, is_some, IfSome, refl, sym, ap, subst, ◌∙◌, true≢false, arith}
+use Rattle.std.proofs.Common.{◌≡◌, ◌↔◌, suc, ◌-◌, Bool, true, false, IsTrue, cond, not, ◌||◌, ◌&&◌, List, [], ◌∷◌, take, length, Option, Some, None, IfSome, Bor, option_copied, refl, sym, ap, subst, ◌∙◌, true≢false, arith}
 use Rattle.std.specs.declared.cmp.Ordering.{Ordering}
 use Rattle.std.specs.Ordering.{eq_by_cmp}
 use Rattle.std.specs.Cmp.{IsTotalOrder}
@@ -13,7 +13,7 @@ use Rattle.cg_maps.specs.FiniteMap.{FiniteMap, from_entries, get}
 use Rattle.cg_maps.specs.FiniteSet.{is_empty_set}
 use Rattle.cg_maps.proofs.Maps.{here, is_same, get-from_entries}
 use Rattle.cg_name.specs.Name.{Name, same_name}
-use Rattle.cg_name.specs.Path.{Path, is_root, is_parent}
+use Rattle.cg_name.specs.Path.{Path, is_root, is_parent, is_prefix}
 use Rattle.cg_name.specs.Order.{name_cmp_total, name_cmp_exact}
 use Rattle.cg_name.proofs.Packing.{same_name-is, same_name-itself}
 use Rattle.cg_name.specs.declared.controller.Controller.{Controller}
@@ -23,7 +23,7 @@ use Rattle.cg_text.specs.declared.controllers.Controllers.{Controllers}
 use Rattle.cg_text.specs.declared.settings.Settings.{Settings}
 use Rattle.cg_model.specs.Tree.{Tree, group}
 use Rattle.cg_model.specs.Sound.{Sound, IsChildOf, IsRootOf, admits}
-use Rattle.cg_world.specs.Soundness.{HasSoundRoot, HasSoundGroups, HasSoundPlaces, IsSoundGroup, IsSoundPlace}
+use Rattle.cg_world.specs.Soundness.{HasNoParent, HasParent, HasSoundRoot, HasSoundGroups, HasSoundPlaces, IsSoundGroup, IsSoundPlace}
 
 -- ---- tests
 
@@ -103,6 +103,26 @@ front_has_child (n ∷ p) e =
     let k : suc (length p) - 1 ≡ length p = omega arith in
     ap (λ i. is_parent (take i (n ∷ p)) (n ∷ p)) k ∙ front_is_parent n p
 
+-- of a path one name longer, what it begins with is the parent
+pub parent_by_prefix : (q p : Path) → length p - length q ≡ 1 → is_prefix q p ≡ is_parent q p
+parent_by_prefix [] [] e = absurd (omega arith)
+parent_by_prefix [] (m ∷ []) e = refl
+parent_by_prefix [] (m ∷ k ∷ p) e = absurd (omega arith)
+parent_by_prefix (n ∷ q) [] e = refl
+parent_by_prefix (n ∷ q) (m ∷ p) e = ap (λ b. same_name n m && b) (parent_by_prefix q p (omega arith))
+
+and_false : (b : Bool) → (b && false) ≡ false
+and_false true = refl
+and_false false = refl
+
+-- and of another one nothing is
+pub no_parent_by_depth : (q p : Path) → (length p - length q ≡ 1 → ⊥) → is_parent q p ≡ false
+no_parent_by_depth [] [] h = refl
+no_parent_by_depth (n ∷ q) [] h = refl
+no_parent_by_depth [] (m ∷ []) h = absurd (h (omega arith))
+no_parent_by_depth [] (m ∷ k ∷ p) h = refl
+no_parent_by_depth (n ∷ q) (m ∷ p) h = ap (λ b. same_name n m && b) (no_parent_by_depth q p (λ e. h (omega arith))) ∙ and_false (same_name n m)
+
 -- ---- what holds of each entry holds where the map answers
 
 module _ {K X : Type 0} {R : K → K → Ordering} (o : IsTotalOrder R) (same : IsAntisymmetric R) (P : K → X → Type 0) where
@@ -148,12 +168,18 @@ group_is T p s u r below e h = (
   λ g. let x = g (take (length p - 1) p) (front_has_child p below) in h.1 (subst (λ v. IsChildOf v s) (same_Some _ _ (sym x.1 ∙ e)) x.2),
 )
 
-pub no_parent : (T : Tree) (p : Path) (s : Settings) → is_root p ≡ false → group T (take (length p - 1) p) ≡ None → IsSoundGroup T p s → ⊥
-no_parent T p s below e g = let x = g (take (length p - 1) p) (front_has_child p below) in none-some _ (sym e ∙ x.1)
+-- where a parent has the settings u
+pub parent_is : (T : Tree) (p : Path) (s : Settings) (q : Path) (u : Settings) (r : Bool) → HasParent T q u p → (IsTrue r ↔ IsChildOf u s) → IsTrue r ↔ IsSoundGroup T p s
+parent_is T p s q u r h child = group_is T p s u r (below_root q p h.1) (ap (group T) (sym (parent_is_front q p h.1)) ∙ h.0) child
 
-pub some_is_below : {X : Type 0} (o : Option X) (x : X) (b : Bool) → o ≡ Some x → is_some o ≡ not b → b ≡ false
-some_is_below o x true e h = absurd (true≢false (sym (ap is_some e) ∙ h))
-some_is_below o x false e h = refl
+pub no_parent : (T : Tree) (p : Path) (s : Settings) → is_root p ≡ false → HasNoParent T p → IsSoundGroup T p s → ⊥
+no_parent T p s below none g =
+    let front : Path = take (length p - 1) p in
+    let x = g front (front_has_child p below) in none-some _ (sym (none front (front_has_child p below)) ∙ x.1)
+
+pub only_none : {X : Type 0} (o : Option X) → ((x : X) → o ≡ Some x → ⊥) → o ≡ None
+only_none None h = refl
+only_none (Some x) h = absurd (h x refl)
 
 pub some_is : {X : Type 0} (P : X → Type 0) (o : Option X) (x : X) → o ≡ Some x → IfSome o P → P x
 some_is P o x e h = subst (λ o. IfSome o P) e h
@@ -163,3 +189,8 @@ place_is T p s r e a = (
   λ t. (s, e, a ∙ t),
   λ g. sym a ∙ ap (admits p) (sym (same_Some _ _ (sym g.1 ∙ e))) ∙ g.2,
 )
+
+-- what holds of what a reference leads to holds of what it is known to be
+pub copied_is : {X : Type 0} (P : X → Type 0) (o : Option (Bor X)) (x : X) → IfSome o (λ b. P b.now) → option_copied o ≡ Some x → P x
+copied_is P None x h e = absurd (none-some _ e)
+copied_is P (Some b) x h e = subst P (same_Some _ _ e) h

@@ -1,9 +1,21 @@
 -- The parts of a tree's soundness, each of which is one question of the code.
-use Rattle.std.specs.Prelude.{◌≡◌, ℕ, true, [], Some}
+use Rattle.std.specs.Prelude.{◌≡◌, ℕ, true, [], Some, None}
 use Rattle.cg_name.specs.Path.{Path, is_parent}
 use Rattle.cg_text.specs.declared.settings.Settings.{Settings}
 use Rattle.cg_model.specs.Tree.{Tree, group, place_of}
 use Rattle.cg_model.specs.Sound.{IsChildOf, IsRootOf, admits}
+
+-- the group at this path has these settings
+abbrev pub HasGroup : Tree → Path → Settings → Type 0
+HasGroup T p s = group T p ≡ Some s
+
+-- the group at q has the settings u, and is the parent of that at p
+abbrev pub HasParent : Tree → Path → Settings → Path → Type 0
+HasParent T q u p = (group T q ≡ Some u) × (is_parent q p ≡ true)
+
+-- no group is the parent of that at p
+abbrev pub HasNoParent : Tree → Path → Type 0
+HasNoParent T p = (q : Path) → is_parent q p ≡ true → group T q ≡ None
 
 -- the root is a group with a root's settings
 abbrev pub HasSoundRoot : Tree → Type 0

@@ -1,6 +1,6 @@
 //! Trees in plain ordered maps, sound or not.
-ghost use Rattle.std.specs.Prelude.{◌≡◌, IfOk, IfErr, OnOk, OnErr, Some, Option};
-ghost use Rattle.std.specs.Option.{option_copied};
+ghost use Rattle.std.specs.Prelude.{◌≡◌, IfOk, IfErr, IfSome, OnOk, OnErr, Some, Option, is_some};
+ghost use Rattle.std.specs.Option.{option_copied, option_map};
 ghost use Rattle.std.specs.Ordering.{nat_cmp};
 ghost use Rattle.cg_maps.specs.FiniteMap.{set_at, empty, from_entries};
 ghost use Rattle.cg_name.specs.Path.{path_cmp};
@@ -87,6 +87,14 @@ impl PlainTree {
         self.groups.get(path).copied()
     }
 
+    // The path and the settings of the group at this path, where there is one.
+    pub(crate) fn entry(&self, path: &Path) -> Option<(&Path, &Settings)>
+        ensures key { IfSome result (λ e. e.0.now ≡ path.now) }
+        ensures value { option_map (λ e. e.1.now) result ≡ group self.now path.now }
+    {
+        self.groups.get_key_value(path)
+    }
+
     /// The group of a process, where there is one with this PID.
     pub fn location(&self, pid: u32) -> Option<&Path>
         ensures { option_copied result ≡ place_of self.now pid }
@@ -94,30 +102,32 @@ impl PlainTree {
         self.places.get(&pid)
     }
 
-    /// Makes the group at this path, or gives it these settings. An error, where there is no memory, leaves the tree as it
-    /// was.
-    pub fn set_group(&mut self, path: Path, settings: Settings) -> Result<(), AllocError>
+    /// Makes the group at this path, or gives it these settings, and answers whether there was one. An error, where there is
+    /// no memory, leaves the tree as it was.
+    pub fn set_group(&mut self, path: Path, settings: Settings) -> Result<bool, AllocError>
         ensures ok { OnOk result (self.new ≡ record self.old { groups = set_at self.old.groups path (Some settings) }) }
+        ensures had { IfOk result (λ had. had ≡ is_some (group self.old path)) }
         ensures err { OnErr result (self.new ≡ self.old) }
     {
         // The path and the CPUs tell what holds of them.
         let _ = path.names();
         let _ = settings.cpus.contains(0);
-        self.groups.insert(path, settings)?;
-        Ok(())
+        let former = self.groups.insert(path, settings)?;
+        Ok(former.is_some())
     }
 
-    /// Puts the process with this PID, from 1 to 4,194,303, into the group at this path. An error, where there is no
-    /// memory, leaves the tree as it was.
-    pub fn set_place(&mut self, pid: u32, path: Path) -> Result<(), AllocError>
+    /// Puts the process with this PID, from 1 to 4,194,303, into the group at this path, and answers whether there was one. An
+    /// error, where there is no memory, leaves the tree as it was.
+    pub fn set_place(&mut self, pid: u32, path: Path) -> Result<bool, AllocError>
         requires { IsPid pid }
         ensures ok { OnOk result (self.new ≡ record self.old { places = set_at self.old.places pid (Some path) }) }
+        ensures had { IfOk result (λ had. had ≡ is_some (place_of self.old pid)) }
         ensures err { OnErr result (self.new ≡ self.old) }
     {
         // The path tells what holds of it.
         let _ = path.names();
-        self.places.insert(pid, path)?;
-        Ok(())
+        let former = self.places.insert(pid, path)?;
+        Ok(former.is_some())
     }
 
     /// An equal tree; an error where there is no memory for it.

@@ -1,10 +1,12 @@
 //! Whether a plain tree is sound.
-ghost use Rattle.std.specs.Prelude.{◌≡◌, ◌↔◌, IsTrue, IfOk, IfErr, OnOk};
+ghost use Rattle.std.specs.Prelude.{◌≡◌, ◌↔◌, false, length, IsTrue, IfOk, IfErr, IfSome, OnOk, Some, None, is_some};
+ghost use Rattle.std.specs.Option.{option_copied};
 ghost use Rattle.std.specs.Result.{IsErrOf};
+ghost use Rattle.cg_name.specs.Path.{is_parent, is_root};
 ghost use Rattle.cg_name.specs.Refusal.{IsSyntaxOrMemory};
 ghost use Rattle.cg_name.specs.declared.refusal.Refusal.TheVariants.{Memory};
 ghost use Rattle.cg_model.specs.Sound.{Sound, IsChildOf, IsRootOf};
-ghost use Rattle.cg_world.specs.Soundness.{HasSoundRoot, HasSoundGroups, HasSoundPlaces, IsSoundGroup, IsSoundPlace};
+ghost use Rattle.cg_world.specs.Soundness.{HasGroup, HasParent, HasNoParent, HasSoundRoot, HasSoundGroups, HasSoundPlaces, IsSoundGroup, IsSoundPlace};
 
 use crate::plain::PlainTree;
 use cg_name::{Path, Refusal};
@@ -46,33 +48,104 @@ fn may_be_root(tree: &PlainTree, settings: &Settings) -> bool
     settings.control.is_subset(&tree.controllers()) && !settings.freeze && settings.cpus.is_empty()
 }
 
+// A group of a tree.
+#[derive(Clone, Copy)]
+struct Found<'a> {
+    path: &'a Path,
+    settings: &'a Settings,
+    // How many names the path has.
+    depth: u32,
+    ghost counted: { depth ≡ length path.now },
+}
+
+impl<'a> Found<'a> {
+    // The group at this path, with these settings.
+    fn new(path: &'a Path, settings: &'a Settings) -> Found<'a>
+        ensures path { result.path.now ≡ path.now }
+        ensures settings { result.settings.now ≡ settings.now }
+    {
+        Found {
+            path,
+            settings,
+            depth: path.depth(),
+        }
+    }
+
+    // Whether this group is the parent of the other.
+    fn is_parent_of(&self, other: &Found) -> bool
+        ensures { result ≡ is_parent self.now.path.now other.now.path.now }
+    {
+        other.depth.saturating_sub(self.depth) == 1 && self.path.is_prefix(other.path)
+    }
+}
+
 // Whether each group may be where it is.
 fn has_sound_groups(tree: &PlainTree, alloc: Global) -> Result<bool, AllocError>
     ensures { IfOk result (λ sound. IsTrue sound ↔ HasSoundGroups tree.now) }
 {
+    let mut before = None;
+    let mut parent = None;
     for (path, settings) in tree.groups() {
-        if !is_sound_group(tree, alloc, path, settings)? {
+        let child = Found::new(path, settings);
+        parent = sound_parent(tree, alloc, child, before, parent)?;
+        if parent.is_none() {
             return Ok(false);
         }
+        before = Some(child);
     }
     Ok(true)
 }
 
-// Whether a group with these settings may be at this path.
-fn is_sound_group(
-    tree: &PlainTree,
+// The parent of a group that may be where it is, which for the root is itself; none where the group may not.
+fn sound_parent<'a>(
+    tree: &'a PlainTree,
     alloc: Global,
-    path: &Path,
-    settings: &Settings,
-) -> Result<bool, AllocError>
-    ensures { IfOk result (λ sound. IsTrue sound ↔ IsSoundGroup tree.now path.now settings.now) }
+    child: Found<'a>,
+    before: Option<Found<'a>>,
+    last: Option<Found<'a>>,
+) -> Result<Option<Found<'a>>, AllocError>
+    requires child { HasGroup tree.now child.path.now child.settings.now }
+    requires before { IfSome before (λ g. HasGroup tree.now g.path.now g.settings.now) }
+    requires last { IfSome last (λ g. HasGroup tree.now g.path.now g.settings.now) }
+    ensures sound { IfOk result (λ parent. IsTrue (is_some parent) ↔ IsSoundGroup tree.now child.entry.path.now child.entry.settings.now) }
+    ensures known { IfOk result (λ parent. IfSome parent (λ g. HasGroup tree.now g.path.now g.settings.now)) }
 {
-    let Some(parent) = path.parent(alloc)? else {
-        return Ok(true);
-    };
-    match tree.settings(&parent) {
-        Some(parent_settings) => Ok(may_be_child(&parent_settings, settings)),
-        None => Ok(false),
+    if child.path.is_root() {
+        return Ok(Some(child));
+    }
+    match find_parent(tree, alloc, child, before, last)? {
+        Some(parent) if may_be_child(parent.settings, child.settings) => Ok(Some(parent)),
+        _ => Ok(None),
+    }
+}
+
+// The parent of a group that isn't the root. In the order of the paths it is nearly always the group before, or the parent
+// that was found last.
+fn find_parent<'a>(
+    tree: &'a PlainTree,
+    alloc: Global,
+    child: Found<'a>,
+    before: Option<Found<'a>>,
+    last: Option<Found<'a>>,
+) -> Result<Option<Found<'a>>, AllocError>
+    requires below { is_root child.path.now ≡ false }
+    requires before { IfSome before (λ g. HasGroup tree.now g.path.now g.settings.now) }
+    requires last { IfSome last (λ g. HasGroup tree.now g.path.now g.settings.now) }
+    ensures found { IfOk result (λ parent. IfSome parent (λ g. HasParent tree.now g.path.now g.settings.now child.entry.path.now)) }
+    ensures none { IfOk result (λ parent. parent ≡ None → HasNoParent tree.now child.entry.path.now) }
+{
+    match before {
+        Some(near) if near.is_parent_of(&child) => return Ok(before),
+        _ => {}
+    }
+    match last {
+        Some(near) if near.is_parent_of(&child) => return Ok(last),
+        _ => {}
+    }
+    let path = child.path.prefix(alloc, child.depth.saturating_sub(1))?;
+    match tree.entry(&path) {
+        Some((path, settings)) => Ok(Some(Found::new(path, settings))),
+        None => Ok(None),
     }
 }
 
@@ -88,20 +161,33 @@ fn may_be_child(parent: &Settings, settings: &Settings) -> bool
 fn has_sound_places(tree: &PlainTree) -> bool
     ensures { IsTrue result ↔ HasSoundPlaces tree.now }
 {
+    // Processes of one group often stand together.
+    let mut before = None;
     for (_pid, path) in tree.places() {
-        if !is_sound_place(tree, path) {
+        if !is_same(before, path) && !is_sound_place(tree, path) {
             return false;
         }
+        before = Some(path);
     }
     true
+}
+
+// Whether there is a path before, and it is this one.
+fn is_same(before: Option<&Path>, path: &Path) -> bool
+    ensures { IsTrue result → option_copied before.entry ≡ Some path.now }
+{
+    match before {
+        Some(before) => before == path,
+        None => false,
+    }
 }
 
 // Whether the path is that of a group that may have processes.
 fn is_sound_place(tree: &PlainTree, path: &Path) -> bool
     ensures { IsTrue result ↔ IsSoundPlace tree.now path.now }
 {
-    match tree.settings(path) {
-        Some(settings) => path.is_root() || settings.control.is_empty(),
+    match tree.entry(path) {
+        Some((_, settings)) => path.is_root() || settings.control.is_empty(),
         None => false,
     }
 }

@@ -26,6 +26,11 @@ taken (Processes v T) (Process k p) = cond (is_some (place_of T k)) None (Some (
 taken (Processes v T) End = Some (Ended v T)
 taken _ _ = None
 
+-- the stage behind the groups, where a line of a process is taken as where the groups are
+abbrev pub behind_groups : Stage → Stage
+behind_groups (Groups v T) = Processes v T
+behind_groups stage = stage
+
 -- a line of a process has a PID
 abbrev pub HasPid : Statement → Type 0
 HasPid (Process k p) = IsPid k

@@ -39,22 +39,20 @@ impl WorldReader {
         }
     }
 
-    /// The reader behind one line more, which is given without its newline. `Syntax` where no lines that begin with
-    /// those taken and this one spell a tree, so a bad world is refused at its line; `Memory` where there is none for
-    /// what the line says.
-    pub fn take_line(self, alloc: Global, line: &[u8]) -> Result<WorldReader, Refusal>
-        ensures taken { IfOk result (λ next. (lines : List Line) → HasTaken self lines → HasTaken next (lines ++ line.now ∷ [])) }
-        ensures begins { OnOk result ((lines : List Line) → HasTaken self lines → BeginTree (lines ++ line.now ∷ [])) }
-        ensures syntax { IsErrOf result Refusal.Syntax → (lines : List Line) → HasTaken self lines → ¬ (BeginTree (lines ++ line.now ∷ [])) }
+    /// Takes one line more, which is given without its newline. `Syntax` where no lines that begin with those taken and
+    /// this one spell a tree, so a bad world is refused at its line; `Memory` where there is none for what the line says.
+    /// After an error nothing is told of the reader.
+    pub fn take_line(&mut self, alloc: Global, line: &[u8]) -> Result<(), Refusal>
+        ensures taken { OnOk result ((lines : List Line) → HasTaken self.old lines → HasTaken self.new (lines ++ line.now ∷ [])) }
+        ensures begins { OnOk result ((lines : List Line) → HasTaken self.old lines → BeginTree (lines ++ line.now ∷ [])) }
+        ensures syntax { IsErrOf result Refusal.Syntax → (lines : List Line) → HasTaken self.old lines → ¬ (BeginTree (lines ++ line.now ∷ [])) }
         ensures refusals { IfErr result IsSyntaxOrMemory }
     {
         let Some(words) = read_words(alloc, line)? else {
-            return Ok(self);
+            return Ok(());
         };
         let statement = Statement::read(alloc, self.stage.version(), words.as_slice())?;
-        Ok(WorldReader {
-            stage: self.stage.take(alloc, statement)?,
-        })
+        self.stage.take(alloc, statement)
     }
 
     /// Whether one of the lines says `end`. Behind it lines can be taken that say nothing.

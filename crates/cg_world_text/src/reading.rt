@@ -31,7 +31,7 @@ impl ReadWorld for World {
         }
         let mut reader = WorldReader::new();
         for line in text.split(|byte| *byte == b'\n') {
-            reader = reader.take_line(alloc, line)?;
+            reader.take_line(alloc, line)?;
         }
         reader.finish(alloc)
     }

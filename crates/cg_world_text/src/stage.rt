@@ -1,18 +1,23 @@
 //! How far a world text was read.
-ghost use Rattle.std.specs.Prelude.{◌≡◌, IfOk, IfErr, Some, None};
+ghost use Rattle.std.specs.Prelude.{◌≡◌, IfErr, OnErr, OnOk, Some, None, true, false, is_some};
 ghost use Rattle.std.specs.Result.{IsErrOf};
 ghost use Rattle.cg_name.specs.Refusal.{IsSyntaxOrMemory};
-ghost use Rattle.cg_world_text.specs.declared.stage.Stage.TheVariants.{Groups, Processes};
-ghost use Rattle.cg_world_text.specs.declared.statement.Statement.TheVariants.{Group, Process};
-ghost use Rattle.cg_world_text.specs.Stage.{HasPid, taken, version_at};
+ghost use Rattle.cg_name.specs.declared.refusal.Refusal.TheVariants.{Syntax};
+ghost use Rattle.cg_model.specs.Tree.{group, place_of};
+ghost use Rattle.cg_world.specs.Making.{with_group, with_process};
 ghost use Rattle.cg_world.specs.Representable.{IsPid};
+ghost use Rattle.cg_world_text.specs.declared.statement.Statement.TheVariants as statements;
+ghost use Rattle.cg_world_text.specs.declared.statement.Statement.TheVariants.{Online, Group, Process, End};
+ghost use Rattle.cg_world_text.specs.Stage.{HasPid, behind_groups, taken, version_at};
 
 use crate::statement::Statement;
 use crate::version::Version;
+use cg_cpus::CpuSet;
 use cg_name::{Path, Refusal};
 use cg_text::{Controllers, Settings};
 use cg_world::PlainTree;
 use std::alloc::Global;
+use std::mem;
 
 // What was read of a world text so far.
 #[derive(Drop)]
@@ -46,78 +51,145 @@ impl Stage {
         }
     }
 
-    // The stage behind one line more; `Syntax` where the line can't stand there.
-    pub(crate) fn take(self, alloc: Global, statement: Statement) -> Result<Stage, Refusal>
+    // Takes one line more; `Syntax` where the line can't stand there. After an error nothing is told of the stage.
+    pub(crate) fn take(&mut self, alloc: Global, statement: Statement) -> Result<(), Refusal>
         requires { HasPid statement }
-        ensures value { IfOk result (λ next. taken self statement ≡ Some next) }
-        ensures syntax { IsErrOf result Refusal.Syntax → taken self statement ≡ None }
+        ensures value { OnOk result (taken self.old statement ≡ Some self.new) }
+        ensures syntax { IsErrOf result Refusal.Syntax → taken self.old statement ≡ None }
+        ensures refusals { IfErr result IsSyntaxOrMemory }
+    {
+        match statement {
+            Statement::Group(path, settings) => self.take_group(path, settings),
+            Statement::Process(pid, path) => self.take_process(pid, path),
+            Statement::End => self.take_end(),
+            Statement::Version(version) => self.take_version(version),
+            Statement::Controllers(controllers) => self.take_controllers(controllers),
+            Statement::Online(online) => self.take_online(alloc, online),
+        }
+    }
+
+    // Takes the line of a group.
+    fn take_group(&mut self, path: Path, settings: Settings) -> Result<(), Refusal>
+        ensures value { OnOk result (taken self.old (Group path settings) ≡ Some self.new) }
+        ensures syntax { IsErrOf result Refusal.Syntax → taken self.old (Group path settings) ≡ None }
         ensures refusals { IfErr result IsSyntaxOrMemory }
     {
         match self {
-            Stage::Begun => match statement {
-                Statement::Version(version) => Ok(Stage::Versioned(version)),
-                _ => Err(Refusal::Syntax),
-            },
-            Stage::Versioned(version) => match statement {
-                Statement::Controllers(controllers) => Ok(Stage::Controlled(version, controllers)),
-                _ => Err(Refusal::Syntax),
-            },
-            Stage::Controlled(version, controllers) => match statement {
-                Statement::Online(online) => Ok(Stage::Groups(
-                    version,
-                    PlainTree::new(alloc, controllers, online),
-                )),
-                _ => Err(Refusal::Syntax),
-            },
-            Stage::Groups(version, tree) => match statement {
-                Statement::Group(path, settings) => add_group(version, tree, path, settings),
-                Statement::Process(pid, path) => add_process(version, tree, pid, path),
-                Statement::End => Ok(Stage::Ended(version, tree)),
-                _ => Err(Refusal::Syntax),
-            },
-            Stage::Processes(version, tree) => match statement {
-                Statement::Process(pid, path) => add_process(version, tree, pid, path),
-                Statement::End => Ok(Stage::Ended(version, tree)),
-                _ => Err(Refusal::Syntax),
-            },
-            Stage::Ended(_, _) => Err(Refusal::Syntax),
+            Stage::Groups(_, tree) => add_group(tree, path, settings),
+            _ => Err(Refusal::Syntax),
+        }
+    }
+
+    // Takes the line of a process.
+    fn take_process(&mut self, pid: u32, path: Path) -> Result<(), Refusal>
+        requires { IsPid pid }
+        ensures value { OnOk result (taken self.old (Process pid path) ≡ Some self.new) }
+        ensures syntax { IsErrOf result Refusal.Syntax → taken self.old (Process pid path) ≡ None }
+        ensures refusals { IfErr result IsSyntaxOrMemory }
+    {
+        self.pass_groups();
+        match self {
+            Stage::Processes(_, tree) => add_process(tree, pid, path),
+            _ => Err(Refusal::Syntax),
+        }
+    }
+
+    // Goes on behind the groups, where it is at them.
+    fn pass_groups(&mut self)
+        ensures { self.new ≡ behind_groups self.old }
+    {
+        if !matches!(self, Stage::Groups(_, _)) {
+            return;
+        }
+        if let Stage::Groups(version, tree) = mem::replace(self, Stage::Begun) {
+            *self = Stage::Processes(version, tree);
+        }
+    }
+
+    // Takes the end's line.
+    fn take_end(&mut self) -> Result<(), Refusal>
+        ensures value { OnOk result (taken self.old End ≡ Some self.new) }
+        ensures syntax { OnErr result (taken self.old End ≡ None) }
+        ensures refusals { IfErr result (λ e. e ≡ Syntax) }
+    {
+        match mem::replace(self, Stage::Begun) {
+            Stage::Groups(version, tree) | Stage::Processes(version, tree) => {
+                *self = Stage::Ended(version, tree);
+                Ok(())
+            }
+            _ => Err(Refusal::Syntax),
+        }
+    }
+
+    // Takes the line that names the version.
+    fn take_version(&mut self, version: Version) -> Result<(), Refusal>
+        ensures value { OnOk result (taken self.old (statements.Version version) ≡ Some self.new) }
+        ensures syntax { OnErr result (taken self.old (statements.Version version) ≡ None) }
+        ensures refusals { IfErr result (λ e. e ≡ Syntax) }
+    {
+        match self {
+            Stage::Begun => {
+                *self = Stage::Versioned(version);
+                Ok(())
+            }
+            _ => Err(Refusal::Syntax),
+        }
+    }
+
+    // Takes the line of the computer's controllers.
+    fn take_controllers(&mut self, controllers: Controllers) -> Result<(), Refusal>
+        ensures value { OnOk result (taken self.old (statements.Controllers controllers) ≡ Some self.new) }
+        ensures syntax { OnErr result (taken self.old (statements.Controllers controllers) ≡ None) }
+        ensures refusals { IfErr result (λ e. e ≡ Syntax) }
+    {
+        match *self {
+            Stage::Versioned(version) => {
+                *self = Stage::Controlled(version, controllers);
+                Ok(())
+            }
+            _ => Err(Refusal::Syntax),
+        }
+    }
+
+    // Takes the line of the online CPUs.
+    fn take_online(&mut self, alloc: Global, online: CpuSet) -> Result<(), Refusal>
+        ensures value { OnOk result (taken self.old (Online online) ≡ Some self.new) }
+        ensures syntax { OnErr result (taken self.old (Online online) ≡ None) }
+        ensures refusals { IfErr result (λ e. e ≡ Syntax) }
+    {
+        match *self {
+            Stage::Controlled(version, controllers) => {
+                *self = Stage::Groups(version, PlainTree::new(alloc, controllers, online));
+                Ok(())
+            }
+            _ => Err(Refusal::Syntax),
         }
     }
 }
 
-// The stage behind a group's line.
-fn add_group(
-    version: Version,
-    mut tree: PlainTree,
-    path: Path,
-    settings: Settings,
-) -> Result<Stage, Refusal>
-    ensures value { IfOk result (λ next. taken (Groups version tree) (Group path settings) ≡ Some next) }
-    ensures syntax { IsErrOf result Refusal.Syntax → taken (Groups version tree) (Group path settings) ≡ None }
+// Adds a group to a tree; `Syntax` where it has it already. After an error nothing is told of the tree.
+fn add_group(tree: &mut PlainTree, path: Path, settings: Settings) -> Result<(), Refusal>
+    ensures free { OnOk result (is_some (group tree.old path) ≡ false) }
+    ensures value { OnOk result (tree.new ≡ with_group tree.old path settings) }
+    ensures syntax { IsErrOf result Refusal.Syntax → is_some (group tree.old path) ≡ true }
     ensures refusals { IfErr result IsSyntaxOrMemory }
 {
-    if tree.settings(&path).is_some() {
+    if tree.set_group(path, settings)? {
         return Err(Refusal::Syntax);
     }
-    tree.set_group(path, settings)?;
-    Ok(Stage::Groups(version, tree))
+    Ok(())
 }
 
-// The stage behind a process's line.
-fn add_process(
-    version: Version,
-    mut tree: PlainTree,
-    pid: u32,
-    path: Path,
-) -> Result<Stage, Refusal>
+// Adds a process to a tree; `Syntax` where it has it already. After an error nothing is told of the tree.
+fn add_process(tree: &mut PlainTree, pid: u32, path: Path) -> Result<(), Refusal>
     requires { IsPid pid }
-    ensures value { IfOk result (λ next. taken (Processes version tree) (Process pid path) ≡ Some next) }
-    ensures syntax { IsErrOf result Refusal.Syntax → taken (Processes version tree) (Process pid path) ≡ None }
+    ensures free { OnOk result (is_some (place_of tree.old pid) ≡ false) }
+    ensures value { OnOk result (tree.new ≡ with_process tree.old pid path) }
+    ensures syntax { IsErrOf result Refusal.Syntax → is_some (place_of tree.old pid) ≡ true }
     ensures refusals { IfErr result IsSyntaxOrMemory }
 {
-    if tree.location(pid).is_some() {
+    if tree.set_place(pid, path)? {
         return Err(Refusal::Syntax);
     }
-    tree.set_place(pid, path)?;
-    Ok(Stage::Processes(version, tree))
+    Ok(())
 }

@@ -8,13 +8,16 @@ use Rattle.cg_maps.specs.FiniteMap.{get}
 use Rattle.cg_maps.proofs.TreeMaps.{get-view}
 use Rattle.cg_model.specs.Tree.{place_of}
 use Rattle.cg_world.specs.Soundness.{IsSoundPlace}
-use Rattle.cg_world.proofs.SoundTrees.{each_answer}
+use Rattle.cg_world.proofs.SoundTrees.{copied_is, each_answer}
 use Rattle.cg_world.proofs.soundness.has_sound_places.Goals as goal
+use Rattle.cg_world.proofs.soundness.has_sound_places.Goals.{else-not-is_same-via-then-not-is_same+else-not-is_sound_place, else-not-is_same-via-else-not-is_same}
 
 pub loop-pid-init : goal.loop-pid-init
-loop-pid-init c = λ h.
-    each_answer nat_cmp_total nat_cmp-IsAntisymmetric (λ _. IsSoundPlace c.args.tree.now) c.places-pid-items.result.now.entries c.args.tree.now.places c.places-pid-items.ensures
-    (subst (AllByRecursion (λ e. IsSoundPlace c.args.tree.now e.1)) c.into_iter-pid-iterator.ensures.into_iter_gives.0 h)
+loop-pid-init c = (
+  λ h. each_answer nat_cmp_total nat_cmp-IsAntisymmetric (λ _. IsSoundPlace c.args.tree.now) c.places-pid-items.result.now.entries c.args.tree.now.places c.places-pid-items.ensures
+      (subst (AllByRecursion (λ e. IsSoundPlace c.args.tree.now e.1)) c.into_iter-pid-iterator.ensures.into_iter_gives.0 h),
+  tt,
+)
 
 pub returns-then-not-is_sound_place : goal.returns-then-not-is_sound_place
 returns-then-not-is_sound_place c =
@@ -25,12 +28,18 @@ returns-then-not-is_sound_place c =
     (λ t. absurd (true≢false (sym t)), λ all. absurd (true≢false (sym (c.is_sound_place.ensures.1 (all _ _ here)) ∙ c.if-not-is_sound_place.true)))
 
 pub loop-pid-preserved : goal.loop-pid-preserved
-loop-pid-preserved c = λ h.
-    c.loop-pid.invariant
-    (subst (AllByRecursion (λ e. IsSoundPlace c.args.tree.now e.1)) (sym (rest_more deref_pair _ _ _ _ c.in-Some.is c.next.ensures.steps)) (c.is_sound_place.ensures.0 c.if-not-is_sound_place.false, h))
+loop-pid-preserved c =
+    let here : IsSoundPlace c.args.tree.now c.in-Some.path.now = elim c.else-not-is_same.branch [
+      | else-not-is_same-via-then-not-is_same+else-not-is_sound_place w ↦ w.is_sound_place.ensures.0 w.if-not-is_sound_place.false
+      | else-not-is_same-via-else-not-is_same w ↦ copied_is (IsSoundPlace c.args.tree.now) c.loop-pid.before _ c.loop-pid.invariant.1 (c.is_same.ensures w.if-not-is_same.false)
+    ] in (
+      λ h. c.loop-pid.invariant.0
+          (subst (AllByRecursion (λ e. IsSoundPlace c.args.tree.now e.1)) (sym (rest_more deref_pair _ _ _ _ c.in-Some.is c.next.ensures.steps)) (here, h)),
+      here,
+    )
 
 pub returns : goal.returns
 returns c = (
-  λ _. c.loop-pid.invariant (subst (AllByRecursion (λ e. IsSoundPlace c.args.tree.now e.1)) (sym (rest_all deref_pair _ _ _ c.in-None.is c.next.ensures.steps)) tt),
+  λ _. c.loop-pid.invariant.0 (subst (AllByRecursion (λ e. IsSoundPlace c.args.tree.now e.1)) (sym (rest_all deref_pair _ _ _ c.in-None.is c.next.ensures.steps)) tt),
   λ _. refl,
 )

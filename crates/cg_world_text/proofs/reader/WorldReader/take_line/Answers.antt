@@ -1,7 +1,7 @@
 -- A line of words says what the statement read says.
 use Rattle.std.proofs.Common.{Some, map, ap, subst, sym, ◌∙◌}
 use Rattle.std.specs.Option.{option_map}
-use Rattle.std.proofs.lemmas.Result.{err_from_is_err_and}
+use Rattle.std.proofs.lemmas.Result.{err_from_is_err_and, on_ok_weaker}
 use Rattle.cg_text.specs.Words.{Says}
 use Rattle.cg_world_text.specs.Statement.{SpellsStatement}
 use Rattle.cg_world_text.specs.Stage.{taken, version_at}
@@ -13,41 +13,41 @@ use Rattle.cg_world_text.proofs.reader.WorldReader.take_line.Goals as goal
 pub returns-in_err-words-clause-syntax : goal.returns-in_err-words-clause-syntax
 returns-in_err-words-clause-syntax c =
     let gone = err_from_is_err_and c.from_residual.result c.from_residual.ensures.1 in
-    λ e. taken_no_more c.args.self c.args.line.now (unsaid c.args.self c.args.line.now (c.in_err-words.ensures.syntax (cc (gone.1, gone.2))))
+    λ e. taken_no_more c.args.self.now c.args.line.now (unsaid c.args.self.now c.args.line.now (c.in_err-words.ensures.syntax (cc (gone.1, gone.2))))
 
 pub returns-in_default-clause-taken : goal.returns-in_default-clause-taken
 returns-in_default-clause-taken c =
     let none = subst (Says c.args.line.now) (ap (option_map (λ words. map (λ w. w.now) words.items)) c.in_default.is) c.in_ok-words.ensures.value in
-    taken_silent c.args.self c.args.line.now none
+    taken_silent c.args.self.now c.args.line.now none
 
 pub returns-in_default-clause-begins : goal.returns-in_default-clause-begins
-returns-in_default-clause-begins c = λ lines h. taken_begin c.args.self _ (returns-in_default-clause-taken c lines h)
+returns-in_default-clause-begins c = λ lines h. taken_begin c.args.self.now _ (returns-in_default-clause-taken c lines h)
 
 pub returns-in_err-statement-clause-syntax : goal.returns-in_err-statement-clause-syntax
 returns-in_err-statement-clause-syntax c =
     let said = subst (Says c.args.line.now) (ap (option_map (λ words. map (λ w. w.now) words.items)) c.in-Some.is ∙ ap (λ ws. Some (map (λ w. w.now) ws)) (sym c.as_slice.ensures.value)) c.in_ok-words.ensures.value in
     let version = c.version.ensures ∙ ap version_at c.self.view_is in
     let gone = err_from_is_err_and c.from_residual-in_err-statement.result c.from_residual-in_err-statement.ensures.1 in
-    λ e. taken_no_more c.args.self c.args.line.now
-    (unspoken c.args.self c.args.line.now _ said (λ s h. c.in_err-statement.ensures.syntax (cc (gone.1, gone.2)) s (subst (λ v. SpellsStatement v (map (λ w. w.now) c.as_slice.result.now) s) (sym version) h)))
+    λ e. taken_no_more c.args.self.now c.args.line.now
+    (unspoken c.args.self.now c.args.line.now _ said (λ s h. c.in_err-statement.ensures.syntax (cc (gone.1, gone.2)) s (subst (λ v. SpellsStatement v (map (λ w. w.now) c.as_slice.result.now) s) (sym version) h)))
 
-pub returns-in_err-take-clause-syntax : goal.returns-in_err-take-clause-syntax
-returns-in_err-take-clause-syntax c =
+pub returns-clause-syntax : goal.returns-clause-syntax
+returns-clause-syntax c =
     let said = subst (Says c.args.line.now) (ap (option_map (λ words. map (λ w. w.now) words.items)) c.in-Some.is ∙ ap (λ ws. Some (map (λ w. w.now) ws)) (sym c.as_slice.ensures.value)) c.in_ok-words.ensures.value in
     let version = c.version.ensures ∙ ap version_at c.self.view_is in
     let says = subst (λ v. SpellsStatement v (map (λ w. w.now) c.as_slice.result.now) c.in_ok-statement.statement) version c.in_ok-statement.ensures.value in
-    let gone = err_from_is_err_and c.from_residual-in_err-take.result c.from_residual-in_err-take.ensures.1 in
     λ e.
-    let stuck = ap (λ st. taken st c.in_ok-statement.statement) (sym c.self.view_is) ∙ c.in_err-take.ensures.syntax (cc (gone.1, gone.2)) in
-    taken_no_more c.args.self c.args.line.now (misplaced c.args.self c.args.line.now _ c.in_ok-statement.statement said says stuck)
+    let stuck = ap (λ st. taken st c.in_ok-statement.statement) (sym c.self.view_is) ∙ c.take.ensures.syntax e in
+    taken_no_more c.args.self.now c.args.line.now (misplaced c.args.self.now c.args.line.now _ c.in_ok-statement.statement said says stuck)
 
 pub returns-clause-taken : goal.returns-clause-taken
 returns-clause-taken c =
     let said = subst (Says c.args.line.now) (ap (option_map (λ words. map (λ w. w.now) words.items)) c.in-Some.is ∙ ap (λ ws. Some (map (λ w. w.now) ws)) (sym c.as_slice.ensures.value)) c.in_ok-words.ensures.value in
     let version = c.version.ensures ∙ ap version_at c.self.view_is in
     let says = subst (λ v. SpellsStatement v (map (λ w. w.now) c.as_slice.result.now) c.in_ok-statement.statement) version c.in_ok-statement.ensures.value in
-    let goes = ap (λ st. taken st c.in_ok-statement.statement) (sym c.self.view_is) ∙ c.in_ok-take.ensures.value in
-    taken_spoken c.args.self c.in_ok-take.field-0 c.args.line.now _ c.in_ok-statement.statement said says goes
+    on_ok_weaker c.take.result
+    (λ goes. taken_spoken c.args.self.now c.take.new.self c.args.line.now _ c.in_ok-statement.statement said says (ap (λ st. taken st c.in_ok-statement.statement) (sym c.self.view_is) ∙ goes))
+    c.take.ensures.value
 
 pub returns-clause-begins : goal.returns-clause-begins
-returns-clause-begins c = λ lines h. taken_begin c.in_ok-take.field-0 _ (returns-clause-taken c lines h)
+returns-clause-begins c = on_ok_weaker c.take.result (λ takes lines h. taken_begin c.take.new.self _ (takes lines h)) (returns-clause-taken c)
