@@ -1,5 +1,5 @@
 -- The holders of one thing, changed at one transaction, and the least other among them.
-use Rattle.std.proofs.Common.{◌≡◌, ◌≢◌, ℕ, zero, suc, ◌+◌, ◌<◌, ◌≤◌, ◌==◌, ◌&&◌, nat_lt, true, false, cond, T, ◌⊎◌, inl, inr, List, [], ◌∷◌, Option, Some, None, is_some, unwrap_or, length, Less, Equal, Greater, refl, sym, ap, subst, ◌∙◌, arith}
+use Rattle.std.proofs.Common.{◌≡◌, ◌≢◌, ℕ, zero, suc, ◌+◌, ◌<◌, ◌≤◌, ◌==◌, ◌&&◌, nat_lt, true, false, cond, T, ◌⊎◌, inl, inr, List, [], ◌∷◌, Option, Some, None, is_some, unwrap_or, Less, Equal, Greater, refl, sym, ap, subst, ◌∙◌, arith}
 use Rattle.std.proofs.lemmas.Bool.{eqb-true}
 use Rattle.std.proofs.lemmas.Bool.Decides.{nat_tests}
 use Rattle.std.proofs.lemmas.Map.{lookup-set_value}
@@ -56,13 +56,6 @@ once_less C D t o e is u =
 pub positive_set : (C D : Counts) (t : ℕ) (o : Option ℕ) → D ≡ set_at C t o → IsPositive C → ((n : ℕ) → o ≡ Some n → 0 < n) → IsPositive D
 positive_set C D t o e h k = subst IsPositive (sym e) (λ u n is.
     elim (eq_by_cmp nat_cmp u t) as (λ b. cond b o (get C u) ≡ Some n → 0 < n) [ true ↦ k n | false ↦ h u n ] (sym (maps.get-set_at nat_cmp_total nat_cmp-IsAntisymmetric C t o u) ∙ is))
-
-pub nobody : (es : List (ℕ × ℕ)) → length es ≡ 0 → (u : ℕ) → held_by (from_entries nat_cmp es) u ≡ 0
-nobody [] e u = ap (λ r. unwrap_or r 0) (maps.get-empty nat_cmp u)
-nobody (x ∷ es) e u = absurd (omega (arith, e))
-
-pub nobody_positive : (es : List (ℕ × ℕ)) → es ≡ [] → IsPositive (from_entries nat_cmp es)
-nobody_positive es e u n is = absurd (none-some n (sym (maps.get-empty nat_cmp u) ∙ ap (λ xs. get (from_entries nat_cmp xs) u) (sym e) ∙ is))
 
 -- ---- the least other
 

@@ -3,7 +3,7 @@ use Rattle.std.proofs.Common.{◌≡◌, ℕ, zero, suc, ◌+◌, ◌<◌, ◌==
 use Rattle.std.proofs.lemmas.Bool.Decides.{nat_tests}
 use Rattle.std.specs.FinMap.Entries.{find}
 use Rattle.std.specs.Ordering.{eq_by_cmp}
-use Rattle.cg_maps.specs.FiniteMap.{entries, get, set_at}
+use Rattle.cg_maps.specs.FiniteMap.{empty, entries, get, set_at}
 use Rattle.cg_maps.proofs.Maps as maps
 use Rattle.cg_name.specs.Order.{path_cmp_total, path_cmp_exact}
 use Rattle.cg_name.specs.Path.{Path, path_cmp, is_parent, same_path}
@@ -11,8 +11,8 @@ use Rattle.cg_locks.specs.declared.held.Held.{Held}
 use Rattle.cg_locks.specs.declared.held.Part.{Part}
 use Rattle.cg_locks.specs.Held.{part_of, same_part, IsHeldMore}
 use Rattle.cg_locks.specs.HeldByPath.{in_part, HeldByPath, IsOneMoreIn, IsSameHeld}
-use Rattle.cg_locks.specs.Holders.{Counts, held_at, held_by, held_if, one}
-use Rattle.cg_locks.proofs.Summed.{as_before, changed_at, changed_branches, neither}
+use Rattle.cg_locks.specs.Holders.{Counts, PathCounts, branches, held_at, held_by, held_if, one}
+use Rattle.cg_locks.proofs.Summed.{as_before, changed_at, changed_branches, found_branch, neither}
 
 -- ---- one part, by paths
 
@@ -124,6 +124,32 @@ made_alike T T' p h absent set free = set_alike T T' p (Some h) set (λ r u. fre
 
 pub dropped_alike : (T T' : HeldByPath) (p : Path) (h : Held) → get T p ≡ Some h → T' ≡ set_at T p None → IsFree h → IsSameHeld T T'
 dropped_alike T T' p h there set free = set_alike T T' p None set (λ r u. sym (held_there r T p h u there ∙ free r u))
+
+-- ---- nothing held
+
+pub held_nothing : (T : HeldByPath) → ((p : Path) (h : Held) → get T p ≡ Some h → IsFree h) → (r : Part) (q : Path) (u : ℕ) → held_at (in_part r T) q u ≡ 0
+held_nothing T free r q u = by (get T q) refl
+  where
+    by : (o : Option Held) → get T q ≡ o → held_at (in_part r T) q u ≡ 0
+    by None absent = held_nowhere r T q u absent
+    by (Some h) there = held_there r T q h u there ∙ free q h there r u
+
+no_branches : (T : PathCounts) (q : Path) (u : ℕ) → ((p : Path) → held_at T p u ≡ 0) → branches T q u ≡ 0
+no_branches T q u none = by (branches T q u) refl
+  where
+    by : (n : ℕ) → branches T q u ≡ n → n ≡ 0
+    by zero e = refl
+    by (suc n) e = let x = found_branch T q u (omega (arith, e)) in let low = x.2 in let z = none x.0 in absurd (omega (arith, low, z))
+
+-- all nodes go at once
+pub cleared_alike : (T T' : HeldByPath) → ((r : Part) (q : Path) (u : ℕ) → held_at (in_part r T) q u ≡ 0) → T' ≡ empty → IsSameHeld T T'
+cleared_alike T T' free none = record {
+  at = λ r q u. nothing r u q ∙ sym (free r q u);
+  branched = λ r q u. no_branches (in_part r T') q u (nothing r u) ∙ sym (no_branches (in_part r T) q u (λ p. free r p u));
+}
+  where
+    nothing : (r : Part) (u : ℕ) (q : Path) → held_at (in_part r T') q u ≡ 0
+    nothing r u q = held_nowhere r T' q u (ap (λ M. get M q) none ∙ maps.get-empty path_cmp q)
 
 pub alike_then : (T M T' : HeldByPath) → IsSameHeld T M → IsSameHeld M T' → IsSameHeld T T'
 alike_then T M T' a b = record {

@@ -8,6 +8,7 @@ mod CountedNodes
 mod Counts
 mod Enough
 mod FirstClash
+mod Firsts
 mod HeldMaps
 mod Keys
 mod Marks

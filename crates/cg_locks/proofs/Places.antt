@@ -1,20 +1,17 @@
 -- A short list of numbers, each with a count, changed at the place of one of them.
 use Rattle.std.proofs.Common.{◌≡◌, ◌≢◌, ℕ, suc, ◌+◌, ◌<◌, ◌≤◌, ◌==◌, ◌++◌, nat_lt, Bool, true, false, cond, not, T, ◌⊎◌, inl, inr, List, [], ◌∷◌, Option, Some, None, unwrap_or, drop, length, take, Ordering, Less, Equal, Greater, refl, sym, ap, subst, ◌∙◌, arith}
-use Rattle.std.proofs.Math.ListN.{set, length-set}
+use Rattle.std.proofs.Math.ListN.{set}
 use Rattle.std.proofs.lemmas.Bool.{eq-eqb}
 use Rattle.std.proofs.lemmas.Bool.Decides.{nat_tests}
-use Rattle.std.proofs.lemmas.List.{take-append-le, take_all}
-use Rattle.std.proofs.lemmas.Option.{none-some, same_Some}
+use Rattle.std.proofs.lemmas.Option.{none-some}
 use Rattle.std.specs.Cmp.{nat_cmp_total, eq_by_cmp_equiv}
 use Rattle.std.specs.FinMap.{nat_cmp-IsAntisymmetric}
-use Rattle.std.specs.FinMap.Entries.{find, put, where_key, below_all, is_sorted, is_sorted-put, is_sorted-where_key, by_order, find-put, find-where_key}
-use Rattle.std.specs.List.{refill}
+use Rattle.std.specs.FinMap.Entries.{find, put, below_all, is_sorted, is_sorted-put, is_sorted-where_key, by_order, find-put, find-where_key}
 use Rattle.std.specs.Ordering.{eq_by_cmp, is_eq, is_lt, nat_cmp}
 use Rattle.cg_maps.specs.FiniteMap.{from_entries, set_at}
 use Rattle.cg_maps.proofs.Maps as maps
 use Rattle.cg_maps.proofs.Tests.{and_first, and_second}
-use Rattle.cg_locks.specs.Holders.{Counts, held_by, one, place_of, IsHolderList, IsPositive}
-use Rattle.cg_locks.proofs.Counts.{once_less, once_more, positive_set}
+use Rattle.cg_locks.specs.Holders.{Counts, held_by, place_of, without, IsPositive}
 use Rattle.cg_locks.proofs.Summed.{below_less, none_below}
 
 -- ---- two numbers in order
@@ -85,13 +82,10 @@ module _ (t v : ℕ) where
           none-some n (sym (ap (λ r. cond (is_eq r) (Some e.1) (find nat_cmp t es)) less ∙ none) ∙ some)
 
 module _ (t : ℕ) where
-  abbrev others : List (ℕ × ℕ) → List (ℕ × ℕ)
-  others es = where_key nat_cmp (λ x. not (eq_by_cmp nat_cmp t x)) es
-
-  all_others : (es : List (ℕ × ℕ)) → T (below_all nat_cmp t es) → others es ≡ es
-  all_others [] h = refl
-  all_others (e ∷ es) h =
-      ap (λ r. cond (not (is_eq r)) (e ∷ others es) (others es)) (less_of (nat_cmp t e.0) (and_first _ _ h)) ∙ ap (λ xs. e ∷ xs) (all_others es (and_second _ _ h))
+  pub without_any : (es : List (ℕ × ℕ)) → T (below_all nat_cmp t es) → without t es ≡ es
+  without_any [] h = refl
+  without_any (e ∷ es) h =
+      ap (λ r. cond (not (is_eq r)) (e ∷ without t es) (without t es)) (less_of (nat_cmp t e.0) (and_first _ _ h)) ∙ ap (λ xs. e ∷ xs) (without_any es (and_second _ _ h))
     where
       less_of : (r : Ordering) → T (is_lt r) → r ≡ Less
       less_of Less p = refl
@@ -99,18 +93,18 @@ module _ (t : ℕ) where
       less_of Greater p = absurd p
 
   -- a number taken out of its place
-  pub taken_out : (es : List (ℕ × ℕ)) (n : ℕ) → T (is_sorted nat_cmp es) → find nat_cmp t es ≡ Some n → take (place_of t es) es ++ drop (suc (place_of t es)) es ≡ others es
+  pub taken_out : (es : List (ℕ × ℕ)) (n : ℕ) → T (is_sorted nat_cmp es) → find nat_cmp t es ≡ Some n → take (place_of t es) es ++ drop (suc (place_of t es)) es ≡ without t es
   taken_out [] n h some = absurd (none-some n some)
   taken_out (e ∷ es) n h some = elim (ordered t e.0) [
     | inl l ↦ absurd (not_there l.0)
     | inr o ↦ elim o [
       | inl s ↦
           ap (λ b. take (cond b (suc (place_of t es)) 0) (e ∷ es) ++ drop (suc (cond b (suc (place_of t es)) 0)) (e ∷ es)) s.1
-          ∙ sym (ap (λ r. cond (not (is_eq r)) (e ∷ others es) (others es)) s.0 ∙ all_others es (subst (λ x. T (below_all nat_cmp x es)) (sym s.2) (and_first _ _ h)))
+          ∙ sym (ap (λ r. cond (not (is_eq r)) (e ∷ without t es) (without t es)) s.0 ∙ without_any es (subst (λ x. T (below_all nat_cmp x es)) (sym s.2) (and_first _ _ h)))
       | inr g ↦
           ap (λ b. take (cond b (suc (place_of t es)) 0) (e ∷ es) ++ drop (suc (cond b (suc (place_of t es)) 0)) (e ∷ es)) g.1
           ∙ ap (λ xs. e ∷ xs) (taken_out es n (and_second _ _ h) (sym (ap (λ r. cond (is_eq r) (Some e.1) (find nat_cmp t es)) g.0) ∙ some))
-          ∙ sym (ap (λ r. cond (not (is_eq r)) (e ∷ others es) (others es)) g.0)
+          ∙ sym (ap (λ r. cond (not (is_eq r)) (e ∷ without t es) (without t es)) g.0)
     ]
   ]
     where
@@ -192,9 +186,6 @@ some_there (Some n) low = (n, refl)
 pub held_there : (es : List (ℕ × ℕ)) (C : Counts) (t : ℕ) → from_entries nat_cmp es ≡ C → unwrap_or (find nat_cmp t es) 0 ≡ held_by C t
 held_there es C t view = ap (λ r. unwrap_or r 0) (sym (maps.get-from_entries nat_cmp_total nat_cmp-IsAntisymmetric es t)) ∙ ap (λ M. held_by M t) view
 
-pub is_count : (es ds : List (ℕ × ℕ)) (C : Counts) (t n : ℕ) → ds ≡ es → from_entries nat_cmp es ≡ C → n ≡ unwrap_or (find nat_cmp t ds) 0 → n ≡ held_by C t
-is_count es ds C t n same view e = e ∙ ap (λ xs. unwrap_or (find nat_cmp t xs) 0) same ∙ held_there es C t view
-
 view_by : (es fs : List (ℕ × ℕ)) (t : ℕ) (w : Option ℕ) → ((q : ℕ) → find nat_cmp q fs ≡ cond (eq_by_cmp nat_cmp q t) w (find nat_cmp q es)) → from_entries nat_cmp fs ≡ set_at (from_entries nat_cmp es) t w
 view_by es fs t w h = maps.same_map nat_cmp_total nat_cmp-IsAntisymmetric _ _ (λ q.
     maps.get-from_entries nat_cmp_total nat_cmp-IsAntisymmetric fs q ∙ h q
@@ -206,24 +197,21 @@ pub record IsWritten (es fs : List (ℕ × ℕ)) (t v : ℕ) : Type 0 where
   pub map : from_entries nat_cmp fs ≡ set_at (from_entries nat_cmp es) t (Some v)
   pub sorted : T (is_sorted nat_cmp fs)
 
-put_writes : (es fs : List (ℕ × ℕ)) (t v : ℕ) → T (is_sorted nat_cmp es) → fs ≡ put nat_cmp t v es → IsWritten es fs t v
+pub put_writes : (es fs : List (ℕ × ℕ)) (t v : ℕ) → T (is_sorted nat_cmp es) → fs ≡ put nat_cmp t v es → IsWritten es fs t v
 put_writes es fs t v h e = record {
   map = view_by es fs t (Some v) (λ q. ap (find nat_cmp q) e ∙ find-put nat_cmp nat_cmp_total q t v es);
   sorted = subst (λ xs. T (is_sorted nat_cmp xs)) (sym e) (is_sorted-put nat_cmp nat_cmp_total t v es h);
 }
 
-pub inserted : (es fs : List (ℕ × ℕ)) (t v k : ℕ) → T (is_sorted nat_cmp es) → unwrap_or (find nat_cmp t es) 0 ≡ 0 → IsPositive (from_entries nat_cmp es) → k ≡ place_of t es → fs ≡ take k es ++ (t, v) ∷ drop k es → IsWritten es fs t v
-inserted es fs t v k h none positive at e =
-    put_writes es fs t v h (e ∙ ap (λ n. take n es ++ (t, v) ∷ drop n es) at ∙ put_in t v es (absent (find nat_cmp t es) refl none))
+pub over_is_put : (es : List (ℕ × ℕ)) (t v k : ℕ) → T (is_sorted nat_cmp es) → 0 < unwrap_or (find nat_cmp t es) 0 → k ≡ place_of t es → set es k (t, v) ≡ put nat_cmp t v es
+over_is_put es t v k h low at = let some = some_there (find nat_cmp t es) low in ap (λ n. set es n (t, v)) at ∙ put_over t v es some.0 h some.1
+
+pub new_is_put : (es : List (ℕ × ℕ)) (t v k : ℕ) → IsPositive (from_entries nat_cmp es) → unwrap_or (find nat_cmp t es) 0 ≡ 0 → k ≡ place_of t es → take k es ++ (t, v) ∷ drop k es ≡ put nat_cmp t v es
+new_is_put es t v k positive none at = ap (λ n. take n es ++ (t, v) ∷ drop n es) at ∙ put_in t v es (absent (find nat_cmp t es) refl none)
   where
     absent : (r : Option ℕ) → find nat_cmp t es ≡ r → unwrap_or r 0 ≡ 0 → find nat_cmp t es ≡ None
     absent None is z = is
     absent (Some n) is z = let low : 0 < n = positive t n (maps.get-from_entries nat_cmp_total nat_cmp-IsAntisymmetric es t ∙ is) in absurd (omega (arith, low, z))
-
-pub written : (es fs : List (ℕ × ℕ)) (t v k : ℕ) → T (is_sorted nat_cmp es) → 0 < unwrap_or (find nat_cmp t es) 0 → k ≡ place_of t es → fs ≡ set es k (t, v) → IsWritten es fs t v
-written es fs t v k h low at e =
-    let some = some_there (find nat_cmp t es) low in
-    put_writes es fs t v h (e ∙ ap (λ n. set es n (t, v)) at ∙ put_over t v es some.0 h some.1)
 
 pub placed : (es : List (ℕ × ℕ)) (t k : ℕ) → T (is_sorted nat_cmp es) → 0 < unwrap_or (find nat_cmp t es) 0 → k ≡ place_of t es → k < length es
 placed es t k h low at =
@@ -231,81 +219,23 @@ placed es t k h low at =
     let before = there t es some.0 h some.1 in
     omega (arith, at, before)
 
+pub out_is_without : (es : List (ℕ × ℕ)) (t k : ℕ) → T (is_sorted nat_cmp es) → 0 < unwrap_or (find nat_cmp t es) 0 → k ≡ place_of t es → take k es ++ drop (suc k) es ≡ without t es
+out_is_without es t k h low at = let some = some_there (find nat_cmp t es) low in ap (λ n. take n es ++ drop (suc n) es) at ∙ taken_out t es some.0 h some.1
+
 -- entries of which one is gone
 pub record IsDropped (es fs : List (ℕ × ℕ)) (t : ℕ) : Type 0 where
   pub map : from_entries nat_cmp fs ≡ set_at (from_entries nat_cmp es) t None
   pub sorted : T (is_sorted nat_cmp fs)
 
-pub removed : (es fs : List (ℕ × ℕ)) (t k : ℕ) → T (is_sorted nat_cmp es) → 0 < unwrap_or (find nat_cmp t es) 0 → k ≡ place_of t es → fs ≡ take k es ++ drop (suc k) es → IsDropped es fs t
-removed es fs t k h low at e =
-    let some = some_there (find nat_cmp t es) low in
-    let is : fs ≡ others t es = e ∙ ap (λ n. take n es ++ drop (suc n) es) at ∙ taken_out t es some.0 h some.1 in
-    record {
-      map = view_by es fs t None (λ q.
-          ap (find nat_cmp q) is
-          ∙ find-where_key nat_cmp (λ x. not (eq_by_cmp nat_cmp t x)) q (λ x same. ap (λ y. not (eq_by_cmp nat_cmp t y)) (sym (nat_cmp-IsAntisymmetric q x same))) es
-          ∙ turned (eq_by_cmp nat_cmp t q) (find nat_cmp q es) ∙ ap (λ b. cond b None (find nat_cmp q es)) ((eq_by_cmp_equiv nat_cmp_total).symm t q));
-      sorted = subst (λ xs. T (is_sorted nat_cmp xs)) (sym is) (is_sorted-where_key nat_cmp (λ x. not (eq_by_cmp nat_cmp t x)) es h);
-    }
+pub without_drops : (es fs : List (ℕ × ℕ)) (t : ℕ) → T (is_sorted nat_cmp es) → fs ≡ without t es → IsDropped es fs t
+without_drops es fs t h is = record {
+  map = view_by es fs t None (λ q.
+      ap (find nat_cmp q) is
+      ∙ find-where_key nat_cmp (λ x. not (eq_by_cmp nat_cmp t x)) q (λ x same. ap (λ y. not (eq_by_cmp nat_cmp t y)) (sym (nat_cmp-IsAntisymmetric q x same))) es
+      ∙ turned (eq_by_cmp nat_cmp t q) (find nat_cmp q es) ∙ ap (λ b. cond b None (find nat_cmp q es)) ((eq_by_cmp_equiv nat_cmp_total).symm t q));
+  sorted = subst (λ xs. T (is_sorted nat_cmp xs)) (sym is) (is_sorted-where_key nat_cmp (λ x. not (eq_by_cmp nat_cmp t x)) es h);
+}
   where
     turned : (b : Bool) (x : Option ℕ) → cond (not b) x None ≡ cond b None x
     turned true x = refl
     turned false x = refl
-
--- ---- as who holds a thing
-
--- what is written back over a list of the same length
-pub refilled : (es ws : List (ℕ × ℕ)) (k : ℕ) (x : ℕ × ℕ) → ws ≡ set es k x → refill (length es) es ws ≡ set es k x
-refilled es ws k x e =
-    let long : length ws ≡ length es = ap length e ∙ length-set es k x in
-    take-append-le (length es) ws (drop (length ws) es) (omega (arith, long)) ∙ take_all (length es) ws (omega (arith, long)) ∙ e
-
-module _ (es : List (ℕ × ℕ)) (C : Counts) (t : ℕ) (view : from_entries nat_cmp es ≡ C) (list : IsHolderList es) where
-  has_place : 0 < held_by C t → 0 < unwrap_or (find nat_cmp t es) 0
-  has_place low = let same = held_there es C t view in omega (arith, same, low)
-
-  pub within_list : (k : ℕ) → 0 < held_by C t → k ≡ place_of t es → k < length es
-  within_list k low at = placed es t k list.sorted (has_place low) at
-
-  written_list : (fs : List (ℕ × ℕ)) (v : ℕ) → IsWritten es fs t v → 0 < v → IsHolderList fs
-  written_list fs v w low = record {
-    sorted = w.sorted;
-    positive = positive_set (from_entries nat_cmp es) (from_entries nat_cmp fs) t (Some v) w.map list.positive (λ n e. let is : v ≡ n = same_Some v n e in omega (arith, is, low));
-  }
-
-  module _ (fs : List (ℕ × ℕ)) (v k : ℕ) (at : k ≡ place_of t es) where
-    module _ (low : 0 < held_by C t) (set : fs ≡ set es k (t, v)) where
-      over : IsWritten es fs t v
-      over = written es fs t v k list.sorted (has_place low) at set
-
-      pub list_over : 0 < v → IsHolderList fs
-      list_over = written_list fs v over
-
-      pub more_over : v ≡ held_by C t + 1 → (u : ℕ) → held_by (from_entries nat_cmp fs) u ≡ held_by C u + one (u == t)
-      more_over = once_more C (from_entries nat_cmp fs) t v (over.map ∙ ap (λ M. set_at M t (Some v)) view)
-
-      pub less_over : held_by C t ≡ v + 1 → (u : ℕ) → held_by C u ≡ held_by (from_entries nat_cmp fs) u + one (u == t)
-      less_over = once_less C (from_entries nat_cmp fs) t (Some v) (over.map ∙ ap (λ M. set_at M t (Some v)) view)
-
-    module _ (none : held_by C t ≡ 0) (put : fs ≡ take k es ++ (t, v) ∷ drop k es) where
-      new : IsWritten es fs t v
-      new = inserted es fs t v k list.sorted (held_there es C t view ∙ none) list.positive at put
-
-      pub list_new : 0 < v → IsHolderList fs
-      list_new = written_list fs v new
-
-      pub more_new : v ≡ held_by C t + 1 → (u : ℕ) → held_by (from_entries nat_cmp fs) u ≡ held_by C u + one (u == t)
-      more_new = once_more C (from_entries nat_cmp fs) t v (new.map ∙ ap (λ M. set_at M t (Some v)) view)
-
-  module _ (fs : List (ℕ × ℕ)) (k : ℕ) (at : k ≡ place_of t es) (low : 0 < held_by C t) (left : fs ≡ take k es ++ drop (suc k) es) where
-    gone : IsDropped es fs t
-    gone = removed es fs t k list.sorted (has_place low) at left
-
-    pub list_gone : IsHolderList fs
-    list_gone = record {
-      sorted = gone.sorted;
-      positive = positive_set (from_entries nat_cmp es) (from_entries nat_cmp fs) t None gone.map list.positive (λ n e. absurd (none-some n e));
-    }
-
-    pub less_gone : held_by C t ≡ 1 → (u : ℕ) → held_by C u ≡ held_by (from_entries nat_cmp fs) u + one (u == t)
-    less_gone last = once_less C (from_entries nat_cmp fs) t None (gone.map ∙ ap (λ M. set_at M t None) view) (last ∙ omega arith)

@@ -1,9 +1,9 @@
 -- Which transactions hold one thing, and how often; and the same of things by paths.
-use Rattle.std.specs.Prelude.{◌≡◌, ◌≢◌, ℕ, zero, suc, ◌+◌, ◌<◌, ◌≤◌, nat_lt, Bool, cond, T, List, [], ◌∷◌, length, take, Option, Some, None}
-use Rattle.std.specs.FinMap.Entries.{is_sorted}
+use Rattle.std.specs.Prelude.{◌≡◌, ◌≢◌, ℕ, zero, suc, ◌+◌, ◌<◌, ◌≤◌, ◌==◌, nat_lt, not, Bool, cond, T, List, [], ◌∷◌, length, take, Option, Some, None}
+use Rattle.std.specs.FinMap.Entries.{is_sorted, where_key}
 use Rattle.std.specs.List.{count_by, sum_by}
 use Rattle.std.specs.Option.{unwrap_or}
-use Rattle.std.specs.Ordering.{nat_cmp}
+use Rattle.std.specs.Ordering.{eq_by_cmp, nat_cmp}
 use Rattle.cg_maps.specs.FiniteMap.{FiniteMap, entries, from_entries, get}
 use Rattle.cg_name.specs.declared.refusal.TxnNumber.{TxnNumber}
 use Rattle.cg_name.specs.Path.{Path, path_cmp, is_parent, is_prefix, same_path}
@@ -28,6 +28,19 @@ IsPositive C = (u n : ℕ) → get C u ≡ Some n → 0 < n
 pub record IsHolderList (es : List (ℕ × ℕ)) : Type 0 where
   pub sorted : T (is_sorted nat_cmp es)
   pub positive : IsPositive (from_entries nat_cmp es)
+
+-- the first, who holds it n times, and the others; none, where n is 0
+abbrev pub all_holders : ℕ → ℕ → List (ℕ × ℕ) → List (ℕ × ℕ)
+all_holders t n es = cond (n == 0) [] ((t, n) ∷ es)
+
+-- the same, where there are no others without a first
+pub record AreHolders (t n : ℕ) (es : List (ℕ × ℕ)) : Type 0 where
+  pub list : IsHolderList (all_holders t n es)
+  pub alone : n ≡ 0 → es ≡ []
+
+-- the entries but for t's
+abbrev pub without : ℕ → List (ℕ × ℕ) → List (ℕ × ℕ)
+without t es = where_key nat_cmp (λ x. not (eq_by_cmp nat_cmp t x)) es
 
 -- how many lower numbers stand before the place of t
 abbrev pub place_of : ℕ → List (ℕ × ℕ) → ℕ

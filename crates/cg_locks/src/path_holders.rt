@@ -8,13 +8,14 @@ ghost use Rattle.cg_locks.specs.declared.held.Kind.{Kind};
 use crate::counted;
 use crate::held::{Held, Kind, Part};
 use crate::holders::lesser;
-use crate::upward::{add_mark, drop_free, least_above, reach, remove_mark};
+use crate::upward::{add_mark, drop_unheld, least_above, reach, remove_mark};
 use cg_name::{Path, TxnNumber};
 use cg_path_tree::PathTree;
 use std::alloc::{AllocError, Global};
 use std::marker::Model;
 
-// So many nodes stay when nobody holds anything there any more: what is marked again finds its path.
+// So many nodes stay when nobody holds anything there any more: what is marked again finds its path. Once there are more, and
+// nobody holds anything at all, they go together, so that paths which don't come again take no places from those that do.
 const KEPT: usize = 4096;
 
 // Who holds marks at paths. Where there is a node, there is one at each prefix.
@@ -184,7 +185,7 @@ impl PathHolders {
         };
         remove_mark(&mut self.nodes, key, kind, transaction);
         if self.nodes.len() > KEPT {
-            drop_free(&mut self.nodes, key);
+            drop_unheld(&mut self.nodes, key);
         }
     }
 
@@ -218,7 +219,7 @@ impl PathHolders {
         };
         counted::remove(&mut self.nodes, key, depths, transaction);
         if self.nodes.len() > KEPT {
-            drop_free(&mut self.nodes, key);
+            drop_unheld(&mut self.nodes, key);
         }
     }
 }

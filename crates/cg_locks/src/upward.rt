@@ -1,11 +1,12 @@
 //! Walks from a node upward, and the nodes that they need.
-ghost use Rattle.std.specs.Prelude.{◌≡◌, ◌+◌, ◌<◌, ◌≤◌, true, false, List, ℕ, IfOk, None, OnErr, OnOk, Some, length, option_map, suc, take, IsSome};
+ghost use Rattle.std.specs.Prelude.{◌≡◌, ◌+◌, ◌<◌, ◌≤◌, true, false, List, ℕ, IfOk, None, OnErr, OnOk, Some, length, option_map, suc, take, IsSome, IsTrue};
 ghost use Rattle.cg_maps.specs.FiniteMap.{get, set_at};
 ghost use Rattle.cg_name.specs.Path.{is_root};
 ghost use Rattle.cg_path_tree.specs.Nodes.{parent_path, HasParent, IsKey};
 ghost use Rattle.cg_locks.specs.Held.{above_of, at_path};
 ghost use Rattle.cg_locks.specs.HeldByPath.{in_part, weighed_above, AreSummedUp, HasBranches, HasMoreThanBranches, IsMarkMore, IsOneMoreIn, IsOneMoreUp, IsSameHeld};
 ghost use Rattle.cg_locks.specs.Holders.{held_at, number_of, IsLeastOther};
+ghost use Rattle.cg_locks.specs.declared.held.Part.{Part};
 
 use crate::held::{Held, Kind, Part};
 use crate::holders::lesser;
@@ -156,7 +157,7 @@ pub(crate) fn remove_mark(
 }
 
 // Takes out the node where nobody holds anything and no node lies below, and then those above that are so.
-pub(crate) fn drop_free(nodes: &mut PathTree<Held>, key: NodeKey)
+fn drop_free(nodes: &mut PathTree<Held>, key: NodeKey)
     requires { IsKey nodes.old.keys key }
     ensures { IsSameHeld nodes.old.values nodes.new.values }
 {
@@ -169,6 +170,31 @@ pub(crate) fn drop_free(nodes: &mut PathTree<Held>, key: NodeKey)
     if let Some(parent) = parent {
         nodes.laws();
         drop_free(nodes, parent);
+    }
+}
+
+// Whether nobody holds anything at any node. The root's tells of all marks but those on numbers of descendants, which come
+// and go with others: so as a rule it alone is looked at where somebody holds something, and each node once where nobody does.
+fn is_free(nodes: &PathTree<Held>) -> bool
+    ensures { IsTrue result → (r : Part) (q : List (List ℕ)) (u : ℕ) → held_at (in_part r nodes.now.values) q u ≡ 0 }
+{
+    let Some(root) = nodes.root() else {
+        return false;
+    };
+    nodes.get(root).is_empty() && nodes.all(|held| held.is_empty())
+}
+
+// Takes out what is of no use any more: all nodes, where nobody holds anything at any of them, and else this one and those
+// above, as `drop_free` does. The first costs no more than the nodes did that were made since it was last done, and leaves
+// their memory to those to come.
+pub(crate) fn drop_unheld(nodes: &mut PathTree<Held>, key: NodeKey)
+    requires { IsKey nodes.old.keys key }
+    ensures { IsSameHeld nodes.old.values nodes.new.values }
+{
+    if is_free(nodes) {
+        nodes.clear();
+    } else {
+        drop_free(nodes, key);
     }
 }
 

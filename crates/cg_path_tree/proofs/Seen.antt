@@ -18,7 +18,7 @@ use Rattle.cg_path_tree.proofs.ListChanges.{same_some, some_not_none, contains_a
 use Rattle.cg_path_tree.proofs.Finding.{found_at, standing_of, absent_by}
 use Rattle.cg_path_tree.proofs.Indexed.{get_by_find, length-by_paths, by_path, same_at, packed_at}
 use Rattle.cg_path_tree.proofs.Parents.{none_counted, below_parent, not_root, parent_is}
-use Rattle.cg_path_tree.proofs.Views.{there_mapped}
+use Rattle.cg_path_tree.proofs.Views.{some_there, there_mapped, unmap}
 use Rattle.cg_path_tree.proofs.Counting.{count_is, len-from_entries, distinct_from_once}
 use Rattle.cg_path_tree.proofs.Linking.{value_there, has_nodes, get-values, node_found, node_there, one_path}
 
@@ -197,6 +197,20 @@ module _ {V Z : Type 0} (es : List (String Z × NodeKey)) (nodes : slab.Slab (No
       by : (o : Option (String Z × NodeKey)) → slice_get es n.entry ≡ o → (e : String Z × NodeKey) × (slice_get es n.entry ≡ Some e)
       by None none = absurd (entry_there k n key at none)
       by (Some e) some = (e, some)
+
+  -- each entry has a node, and each value is that of an entry's node
+  pub entry_slot : (j number : ℕ) (e : String Z × NodeKey) → slice_get es j ≡ Some e → number ≡ e.1.0 → IsSome (slab.get nodes number)
+  entry_slot j number e there is =
+      let x = l.tree.node_of j (by_path (λ s. string_bytes s) e) (same_at (λ s. string_bytes s) es j ∙ ap (option_map (by_path (λ s. string_bytes s))) there) in
+      subst (λ i. IsSome (slab.get nodes i)) (sym is) (there_mapped node_view (slab.get nodes e.1.0) (ap is_some x.1))
+
+  pub entry_of_value : (p : Path) (v : V) → get g.values p ≡ Some v → (j : ℕ) × (e : String Z × NodeKey) × (n : NodeView V) × (slice_get es j ≡ Some e) × (node_in nodes e.1 ≡ Some n) × (n.value ≡ v)
+  entry_of_value p v h =
+      let k = some_there (get g.keys p) (sym (both_there p) ∙ ap is_some h) in
+      let n = node_of_key p k.0 k.1 in
+      let x = node_at p k.0 n.0 k.1 n.1 in
+      let e = unmap (by_path (λ s. string_bytes s)) (slice_get es x.0) (p, k.0) (sym (same_at (λ s. string_bytes s) es x.0) ∙ x.1) in
+      (x.0, e.0, n.0, e.1, ap (λ (f : Path × NodeKey). node_in nodes f.1) e.2 ∙ n.1, same_some n.0.value v (sym (value_at p k.0 n.0 k.1 n.1) ∙ h))
 
   -- ---- a key is that of a node where the entry with the node's number has it
 

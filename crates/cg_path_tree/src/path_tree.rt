@@ -1,6 +1,7 @@
 //! Trees of paths.
 ghost use Rattle.std.specs.Prelude.{◌≡◌, [], ◌↔◌, ◌==◌, Bool, false, true, ◌<◌, ◌≤◌, ℕ, List, Contains, length, take, slice_get, not, is_some, IsTrue, IfOk, IfErr, IfNone, IfSome, OnOk, OnErr, None, Some};
 ghost use Rattle.std.specs.Borrow.{sem};
+ghost use Rattle.std.specs.Fn.{FnReturnsAt};
 ghost use Rattle.cg_maps.specs.FiniteMap.{empty, entries, get, len, retain, set_at};
 ghost use Rattle.cg_name.specs.Packed.{names_in, IsPacked};
 ghost use Rattle.cg_name.specs.Path.{is_parent, is_root};
@@ -269,6 +270,21 @@ impl<V: Drop> PathTree<V> {
         in_order(alloc, found)
     }
 
+    /// Whether all values pass the test. Looks at each, until one doesn't, and takes no memory.
+    pub fn all<F: Fn(&V) -> bool>(&self, test: F) -> bool
+        requires { F.IsAlwaysCallable test }
+        ensures { IsTrue result → (p : List (List ℕ)) (v : _) → get self.now.values p ≡ Some v → FnReturnsAt F.Fn test v true }
+    {
+        for i in 0..self.index.len() {
+            if let Some((_, key)) = self.index.get_index(i) {
+                if !test(&self.nodes[key.number() as usize].value) {
+                    return false;
+                }
+            }
+        }
+        true
+    }
+
     /// All nodes, in the order of their paths.
     pub fn sorted(&self, alloc: Global) -> Result<Vec<NodeKey>, AllocError>
         ensures { IfOk result (λ found. with_paths self.now.keys found.items ≡ entries self.now.keys) }
@@ -367,5 +383,14 @@ impl<V: Drop> PathTree<V> {
         leave(&mut self.index, &mut self.nodes, node.entry);
         remove_child(&mut self.nodes, node.parent(), node.place);
         node.value
+    }
+
+    /// Takes all nodes out. The memory for as many stays.
+    pub fn clear(&mut self)
+        ensures values { self.new.values ≡ empty }
+        ensures keys { self.new.keys ≡ empty }
+    {
+        self.index.clear();
+        self.nodes.clear();
     }
 }

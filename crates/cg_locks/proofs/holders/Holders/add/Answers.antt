@@ -1,68 +1,76 @@
--- The number there is one more, and the others stay.
-use Rattle.std.proofs.Common.{◌≡◌, ◌+◌, ◌<◌, T, ap, sym, subst, ◌∙◌, arith}
-use Rattle.std.specs.FinMap.Entries.{is_sorted}
-use Rattle.std.specs.Ordering.{nat_cmp}
-use Rattle.cg_locks.specs.Holders.{held_by, place_of}
-use Rattle.cg_locks.proofs.Places.{is_count, list_new, list_over, more_new, more_over, refilled, within_list}
+-- The first has one more, or is new, or one of the others has.
+use Rattle.std.proofs.Common.{◌<◌, arith}
+use Rattle.cg_locks.proofs.Firsts.{are_put, count_before, count_first, count_other, none_held, one_more, put_after, put_before, put_first, put_new, rest_list}
 use Rattle.cg_locks.proofs.holders.Holders.add.Goals as goal
-
-pub place_in-place-requires : goal.place_in-place-requires
-place_in-place-requires c = subst (λ es. T (is_sorted nat_cmp es)) (sym c.as_slice.ensures) c.self.invariant.sorted
 
 pub invariant_of-self : goal.invariant_of-self
 invariant_of-self c =
-    let t = c.args.transaction.0 in
-    let es = c.self.inside.counts.items in
-    let count = is_count es c.as_slice.result.now c.args.self.now t c.place_in-place.result.1 c.as_slice.ensures c.self.view_is c.place_in-place.ensures.count in
-    let low : 0 < held_by c.args.self.now t = omega (arith, c.if-more-gt1.true, c.in-Some.ensures, count) in
-    list_over es c.args.self.now t c.self.view_is c.self.invariant _ c.in-Some.more c.place_in-place.result.0 (c.place_in-place.ensures.place ∙ ap (place_of t) c.as_slice.ensures) low
-    (refilled es c.set_count.new.entries c.place_in-place.result.0 (t, c.in-Some.more) (rw c.as_mut_slice.ensures.value at c.set_count.ensures)) (omega (arith, c.if-more-gt1.true))
+    let f = c.self.inside.first in let n = c.self.inside.times in let es = c.self.inside.others.items in let h = c.self.invariant in let C = c.args.self.now in let t = c.args.transaction.0 in
+    are_put f n es h C c.self.view_is t t 1 es 1 (put_new f n es h C c.self.view_is t c.if-self-eq0.true) (omega arith) (omega arith)
 
-pub invariant_of-self-in-Continue-1 : goal.invariant_of-self-in-Continue-1
-invariant_of-self-in-Continue-1 c =
-    let t = c.args.transaction.0 in
-    let es = c.self.inside.counts.items in
-    let count = is_count es c.as_slice.result.now c.args.self.now t c.place_in-place.result.1 c.as_slice.ensures c.self.view_is c.place_in-place.ensures.count in
-    let none : held_by c.args.self.now t ≡ 0 = omega (arith, c.if-more-gt1.false, c.in-Some.ensures, count) in
-    list_new es c.args.self.now t c.self.view_is c.self.invariant c.put_in.new.entries.items c.in-Some.more c.place_in-place.result.0 (c.place_in-place.ensures.place ∙ ap (place_of t) c.as_slice.ensures) none
-    c.in_ok-put_in.ensures.ok (omega (arith, c.in-Some.ensures))
+pub returns-then-self-eq0-clause-ok : goal.returns-then-self-eq0-clause-ok
+returns-then-self-eq0-clause-ok c =
+    let f = c.self.inside.first in let n = c.self.inside.times in let es = c.self.inside.others.items in let h = c.self.invariant in let C = c.args.self.now in let t = c.args.transaction.0 in
+    let none = none_held f n es h C c.self.view_is t c.if-self-eq0.true in
+    one_more f n es h C c.self.view_is t t 1 es 1 (put_new f n es h C c.self.view_is t c.if-self-eq0.true) (omega (arith, none))
 
-pub put_in-requires : goal.put_in-requires
-put_in-requires c = rw c.as_slice.ensures at c.place_in-place.ensures.within
+pub returns-then-self-eq0-clause-count : goal.returns-then-self-eq0-clause-count
+returns-then-self-eq0-clause-count c =
+    let none = none_held c.self.inside.first c.self.inside.times c.self.inside.others.items c.self.invariant c.args.self.now c.self.view_is c.args.transaction.0 c.if-self-eq0.true in
+    omega (arith, none)
 
-pub set_count-requires : goal.set_count-requires
-set_count-requires c =
-    let t = c.args.transaction.0 in
-    let es = c.self.inside.counts.items in
-    let count = is_count es c.as_slice.result.now c.args.self.now t c.place_in-place.result.1 c.as_slice.ensures c.self.view_is c.place_in-place.ensures.count in
-    let low : 0 < held_by c.args.self.now t = omega (arith, c.if-more-gt1.true, c.in-Some.ensures, count) in
-    rw c.as_mut_slice.ensures.value (within_list es c.args.self.now t c.self.view_is c.self.invariant c.place_in-place.result.0 low (c.place_in-place.ensures.place ∙ ap (place_of t) c.as_slice.ensures))
+pub invariant_of-self-then-self-transaction : goal.invariant_of-self-then-self-transaction
+invariant_of-self-then-self-transaction c =
+    let f = c.self.inside.first in let n = c.self.inside.times in let es = c.self.inside.others.items in let h = c.self.invariant in let C = c.args.self.now in let t = c.args.transaction.0 in
+    are_put f n es h C c.self.view_is t f c.in-Some.more es c.in-Some.more (put_first f n es h C c.self.view_is t c.if-self-eq0.false c.if-self-transaction.true c.in-Some.more (omega (arith, c.in-Some.ensures))) (omega (arith, c.in-Some.ensures)) (omega (arith, c.in-Some.ensures))
 
-pub returns-then-more-gt1-clause-ok : goal.returns-then-more-gt1-clause-ok
-returns-then-more-gt1-clause-ok c =
-    let t = c.args.transaction.0 in
-    let es = c.self.inside.counts.items in
-    let count = is_count es c.as_slice.result.now c.args.self.now t c.place_in-place.result.1 c.as_slice.ensures c.self.view_is c.place_in-place.ensures.count in
-    let low : 0 < held_by c.args.self.now t = omega (arith, c.if-more-gt1.true, c.in-Some.ensures, count) in
-    let next : c.in-Some.more ≡ held_by c.args.self.now t + 1 = omega (arith, c.in-Some.ensures, count) in
-    more_over es c.args.self.now t c.self.view_is c.self.invariant _ c.in-Some.more c.place_in-place.result.0 (c.place_in-place.ensures.place ∙ ap (place_of t) c.as_slice.ensures) low
-    (refilled es c.set_count.new.entries c.place_in-place.result.0 (t, c.in-Some.more) (rw c.as_mut_slice.ensures.value at c.set_count.ensures)) next
+pub returns-then-self-transaction-clause-ok : goal.returns-then-self-transaction-clause-ok
+returns-then-self-transaction-clause-ok c =
+    let f = c.self.inside.first in let n = c.self.inside.times in let es = c.self.inside.others.items in let h = c.self.invariant in let C = c.args.self.now in let t = c.args.transaction.0 in
+    let count = count_first f n es h C c.self.view_is t c.if-self-transaction.true in
+    one_more f n es h C c.self.view_is t f c.in-Some.more es c.in-Some.more (put_first f n es h C c.self.view_is t c.if-self-eq0.false c.if-self-transaction.true c.in-Some.more (omega (arith, c.in-Some.ensures))) (omega (arith, c.in-Some.ensures, count))
 
-pub returns-then-more-gt1-clause-count : goal.returns-then-more-gt1-clause-count
-returns-then-more-gt1-clause-count c =
-    let count = is_count c.self.inside.counts.items c.as_slice.result.now c.args.self.now c.args.transaction.0 c.place_in-place.result.1 c.as_slice.ensures c.self.view_is c.place_in-place.ensures.count in
+pub returns-then-self-transaction-clause-count : goal.returns-then-self-transaction-clause-count
+returns-then-self-transaction-clause-count c =
+    let count = count_first c.self.inside.first c.self.inside.times c.self.inside.others.items c.self.invariant c.args.self.now c.self.view_is c.args.transaction.0 c.if-self-transaction.true in
     omega (arith, c.in-Some.ensures, count)
 
-pub returns-in_ok-put_in-clause-ok : goal.returns-in_ok-put_in-clause-ok
-returns-in_ok-put_in-clause-ok c =
-    let t = c.args.transaction.0 in
-    let es = c.self.inside.counts.items in
-    let count = is_count es c.as_slice.result.now c.args.self.now t c.place_in-place.result.1 c.as_slice.ensures c.self.view_is c.place_in-place.ensures.count in
-    let none : held_by c.args.self.now t ≡ 0 = omega (arith, c.if-more-gt1.false, c.in-Some.ensures, count) in
-    let next : c.in-Some.more ≡ held_by c.args.self.now t + 1 = omega (arith, c.in-Some.ensures, count) in
-    more_new es c.args.self.now t c.self.view_is c.self.invariant c.put_in.new.entries.items c.in-Some.more c.place_in-place.result.0 (c.place_in-place.ensures.place ∙ ap (place_of t) c.as_slice.ensures) none c.in_ok-put_in.ensures.ok next
+pub add_in-requires : goal.add_in-requires
+add_in-requires c = rest_list c.self.inside.first c.self.inside.times c.self.inside.others.items c.self.invariant
 
-pub returns-in_ok-put_in-clause-count : goal.returns-in_ok-put_in-clause-count
-returns-in_ok-put_in-clause-count c =
-    let count = is_count c.self.inside.counts.items c.as_slice.result.now c.args.self.now c.args.transaction.0 c.place_in-place.result.1 c.as_slice.ensures c.self.view_is c.place_in-place.ensures.count in
-    omega (arith, c.in-Some.ensures, count)
+pub invariant_of-self-then-self-transaction-2 : goal.invariant_of-self-then-self-transaction-2
+invariant_of-self-then-self-transaction-2 c =
+    let f = c.self.inside.first in let n = c.self.inside.times in let es = c.self.inside.others.items in let h = c.self.invariant in let C = c.args.self.now in let t = c.args.transaction.0 in
+    are_put f n es h C c.self.view_is t f n c.add_in.new.entries.items c.in_ok-more.more (put_after f n es h C c.self.view_is t c.if-self-eq0.false c.if-self-transaction-2.true c.in_ok-more.more c.add_in.new.entries.items c.in_ok-more.ensures.ok) c.if-self-eq0.false
+    (omega (arith, c.in_ok-more.ensures.count))
+
+pub returns-then-self-transaction-2-clause-ok : goal.returns-then-self-transaction-2-clause-ok
+returns-then-self-transaction-2-clause-ok c =
+    let f = c.self.inside.first in let n = c.self.inside.times in let es = c.self.inside.others.items in let h = c.self.invariant in let C = c.args.self.now in let t = c.args.transaction.0 in
+    let count = count_other f n es h C c.self.view_is t c.if-self-transaction.false in
+    one_more f n es h C c.self.view_is t f n c.add_in.new.entries.items c.in_ok-more.more (put_after f n es h C c.self.view_is t c.if-self-eq0.false c.if-self-transaction-2.true c.in_ok-more.more c.add_in.new.entries.items c.in_ok-more.ensures.ok)
+    (omega (arith, c.in_ok-more.ensures.count, count))
+
+pub returns-then-self-transaction-2-clause-count : goal.returns-then-self-transaction-2-clause-count
+returns-then-self-transaction-2-clause-count c =
+    let count = count_other c.self.inside.first c.self.inside.times c.self.inside.others.items c.self.invariant c.args.self.now c.self.view_is c.args.transaction.0 c.if-self-transaction.false in
+    omega (arith, c.in_ok-more.ensures.count, count)
+
+pub invariant_of-self-2 : goal.invariant_of-self-2
+invariant_of-self-2 c =
+    let f = c.self.inside.first in let n = c.self.inside.times in let es = c.self.inside.others.items in let h = c.self.invariant in let C = c.args.self.now in let t = c.args.transaction.0 in
+    let low : t < f = omega (arith, c.if-self-transaction.false, c.if-self-transaction-2.false) in
+    are_put f n es h C c.self.view_is t t 1 c.insert.new.self.items 1 (put_before f n es h C c.self.view_is t c.if-self-eq0.false low c.insert.new.self.items c.in_ok-insert.ensures.items) (omega arith) (omega arith)
+
+pub returns-clause-ok : goal.returns-clause-ok
+returns-clause-ok c =
+    let f = c.self.inside.first in let n = c.self.inside.times in let es = c.self.inside.others.items in let h = c.self.invariant in let C = c.args.self.now in let t = c.args.transaction.0 in
+    let low : t < f = omega (arith, c.if-self-transaction.false, c.if-self-transaction-2.false) in
+    let none = count_before f n es h C c.self.view_is t c.if-self-eq0.false low in
+    one_more f n es h C c.self.view_is t t 1 c.insert.new.self.items 1 (put_before f n es h C c.self.view_is t c.if-self-eq0.false low c.insert.new.self.items c.in_ok-insert.ensures.items) (omega (arith, none))
+
+pub returns-clause-count : goal.returns-clause-count
+returns-clause-count c =
+    let low : c.args.transaction.0 < c.self.inside.first = omega (arith, c.if-self-transaction.false, c.if-self-transaction-2.false) in
+    let none = count_before c.self.inside.first c.self.inside.times c.self.inside.others.items c.self.invariant c.args.self.now c.self.view_is c.args.transaction.0 c.if-self-eq0.false low in
+    omega (arith, none)

@@ -1,8 +1,6 @@
-use Rattle.std.proofs.Common.{◌≡◌, length, sym, subst, ◌∙◌}
 use Rattle.std.proofs.lemmas.Bool.{eqb-true}
-use Rattle.cg_locks.specs.Holders.{held_by}
-use Rattle.cg_locks.proofs.Counts.{nobody}
+use Rattle.cg_locks.proofs.Firsts.{none_held}
 use Rattle.cg_locks.proofs.holders.Holders.is_empty.Goals as goal
 
 pub returns : goal.returns
-returns c = λ yes u. subst (λ C. held_by C u ≡ 0) c.self.view_is (nobody c.self.inside.counts.items (eqb-true (length c.self.inside.counts.items) 0 (sym c.is_empty.ensures ∙ yes)) u)
+returns c = λ yes u. none_held c.self.inside.first c.self.inside.times c.self.inside.others.items c.self.invariant c.args.self.now c.self.view_is u (eqb-true c.self.inside.times 0 yes)

@@ -1,64 +1,63 @@
--- The number there is one less, or its entry goes, and the others stay.
-use Rattle.std.proofs.Common.{◌≡◌, ◌+◌, ◌-◌, T, ap, sym, subst, ◌∙◌, arith}
-use Rattle.std.specs.FinMap.Entries.{is_sorted}
-use Rattle.std.specs.Ordering.{nat_cmp}
-use Rattle.cg_locks.specs.Holders.{held_by, place_of}
-use Rattle.cg_locks.proofs.Places.{is_count, less_gone, less_over, list_gone, list_over, refilled, within_list}
+-- One of the others has one less, or the first has, or the next one is the first.
+use Rattle.std.proofs.Common.{◌≡◌, ◌==◌, ◌-◌, ◌+◌, sym, subst, ◌∙◌, arith}
+use Rattle.cg_locks.specs.Holders.{held_by, one}
+use Rattle.cg_locks.proofs.Firsts.{are_left, are_put, count_first, count_other, last_less, one_less, others_left, others_less, put_first, rest_list, some_held, without_first}
 use Rattle.cg_locks.proofs.holders.Holders.remove.Goals as goal
+use Rattle.cg_locks.proofs.holders.Holders.remove.Goals.{then-left-gt0, else-left-gt0}
 
-pub place_in-place-requires : goal.place_in-place-requires
-place_in-place-requires c = subst (λ es. T (is_sorted nat_cmp es)) (sym c.as_slice.ensures) c.self.invariant.sorted
-
-pub overflow_sub-left : goal.overflow_sub-left
-overflow_sub-left c =
-    let count = is_count c.self.inside.counts.items c.as_slice.result.now c.args.self.now c.args.transaction.0 c.place_in-place.result.1 c.as_slice.ensures c.self.view_is c.place_in-place.ensures.count in
-    omega (arith, c.requires, count)
+pub remove_in-requires-clause-there : goal.remove_in-requires-clause-there
+remove_in-requires-clause-there c =
+    let count = count_other c.self.inside.first c.self.inside.times c.self.inside.others.items c.self.invariant c.args.self.now c.self.view_is c.args.transaction.0 c.if-self-transaction.true in
+    omega (arith, count, c.requires)
 
 pub invariant_of-self : goal.invariant_of-self
 invariant_of-self c =
-    let t = c.args.transaction.0 in
-    list_gone c.self.inside.counts.items c.args.self.now t c.self.view_is c.self.invariant c.take_out.new.entries.items c.place_in-place.result.0 (c.place_in-place.ensures.place ∙ ap (place_of t) c.as_slice.ensures) c.requires c.take_out.ensures
+    others_left c.self.inside.first c.self.inside.times c.self.inside.others.items c.self.invariant c.args.self.now c.self.view_is c.args.transaction.0 c.requires c.if-self-transaction.true
+    c.remove_in.result c.remove_in.new.entries.items c.remove_in.ensures.less c.remove_in.ensures.gone
 
-pub invariant_of-self-else-left-eq0 : goal.invariant_of-self-else-left-eq0
-invariant_of-self-else-left-eq0 c =
-    let t = c.args.transaction.0 in
-    let es = c.self.inside.counts.items in
-    list_over es c.args.self.now t c.self.view_is c.self.invariant _ (c.place_in-place.result.1 - 1) c.place_in-place.result.0 (c.place_in-place.ensures.place ∙ ap (place_of t) c.as_slice.ensures) c.requires
-    (refilled es c.set_count.new.entries c.place_in-place.result.0 (t, c.place_in-place.result.1 - 1) (rw c.as_mut_slice.ensures.value at c.set_count.ensures)) (omega (arith, c.if-left-eq0.false))
+pub returns-then-self-transaction-clause-less : goal.returns-then-self-transaction-clause-less
+returns-then-self-transaction-clause-less c =
+    let count = count_other c.self.inside.first c.self.inside.times c.self.inside.others.items c.self.invariant c.args.self.now c.self.view_is c.args.transaction.0 c.if-self-transaction.true in
+    others_less c.self.inside.first c.self.inside.times c.self.inside.others.items c.self.invariant c.args.self.now c.self.view_is c.args.transaction.0 c.requires c.if-self-transaction.true
+    c.remove_in.result c.remove_in.new.entries.items c.remove_in.ensures.less c.remove_in.ensures.gone (c.remove_in.ensures.left ∙ count)
 
-pub take_out-requires : goal.take_out-requires
-take_out-requires c =
-    let t = c.args.transaction.0 in
-    within_list c.self.inside.counts.items c.args.self.now t c.self.view_is c.self.invariant c.place_in-place.result.0 c.requires (c.place_in-place.ensures.place ∙ ap (place_of t) c.as_slice.ensures)
+pub returns-then-self-transaction-clause-left : goal.returns-then-self-transaction-clause-left
+returns-then-self-transaction-clause-left c =
+    c.remove_in.ensures.left ∙ count_other c.self.inside.first c.self.inside.times c.self.inside.others.items c.self.invariant c.args.self.now c.self.view_is c.args.transaction.0 c.if-self-transaction.true
 
-pub set_count-requires : goal.set_count-requires
-set_count-requires c =
-    let t = c.args.transaction.0 in
-    rw c.as_mut_slice.ensures.value (within_list c.self.inside.counts.items c.args.self.now t c.self.view_is c.self.invariant c.place_in-place.result.0 c.requires (c.place_in-place.ensures.place ∙ ap (place_of t) c.as_slice.ensures))
+pub overflow_sub-left : goal.overflow_sub-left
+overflow_sub-left c =
+    let count = count_first c.self.inside.first c.self.inside.times c.self.inside.others.items c.self.invariant c.args.self.now c.self.view_is c.args.transaction.0 c.if-self-transaction.false in
+    omega (arith, count, c.requires)
 
-pub returns-then-left-eq0-clause-less : goal.returns-then-left-eq0-clause-less
-returns-then-left-eq0-clause-less c =
-    let t = c.args.transaction.0 in
-    let es = c.self.inside.counts.items in
-    let count = is_count es c.as_slice.result.now c.args.self.now t c.place_in-place.result.1 c.as_slice.ensures c.self.view_is c.place_in-place.ensures.count in
-    let last : held_by c.args.self.now t ≡ 1 = omega (arith, count, c.if-left-eq0.true, c.requires) in
-    less_gone es c.args.self.now t c.self.view_is c.self.invariant c.take_out.new.entries.items c.place_in-place.result.0 (c.place_in-place.ensures.place ∙ ap (place_of t) c.as_slice.ensures) c.requires c.take_out.ensures last
+pub invariant_of-self-then-left-gt0 : goal.invariant_of-self-then-left-gt0
+invariant_of-self-then-left-gt0 c =
+    let f = c.self.inside.first in let n = c.self.inside.times in let es = c.self.inside.others.items in let h = c.self.invariant in let C = c.args.self.now in let t = c.args.transaction.0 in
+    are_put f n es h C c.self.view_is t f (n - 1) es (n - 1) (put_first f n es h C c.self.view_is t (some_held f n es h C c.self.view_is t c.requires) c.if-self-transaction.false (n - 1) c.if-left-gt0.true) (omega (arith, c.if-left-gt0.true)) c.if-left-gt0.true
 
-pub returns-then-left-eq0-clause-left : goal.returns-then-left-eq0-clause-left
-returns-then-left-eq0-clause-left c =
-    let count = is_count c.self.inside.counts.items c.as_slice.result.now c.args.self.now c.args.transaction.0 c.place_in-place.result.1 c.as_slice.ensures c.self.view_is c.place_in-place.ensures.count in
-    omega (arith, c.requires, count)
+pub take_first-requires : goal.take_first-requires
+take_first-requires c = rest_list c.self.inside.first c.self.inside.times c.self.inside.others.items c.self.invariant
 
-pub returns-else-left-eq0-clause-less : goal.returns-else-left-eq0-clause-less
-returns-else-left-eq0-clause-less c =
-    let t = c.args.transaction.0 in
-    let es = c.self.inside.counts.items in
-    let count = is_count es c.as_slice.result.now c.args.self.now t c.place_in-place.result.1 c.as_slice.ensures c.self.view_is c.place_in-place.ensures.count in
-    let left : held_by c.args.self.now t ≡ (c.place_in-place.result.1 - 1) + 1 = omega (arith, count, c.requires) in
-    less_over es c.args.self.now t c.self.view_is c.self.invariant _ (c.place_in-place.result.1 - 1) c.place_in-place.result.0 (c.place_in-place.ensures.place ∙ ap (place_of t) c.as_slice.ensures) c.requires
-    (refilled es c.set_count.new.entries c.place_in-place.result.0 (t, c.place_in-place.result.1 - 1) (rw c.as_mut_slice.ensures.value at c.set_count.ensures)) left
+pub invariant_of-self-else-left-gt0 : goal.invariant_of-self-else-left-gt0
+invariant_of-self-else-left-gt0 c =
+    let f = c.self.inside.first in let n = c.self.inside.times in let es = c.self.inside.others.items in let h = c.self.invariant in let C = c.args.self.now in let t = c.args.transaction.0 in
+    are_left f n es h C c.self.view_is t c.take_first.result.0 c.take_first.result.1 c.take_first.new.entries.items
+    (c.take_first.ensures.all ∙ without_first f n es h C c.self.view_is t (some_held f n es h C c.self.view_is t c.requires) c.if-self-transaction.false) c.take_first.ensures.alone
 
-pub returns-else-left-eq0-clause-left : goal.returns-else-left-eq0-clause-left
-returns-else-left-eq0-clause-left c =
-    let count = is_count c.self.inside.counts.items c.as_slice.result.now c.args.self.now c.args.transaction.0 c.place_in-place.result.1 c.as_slice.ensures c.self.view_is c.place_in-place.ensures.count in
-    omega (arith, c.requires, count)
+pub returns-clause-less : goal.returns-clause-less
+returns-clause-less c = λ u.
+    let f = c.self.inside.first in let n = c.self.inside.times in let es = c.self.inside.others.items in let h = c.self.invariant in let C = c.args.self.now in let t = c.args.transaction.0 in
+    let count = count_first f n es h C c.self.view_is t c.if-self-transaction.false in
+    let some = some_held f n es h C c.self.view_is t c.requires in
+    elim c.if-left-gt0.branch [
+      | then-left-gt0 w ↦ subst (λ D. held_by C u ≡ held_by D u + one (u == t)) (sym w.self-is)
+          (one_less f n es h C c.self.view_is t f (n - 1) es (n - 1) (put_first f n es h C c.self.view_is t some c.if-self-transaction.false (n - 1) w.if-left-gt0.true) (omega (arith, count, c.requires)) u)
+      | else-left-gt0 w ↦ subst (λ D. held_by C u ≡ held_by D u + one (u == t)) (sym w.self-is)
+          (last_less f n es h C c.self.view_is t w.take_first.result.0 w.take_first.result.1 w.take_first.new.entries.items
+          (w.take_first.ensures.all ∙ without_first f n es h C c.self.view_is t some c.if-self-transaction.false) (omega (arith, count, c.requires, w.if-left-gt0.false)) u)
+    ]
+
+pub returns-clause-left : goal.returns-clause-left
+returns-clause-left c =
+    let count = count_first c.self.inside.first c.self.inside.times c.self.inside.others.items c.self.invariant c.args.self.now c.self.view_is c.args.transaction.0 c.if-self-transaction.false in
+    omega (arith, count, c.requires)
