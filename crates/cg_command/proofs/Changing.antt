@@ -3,29 +3,15 @@ use Rattle.std.proofs.Common.{◌≡◌, ℕ, true, List, [], ◌∷◌, Option,
 use Rattle.cg_maps.specs.FiniteMap.{get}
 use Rattle.cg_name.specs.Path.{Path}
 use Rattle.cg_text.specs.declared.settings.Settings.{Settings}
-use Rattle.cg_inverse.specs.declared.change.Change as rust
-use Rattle.cg_inverse.specs.declared.change.Change.TheVariants as changes
-use Rattle.cg_inverse.specs.Meaning.{change_of, edit_left, HasRoomIn}
+use Rattle.cg_inverse.specs.Meaning.{HasRoomIn}
 use Rattle.cg_model.specs.Change.{Change}
 use Rattle.cg_model.specs.Command.{IsAccepted, Migrate}
 use Rattle.cg_model.specs.Effect.{effect}
-use Rattle.cg_model.specs.Key.{Group, put}
+use Rattle.cg_model.specs.Key.{Group}
 use Rattle.cg_model.specs.Room.{RoomFor, room_for}
 use Rattle.cg_model.specs.Tree.{Tree, group, place_of}
 use Rattle.cg_model.specs.Writes.{migrate_effect}
-use Rattle.cg_tree.specs.Edit.{edited}
 use Rattle.cg_tree.specs.Room.{TreeWithRoom, has_entry, IsRooted}
-
--- the edit of a change puts its value left
-pub edit_puts_left : (c : rust.Change) (T : Tree) → edited (edit_left c) T ≡ put (change_of c).key (change_of c).left T
-edit_puts_left (changes.Group p b l) T = refl
-edit_puts_left (changes.Place k b l) T = refl
-edit_puts_left (changes.Control p b l) T = refl
-edit_puts_left (changes.Freeze p b l) T = refl
-edit_puts_left (changes.Cpus p b l) T = refl
-edit_puts_left (changes.MaxDescendants p b l) T = refl
-edit_puts_left (changes.MaxDepth p b l) T = refl
-edit_puts_left (changes.Online b l) T = refl
 
 -- a group that is there has its entry
 pub room_for_group : (t : TreeWithRoom) → IsRooted t → (p : Path) (v : Option Settings) → v ≡ group t.tree p → room_for (has_entry t) (Group p) v

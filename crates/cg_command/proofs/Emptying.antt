@@ -1,4 +1,4 @@
--- The changes of a write to cgroup.subtree_control, and the edits that make them.
+-- The changes of a write to cgroup.subtree_control.
 use Rattle.std.proofs.Common.{◌≡◌, Bool, true, false, cond, not, ◌&&◌, List, [], ◌∷◌, ◌++◌, map, filter, Option, Some, None, Ok, Err, refl, ap, subst, ◌∙◌}
 use Rattle.std.specs.List.{AllByRecursion}
 use Rattle.cg_maps.specs.FiniteMap.{empty}
@@ -10,10 +10,7 @@ use Rattle.cg_text.specs.Controllers.{is_no_controllers}
 use Rattle.cg_text.specs.declared.control_ops.ControlOps.{ControlOps}
 use Rattle.cg_text.specs.declared.controllers.Controllers.{Controllers}
 use Rattle.cg_text.specs.declared.settings.Settings.{Settings}
-use Rattle.cg_inverse.specs.declared.change.Change as rust
-use Rattle.cg_inverse.specs.declared.change.Change.TheVariants as changes
-use Rattle.cg_inverse.specs.Meaning.{change_of, edit_left}
-use Rattle.cg_model.specs.Change.{Change, change, done}
+use Rattle.cg_model.specs.Change.{Change, change}
 use Rattle.cg_model.specs.Command.{IsAccepted, Subtree}
 use Rattle.cg_model.specs.Control.{by_plan, control_change, controlled, emptied, in_use, loses_cpuset, not_available, planned, refuse_first, subtree_effect, used_below}
 use Rattle.cg_model.specs.Derived.{available, children}
@@ -22,18 +19,11 @@ use Rattle.cg_model.specs.Key.{Key, ValueOf, Cpus, Group, Place, Part, Online}
 use Rattle.cg_model.specs.Room.{RoomFor, room_for}
 use Rattle.cg_model.specs.System.{Done, Accept}
 use Rattle.cg_model.specs.Tree.{Tree, group}
-use Rattle.cg_tree.specs.Edit.{RoomForEdit}
 use Rattle.cg_tree.specs.Listing.{asks_for_cpus}
-use Rattle.cg_tree.specs.Room.{TreeWithRoom}
-use Rattle.cg_command.specs.Subtree.{all_edited, NeedNoEntry}
-use Rattle.cg_command.proofs.Changing.{edit_puts_left}
+use Rattle.cg_tree.specs.Room.{TreeWithRoom, has_entry}
+use Rattle.cg_command.specs.Subtree.{NeedNoEntry}
 
--- ---- edits
-
--- the edits of changes make them
-pub edits_make_changes : (cs : List rust.Change) (T : Tree) → all_edited (map edit_left cs) T ≡ done (map change_of cs) T
-edits_make_changes [] T = refl
-edits_make_changes (c ∷ cs) T = ap (all_edited (map edit_left cs)) (edit_puts_left c T) ∙ edits_make_changes cs _
+-- ---- parts
 
 -- a key of one setting
 abbrev pub IsPart : Key → Type 0
@@ -45,19 +35,15 @@ IsPart Online = ⊥
 abbrev pub AreParts : List Change → Type 0
 AreParts cs = AllByRecursion (λ c. IsPart c.key) cs
 
-part_needs_none : (c : rust.Change) → IsPart (change_of c).key → (t : TreeWithRoom) → RoomForEdit t (edit_left c)
-part_needs_none (changes.Group p b l) h t = absurd h
-part_needs_none (changes.Place k b l) h t = absurd h
-part_needs_none (changes.Control p b l) h t = tt
-part_needs_none (changes.Freeze p b l) h t = tt
-part_needs_none (changes.Cpus p b l) h t = tt
-part_needs_none (changes.MaxDescendants p b l) h t = tt
-part_needs_none (changes.MaxDepth p b l) h t = tt
-part_needs_none (changes.Online b l) h t = absurd h
+part_needs_none : (k : Key) (v : Option (ValueOf k)) → IsPart k → (t : TreeWithRoom) → room_for (has_entry t) k v
+part_needs_none (Part p f) v h t = tt
+part_needs_none (Group p) v h t = absurd h
+part_needs_none (Place k) v h t = absurd h
+part_needs_none Online v h t = absurd h
 
-pub parts_need_none : (cs : List rust.Change) → AreParts (map change_of cs) → NeedNoEntry (map edit_left cs)
+pub parts_need_none : (cs : List Change) → AreParts cs → NeedNoEntry cs
 parts_need_none [] h = tt
-parts_need_none (c ∷ cs) h = (part_needs_none c h.0, parts_need_none cs h.1)
+parts_need_none (c ∷ cs) h = (part_needs_none c.key c.left h.0, parts_need_none cs h.1)
 
 -- ---- what is emptied
 

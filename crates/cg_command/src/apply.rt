@@ -1,21 +1,20 @@
 //! What each accepted command changes, and the inverse of that.
-ghost use Rattle.std.specs.Prelude.{◌≡◌, ◌∷◌, [], IfOk, OnOk, OnErr};
+ghost use Rattle.std.specs.Prelude.{◌≡◌, ◌∷◌, []};
 ghost use Rattle.cg_command.specs.Applied.{IsCarriedOut};
-ghost use Rattle.cg_inverse.specs.Meaning.{change_of, edit_left, HasRoomIn};
+ghost use Rattle.cg_inverse.specs.Meaning.{change_of, HasRoomIn, HasRoomToMake};
 ghost use Rattle.cg_model.specs.Command as model;
 ghost use Rattle.cg_model.specs.Command.{IsAccepted};
 ghost use Rattle.cg_model.specs.Effect.{effect};
 ghost use Rattle.cg_model.specs.Key.{put};
 ghost use Rattle.cg_model.specs.Room.{RoomFor};
-ghost use Rattle.cg_tree.specs.Edit.{RoomForEdit};
 ghost use Rattle.cg_tree.specs.Room.{has_entry};
 
 use crate::command::Outcome;
 use cg_boxed::{BoxedCpus, BoxedSettings};
 use cg_inverse::{Change, Inverse};
 use cg_name::Path;
-use cg_text::{FileName, Limit, Settings};
-use cg_tree::{Edit, Tree};
+use cg_text::{FileName, Limit};
+use cg_tree::Tree;
 use std::alloc::{AllocError, Global};
 
 // Makes the group at the path, with the settings of a new one.
@@ -28,21 +27,13 @@ pub(crate) fn create(
     requires { IsAccepted (effect (model.Create path.now) tree.old.tree) }
     ensures { IsCarriedOut (model.Create path.now) tree.old result tree.new }
 {
-    let edit = Edit::Group {
+    let change = Change::Group {
         path: path.copy(alloc)?,
-        settings: Some(Settings::fresh()),
+        before: None,
+        left: Some(BoxedSettings::fresh()),
     };
-    let inverse = one(
-        alloc,
-        Change::Group {
-            path: path.copy(alloc)?,
-            before: None,
-            left: Some(BoxedSettings::fresh()),
-        },
-    )?;
-    tree.make_room(alloc, &edit)?;
-    tree.put_edit(edit);
-    Ok((Outcome::Done, inverse))
+    tree.make_room(alloc, path)?;
+    Ok((Outcome::Done, change_one(alloc, change, tree)))
 }
 
 // Takes the group at the path away. Its entry stays.
@@ -66,7 +57,7 @@ pub(crate) fn remove(
         before: Some(BoxedSettings::new(alloc, settings)?),
         left: None,
     };
-    Ok((Outcome::Done, change_one(alloc, change, tree)?))
+    Ok((Outcome::Done, change_one(alloc, change, tree)))
 }
 
 // Moves the process into the group.
@@ -91,7 +82,7 @@ pub(crate) fn migrate(
         before,
         left: path.copy(alloc)?,
     };
-    Ok((Outcome::Done, change_one(alloc, change, tree)?))
+    Ok((Outcome::Done, change_one(alloc, change, tree)))
 }
 
 // Writes `cgroup.freeze`.
@@ -114,32 +105,20 @@ pub(crate) fn freeze(
         before: settings.freeze,
         left: value,
     };
-    Ok((Outcome::Done, change_one(alloc, change, tree)?))
+    Ok((Outcome::Done, change_one(alloc, change, tree)))
 }
 
-// The inverse of one change.
-fn one(alloc: Global, change: Change) -> Result<Inverse, AllocError>
-    ensures { IfOk result (λ i. i ≡ change_of change ∷ []) }
-{
-    let mut inverse = Inverse::new(alloc);
-    inverse.push(change)?;
-    Ok(inverse)
-}
-
-// Makes the change, for which and for undoing which the entries are there, and gives its inverse.
-fn change_one(alloc: Global, change: Change, tree: &mut Tree) -> Result<Inverse, AllocError>
-    requires made { RoomForEdit tree.old (edit_left change) }
+// Makes the change, for which and for undoing which the entries are there, and gives its inverse. Takes no memory.
+fn change_one(alloc: Global, change: Change, tree: &mut Tree) -> Inverse
+    requires made { HasRoomToMake tree.old (change_of change) }
     requires undone { HasRoomIn tree.old (change_of change) }
-    ensures ok { IfOk result (λ i. i ≡ change_of change ∷ []) }
-    ensures tree { OnOk result (tree.new.tree ≡ put (change_of change).key (change_of change).left tree.old.tree) }
-    ensures room { IfOk result (λ i. RoomFor (has_entry tree.new) i) }
+    ensures inverse { result ≡ change_of change ∷ [] }
+    ensures tree { tree.new.tree ≡ put (change_of change).key (change_of change).left tree.old.tree }
+    ensures room { RoomFor (has_entry tree.new) result }
     ensures entries { tree.new.entries ≡ tree.old.entries }
-    ensures err { OnErr result (tree.new ≡ tree.old) }
 {
-    let edit = change.edit_left(alloc)?;
-    let inverse = one(alloc, change)?;
-    tree.put_edit(edit);
-    Ok(inverse)
+    change.put_left(tree);
+    Inverse::of_one(alloc, change)
 }
 
 // Writes `cpuset.cpus`.
@@ -162,7 +141,7 @@ pub(crate) fn cpus(
         before: BoxedCpus::new(alloc, settings.cpus)?,
         left: value.copy(alloc)?,
     };
-    Ok((Outcome::Done, change_one(alloc, change, tree)?))
+    Ok((Outcome::Done, change_one(alloc, change, tree)))
 }
 
 // Writes `cgroup.max.descendants`.
@@ -185,7 +164,7 @@ pub(crate) fn max_descendants(
         before: settings.max_descendants,
         left: limit,
     };
-    Ok((Outcome::Done, change_one(alloc, change, tree)?))
+    Ok((Outcome::Done, change_one(alloc, change, tree)))
 }
 
 // Writes `cgroup.max.depth`.
@@ -208,7 +187,7 @@ pub(crate) fn max_depth(
         before: settings.max_depth,
         left: limit,
     };
-    Ok((Outcome::Done, change_one(alloc, change, tree)?))
+    Ok((Outcome::Done, change_one(alloc, change, tree)))
 }
 
 // Sets which CPUs are online.
@@ -224,7 +203,7 @@ pub(crate) fn online(
         before: BoxedCpus::new(alloc, tree.online())?,
         left: value.copy(alloc)?,
     };
-    Ok((Outcome::Done, change_one(alloc, change, tree)?))
+    Ok((Outcome::Done, change_one(alloc, change, tree)))
 }
 
 // Tells the text of the file.

@@ -2,8 +2,9 @@
 //! CPUs that its children ask for.
 ghost use Rattle.std.specs.Prelude.{◌≡◌, ◌++◌, [], cond, IfOk, OnOk, map};
 ghost use Rattle.cg_command.specs.Applied.{IsCarriedOut};
-ghost use Rattle.cg_command.specs.Subtree.{all_edited, NeedNoEntry};
-ghost use Rattle.cg_inverse.specs.Meaning.{edit_left};
+ghost use Rattle.cg_command.specs.Subtree.{NeedNoEntry};
+ghost use Rattle.cg_inverse.specs.Meaning.{change_of};
+ghost use Rattle.cg_model.specs.Change.{done};
 ghost use Rattle.cg_model.specs.Command as model;
 ghost use Rattle.cg_model.specs.Command.{IsAccepted};
 ghost use Rattle.cg_model.specs.Control.{controlled, emptied, loses_cpuset, planned};
@@ -15,7 +16,7 @@ use cg_boxed::BoxedCpus;
 use cg_inverse::{Change, Inverse};
 use cg_name::Path;
 use cg_text::{ControlOps, Controllers};
-use cg_tree::{Edit, Tree};
+use cg_tree::Tree;
 use std::alloc::{AllocError, Global};
 
 // Writes `cgroup.subtree_control`.
@@ -35,8 +36,7 @@ pub(crate) fn subtree(
     };
     let left = planned(settings.control, ops);
     let inverse = changes_of(path, settings.control, left, alloc, tree)?;
-    let edits = edits_of(inverse.changes(), alloc)?;
-    put_all(edits, tree);
+    put_all(inverse.changes(), tree);
     Ok((Outcome::Done, inverse))
 }
 
@@ -90,25 +90,16 @@ fn add_emptied(
     Ok(())
 }
 
-// The edits that put the values left.
-fn edits_of(changes: &[Change], alloc: Global) -> Result<Vec<Edit>, AllocError>
-    ensures { IfOk result (λ edits. edits.items ≡ map edit_left changes.now) }
-{
-    let mut edits = Vec::new(alloc);
-    for change in changes {
-        edits.push(change.edit_left(alloc)?)?;
-    }
-    Ok(edits)
-}
-
-// Makes the edits, none of which needs an entry.
-fn put_all(edits: Vec<Edit>, tree: &mut Tree)
-    requires { NeedNoEntry edits.items }
-    ensures tree { tree.new.tree ≡ all_edited edits.items tree.old.tree }
+// Makes the changes, none of which needs an entry.
+fn put_all(changes: &[Change], tree: &mut Tree)
+    requires { NeedNoEntry (map change_of changes.now) }
+    ensures tree { tree.new.tree ≡ done (map change_of changes.now) tree.old.tree }
     ensures entries { tree.new.entries ≡ tree.old.entries }
 {
-    for edit in edits {
-        tree.put_edit(edit);
+    let mut rest = changes;
+    while let Some((change, others)) = rest.split_first() {
+        change.put_left(tree);
+        rest = others;
     }
 }
 

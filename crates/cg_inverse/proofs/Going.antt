@@ -1,5 +1,5 @@
 -- Going back by a list of changes.
-use Rattle.std.proofs.Common.{◌≡◌, ℕ, ◌<◌, Bool, true, false, List, [], ◌∷◌, ◌++◌, length, map, Option, Some, None, is_some, refl, sym, ap, subst, ◌∙◌, true≢false}
+use Rattle.std.proofs.Common.{◌≡◌, ℕ, ◌<◌, Bool, true, false, List, [], ◌∷◌, ◌++◌, length, map, Option, Some, None, IsSome, is_some, refl, sym, ap, subst, ◌∙◌, true≢false}
 use Rattle.std.proofs.lemmas.Bool.{false≢true}
 use Rattle.std.proofs.lemmas.Iterator.Search.{true_from_All}
 use Rattle.std.proofs.lemmas.List.{map-append}
@@ -15,10 +15,8 @@ use Rattle.cg_model.specs.Key.{put, Group}
 use Rattle.cg_model.specs.Room.{room_for, RoomFor}
 use Rattle.cg_model.specs.Tree.{Tree}
 use Rattle.cg_tree.specs.Room.{TreeWithRoom, has_entry}
-use Rattle.cg_tree.specs.Edit.{edited, RoomForEdit}
-use Rattle.cg_inverse.specs.Meaning.{change_of, edit_back, HasRoomIn, MayGoBack}
+use Rattle.cg_inverse.specs.Meaning.{change_of, HasRoomIn, MayGoBack}
 use Rattle.cg_inverse.specs.declared.change.Change.{Change}
-use Rattle.cg_inverse.specs.declared.change.Change.TheVariants as changes
 
 -- the last change is put back first
 pub undone-last : (cs : List model.Change) (c : model.Change) (T : Tree) → undone (cs ++ c ∷ []) T ≡ undone cs (put c.key c.before T)
@@ -57,28 +55,20 @@ module _ (t : TreeWithRoom) where
     λ a. true_from_All May (λ x. ¬ May x) r xs (λ x p n. n p) h (All-from_recursion May xs (each_from_all xs a)),
   )
 
+-- a group that is put back or made has its entry
+pub group_room : (t : TreeWithRoom) (p : Path) (s v : Option Settings) → room_for (has_entry t) (Group p) v → s ≡ v → IsSome s → has_entry t p ≡ true
+group_room t p s None room same some = absurd (false≢true (sym (ap is_some same) ∙ some))
+group_room t p s (Some w) room same some = room
+
+-- the tree with the key put back
+abbrev pub with_before : Change → Tree → Tree
+with_before x T = put (change_of x).key (change_of x).before T
+
+-- the tree with the value left
+abbrev pub with_left : Change → Tree → Tree
+with_left x T = put (change_of x).key (change_of x).left T
+
 -- ---- one step back
-
--- the edit back puts the value before
-pub edited_back : (x : Change) (T : Tree) → edited (edit_back x) T ≡ put (change_of x).key (change_of x).before T
-edited_back (changes.Group p b l) T = refl
-edited_back (changes.Place k b l) T = refl
-edited_back (changes.Control p b l) T = refl
-edited_back (changes.Freeze p b l) T = refl
-edited_back (changes.Cpus p b l) T = refl
-edited_back (changes.MaxDescendants p b l) T = refl
-edited_back (changes.MaxDepth p b l) T = refl
-edited_back (changes.Online b l) T = refl
-
-room_back : (t : TreeWithRoom) (x : Change) → HasRoomIn t (change_of x) → RoomForEdit t (edit_back x)
-room_back t (changes.Group p b l) h = h
-room_back t (changes.Place k b l) h = h
-room_back t (changes.Control p b l) h = h
-room_back t (changes.Freeze p b l) h = h
-room_back t (changes.Cpus p b l) h = h
-room_back t (changes.MaxDescendants p b l) h = h
-room_back t (changes.MaxDepth p b l) h = h
-room_back t (changes.Online b l) h = h
 
 room_in_parts : (E : Path → Bool) (cs : List model.Change) (c : model.Change) → RoomFor E (cs ++ c ∷ []) → RoomFor E cs × room_for E c.key c.before
 room_in_parts E [] c h = (tt, h.0)
@@ -92,14 +82,14 @@ module _ (t : TreeWithRoom) (all left : List Change) (x : Change) (is : all ≡ 
   rooms h = room_in_parts (has_entry t) (map change_of left) (change_of x) (subst (RoomFor (has_entry t)) in_the_model h)
 
   -- there is room for the last
-  pub room_for_last : RoomFor (has_entry t) (map change_of all) → RoomForEdit t (edit_back x)
-  room_for_last h = room_back t x (rooms h).1
+  pub room_for_last : RoomFor (has_entry t) (map change_of all) → HasRoomIn t (change_of x)
+  room_for_last h = (rooms h).1
 
   -- and still for those before it
   pub room_for_rest : (u : TreeWithRoom) → u.entries ≡ t.entries → RoomFor (has_entry t) (map change_of all) → RoomFor (has_entry u) (map change_of left)
   room_for_rest u e h = subst (λ es. RoomFor (λ p. is_some (get es p)) (map change_of left)) (sym e) (rooms h).0
 
   -- the last is put back, and then those before it
-  pub last_back : (T : Tree) → T ≡ edited (edit_back x) t.tree → undone (map change_of left) T ≡ undone (map change_of all) t.tree
+  pub last_back : (T : Tree) → T ≡ put (change_of x).key (change_of x).before t.tree → undone (map change_of left) T ≡ undone (map change_of all) t.tree
   last_back T e =
-      ap (undone (map change_of left)) (e ∙ edited_back x t.tree) ∙ sym (undone-last (map change_of left) (change_of x) t.tree) ∙ ap (λ cs. undone cs t.tree) (sym in_the_model)
+      ap (undone (map change_of left)) e ∙ sym (undone-last (map change_of left) (change_of x) t.tree) ∙ ap (λ cs. undone cs t.tree) (sym in_the_model)

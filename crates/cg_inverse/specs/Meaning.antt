@@ -8,8 +8,6 @@ use Rattle.cg_model.specs.Room.{room_for}
 use Rattle.cg_inverse.specs.declared.change.Change.{Change}
 use Rattle.cg_inverse.specs.declared.change.Change.TheVariants as changes
 use Rattle.cg_model.specs.Tree.{Tree}
-use Rattle.cg_tree.specs.declared.edit.Edit.{Edit}
-use Rattle.cg_tree.specs.declared.edit.Edit.TheVariants as edits
 use Rattle.cg_tree.specs.Room.{TreeWithRoom, has_entry}
 
 abbrev pub change_of : Change → model.Change
@@ -22,17 +20,6 @@ change_of (changes.MaxDescendants p b l) = change (keys.Part p keys.MaxDescendan
 change_of (changes.MaxDepth p b l) = change (keys.Part p keys.MaxDepth) (Some b) (Some l)
 change_of (changes.Online b l) = change keys.Online (Some b) (Some l)
 
--- the edit that puts the value before
-abbrev pub edit_back : Change → Edit
-edit_back (changes.Group p b l) = edits.Group p b
-edit_back (changes.Place k b l) = edits.Place k b
-edit_back (changes.Control p b l) = edits.Control p b
-edit_back (changes.Freeze p b l) = edits.Freeze p b
-edit_back (changes.Cpus p b l) = edits.Cpus p b
-edit_back (changes.MaxDescendants p b l) = edits.MaxDescendants p b
-edit_back (changes.MaxDepth p b l) = edits.MaxDepth p b
-edit_back (changes.Online b l) = edits.Online b
-
 -- the key holds the value left
 abbrev pub FitsIn : Tree → model.Change → Type 0
 FitsIn T c = value_at T c.key ≡ c.left
@@ -41,17 +28,10 @@ FitsIn T c = value_at T c.key ≡ c.left
 abbrev pub HasRoomIn : TreeWithRoom → model.Change → Type 0
 HasRoomIn t c = room_for (has_entry t) c.key c.before
 
+-- there is the entry that the value left needs
+abbrev pub HasRoomToMake : TreeWithRoom → model.Change → Type 0
+HasRoomToMake t c = room_for (has_entry t) c.key c.left
+
 -- the key can be put back
 abbrev pub MayGoBack : TreeWithRoom → model.Change → Type 0
 MayGoBack t c = FitsIn t.tree c × HasRoomIn t c
-
--- the edit that puts the value left
-abbrev pub edit_left : Change → Edit
-edit_left (changes.Group p b l) = edits.Group p l
-edit_left (changes.Place k b l) = edits.Place k l
-edit_left (changes.Control p b l) = edits.Control p l
-edit_left (changes.Freeze p b l) = edits.Freeze p l
-edit_left (changes.Cpus p b l) = edits.Cpus p l
-edit_left (changes.MaxDescendants p b l) = edits.MaxDescendants p l
-edit_left (changes.MaxDepth p b l) = edits.MaxDepth p l
-edit_left (changes.Online b l) = edits.Online l

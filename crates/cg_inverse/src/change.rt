@@ -1,12 +1,13 @@
 //! Changes: a key of the tree, what it held before a command, and what the command left there.
-ghost use Rattle.std.specs.Prelude.{◌≡◌, ◌↔◌, IfOk, IsTrue};
-ghost use Rattle.cg_inverse.specs.Meaning.{change_of, edit_back, edit_left, FitsIn, HasRoomIn, MayGoBack};
+ghost use Rattle.std.specs.Prelude.{◌≡◌, ◌↔◌, IsTrue};
+ghost use Rattle.cg_inverse.specs.Meaning.{change_of, FitsIn, HasRoomIn, HasRoomToMake, MayGoBack};
+ghost use Rattle.cg_model.specs.Key.{put};
 
 use cg_boxed::{BoxedCpus, BoxedSettings};
 use cg_name::Path;
 use cg_text::{Controllers, Limit, Settings};
-use cg_tree::{Edit, Tree};
-use std::alloc::{AllocError, Global};
+use cg_tree::{NewValue, Tree};
+use std::alloc::Global;
 use std::default::MadeWith;
 
 /// One key of a tree, with what it held before a command and what the command left.
@@ -138,105 +139,54 @@ impl MadeWith<Global> for Change {
 }
 
 impl Change {
-    /// The edit that puts the key back to its value before.
-    pub fn into_edit_back(self) -> Edit
-        ensures { result ≡ edit_back self }
+    /// Puts the key back to its value before. Takes no memory.
+    pub fn put_before(&self, tree: &mut Tree)
+        requires { HasRoomIn tree.old (change_of self.now) }
+        ensures tree { tree.new.tree ≡ put (change_of self.now).key (change_of self.now).before tree.old.tree }
+        ensures entries { tree.new.entries ≡ tree.old.entries }
     {
         match self {
-            Change::Group {
+            Change::Group { path, before, .. } => tree.put_group(path, unboxed(before)),
+            Change::Place { pid, before, .. } => tree.put_place(*pid, before),
+            Change::Control { path, before, .. } => tree.put_value(
                 path,
-                before,
-                left: _,
-            } => Edit::Group {
+                &NewValue::Control(*before),
+            ),
+            Change::Freeze { path, before, .. } => tree.put_value(path, &NewValue::Freeze(*before)),
+            Change::Cpus { path, before, .. } => tree.put_value(
                 path,
-                settings: unboxed(&before),
-            },
-            Change::Place {
-                pid,
-                before,
-                left: _,
-            } => Edit::Place { pid, path: before },
-            Change::Control {
-                path,
-                before,
-                left: _,
-            } => Edit::Control {
-                path,
-                value: before,
-            },
-            Change::Freeze {
-                path,
-                before,
-                left: _,
-            } => Edit::Freeze {
-                path,
-                value: before,
-            },
-            Change::Cpus {
-                path,
-                before,
-                left: _,
-            } => Edit::Cpus {
-                path,
-                value: before.get(),
-            },
-            Change::MaxDescendants {
-                path,
-                before,
-                left: _,
-            } => Edit::MaxDescendants {
-                path,
-                value: before,
-            },
-            Change::MaxDepth {
-                path,
-                before,
-                left: _,
-            } => Edit::MaxDepth {
-                path,
-                value: before,
-            },
-            Change::Online { before, left: _ } => Edit::Online {
-                value: before.get(),
-            },
+                &NewValue::Cpus(before.get()),
+            ),
+            Change::MaxDescendants { path, before, .. } => {
+                tree.put_value(path, &NewValue::MaxDescendants(*before));
+            }
+            Change::MaxDepth { path, before, .. } => {
+                tree.put_value(path, &NewValue::MaxDepth(*before));
+            }
+            Change::Online { before, .. } => tree.put_online(before.get()),
         }
     }
 
-    /// The edit that puts the value left; an error where there is no memory for a path.
-    pub fn edit_left(&self, alloc: Global) -> Result<Edit, AllocError>
-        ensures { IfOk result (λ e. e ≡ edit_left self.now) }
+    /// Puts the value left at the key. Takes no memory.
+    pub fn put_left(&self, tree: &mut Tree)
+        requires { HasRoomToMake tree.old (change_of self.now) }
+        ensures tree { tree.new.tree ≡ put (change_of self.now).key (change_of self.now).left tree.old.tree }
+        ensures entries { tree.new.entries ≡ tree.old.entries }
     {
-        Ok(match self {
-            Change::Group { path, left, .. } => Edit::Group {
-                path: path.copy(alloc)?,
-                settings: unboxed(left),
-            },
-            Change::Place { pid, left, .. } => Edit::Place {
-                pid: *pid,
-                path: left.copy(alloc)?,
-            },
-            Change::Control { path, left, .. } => Edit::Control {
-                path: path.copy(alloc)?,
-                value: *left,
-            },
-            Change::Freeze { path, left, .. } => Edit::Freeze {
-                path: path.copy(alloc)?,
-                value: *left,
-            },
-            Change::Cpus { path, left, .. } => Edit::Cpus {
-                path: path.copy(alloc)?,
-                value: left.get(),
-            },
-            Change::MaxDescendants { path, left, .. } => Edit::MaxDescendants {
-                path: path.copy(alloc)?,
-                value: *left,
-            },
-            Change::MaxDepth { path, left, .. } => Edit::MaxDepth {
-                path: path.copy(alloc)?,
-                value: *left,
-            },
-            Change::Online { left, .. } => Edit::Online { value: left.get() },
-        })
+        match self {
+            Change::Group { path, left, .. } => tree.put_group(path, unboxed(left)),
+            Change::Place { pid, left, .. } => tree.put_place(*pid, left),
+            Change::Control { path, left, .. } => tree.put_value(path, &NewValue::Control(*left)),
+            Change::Freeze { path, left, .. } => tree.put_value(path, &NewValue::Freeze(*left)),
+            Change::Cpus { path, left, .. } => tree.put_value(path, &NewValue::Cpus(left.get())),
+            Change::MaxDescendants { path, left, .. } => {
+                tree.put_value(path, &NewValue::MaxDescendants(*left));
+            }
+            Change::MaxDepth { path, left, .. } => {
+                tree.put_value(path, &NewValue::MaxDepth(*left));
+            }
+            Change::Online { left, .. } => tree.put_online(left.get()),
+        }
     }
 
     /// Whether the key holds the value that the command left. Takes no memory.

@@ -49,6 +49,15 @@ impl Inverse {
         }
     }
 
+    /// The inverse of a command that makes one change. Takes no memory.
+    pub fn of_one(alloc: Global, change: Change) -> Inverse
+        ensures { result ≡ change_of change ∷ [] }
+    {
+        Inverse {
+            changes: SmallVec::from_buf(alloc, [change]),
+        }
+    }
+
     /// Adds what was changed last. An error, where there is no memory, leaves the inverse as it was; the first change takes
     /// none.
     pub fn push(&mut self, change: Change) -> Result<(), AllocError>
@@ -85,7 +94,7 @@ impl Inverse {
     {
         let Inverse { mut changes } = self;
         while let Some(change) = changes.pop() {
-            tree.put_edit(change.into_edit_back());
+            change.put_before(tree);
         }
     }
 }

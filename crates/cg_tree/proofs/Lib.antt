@@ -2,7 +2,6 @@ mod Asking
 mod Carrying
 mod Climbing
 mod Counts
-mod Edits
 mod Holding
 mod Listing
 mod NodeLists

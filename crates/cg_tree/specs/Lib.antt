@@ -1,7 +1,6 @@
 pub mod Ancestors
 pub mod Code
 pub mod Contents
-pub mod Edit
 pub mod Entries
 pub mod Inside
 pub mod Listing

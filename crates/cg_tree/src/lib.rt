@@ -4,7 +4,6 @@
 mod ancestors;
 mod below;
 mod counting;
-mod edit;
 mod entry;
 mod groups;
 mod limits;
@@ -19,8 +18,8 @@ mod tree;
 mod worlds;
 
 pub use ancestors::{Ancestor, Ancestors};
-pub use edit::Edit;
 pub use listed::Listed;
+pub use new_value::NewValue;
 pub use pids::Pids;
 pub use placed::Placed;
 pub use tree::Tree;

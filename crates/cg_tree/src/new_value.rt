@@ -1,4 +1,4 @@
-// One setting of a group, and the value that it is to have.
+//! One setting of a group, and the value that it is to have.
 ghost use Rattle.std.specs.Prelude.{◌≡◌};
 ghost use Rattle.cg_model.specs.Key.{with_setting};
 ghost use Rattle.cg_tree.specs.NewValue.{field_of, is_limit, is_limited, value_of, HasCpusUpTo};
@@ -6,18 +6,18 @@ ghost use Rattle.cg_tree.specs.NewValue.{field_of, is_limit, is_limited, value_o
 use cg_cpus::CpuSet;
 use cg_text::{Controllers, Limit, Settings};
 
-// Which setting, and its value.
+/// Which setting of a group, and the value that it is to have.
 #[derive(Drop)]
-pub(crate) enum NewValue {
-    // `cgroup.subtree_control`.
+pub enum NewValue {
+    /// `cgroup.subtree_control`: the controllers that the group's children have.
     Control(Controllers),
-    // `cgroup.freeze`.
+    /// `cgroup.freeze`: the group's own value.
     Freeze(bool),
-    // `cpuset.cpus`.
+    /// `cpuset.cpus`: the CPUs that are asked for.
     Cpus(CpuSet),
-    // `cgroup.max.descendants`.
+    /// `cgroup.max.descendants`.
     MaxDescendants(Limit),
-    // `cgroup.max.depth`.
+    /// `cgroup.max.depth`.
     MaxDepth(Limit),
 }
 

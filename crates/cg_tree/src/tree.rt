@@ -5,14 +5,12 @@ ghost use Rattle.cg_model.specs.Sound.{Sound};
 ghost use Rattle.cg_model.specs.Key.{replaced};
 ghost use Rattle.cg_model.specs.Tree.{group, parent_group, place_of};
 ghost use Rattle.cg_model.specs.Derived.{is_in, is_in_subtree};
-ghost use Rattle.cg_tree.specs.Edit.{edited, needed_entry, RoomForEdit};
 ghost use Rattle.cg_tree.specs.Unlimited.{AreUnlimited};
 ghost use Rattle.cg_tree.specs.NewValue.{with_new};
 ghost use Rattle.cg_tree.specs.Present.{present};
 ghost use Rattle.cg_tree.specs.Room.{has_entry, may_have_entry, with_entry, without_dead, IsRooted, MaySweepIfDead};
 ghost use Rattle.cg_world.specs.Representable.{AreCpusUpTo};
 
-use crate::edit::Edit;
 use crate::groups::Groups;
 use crate::limits::{has_limit, have_limit};
 use crate::new_value::NewValue;
@@ -226,55 +224,20 @@ impl Tree {
         Placed::new(&self.groups, &self.pids)
     }
 
-    /// Makes the entry that the edit needs, if it needs one and there is none. The path of that entry is the root's, or
-    /// its parent is a group. An error, where there is no memory for a new entry, leaves the tree as it was.
-    pub fn make_room(&mut self, alloc: Global, edit: &Edit) -> Result<(), AllocError>
-        requires { IfSome (needed_entry edit.now) (λ p. may_have_entry self.old.tree p ≡ true) }
+    /// Makes the entry of the path, which is the root's or whose parent is a group, where there is none. An error, where there is no
+    /// memory for a new entry, leaves the tree as it was.
+    pub fn make_room(&mut self, alloc: Global, path: &Path) -> Result<(), AllocError>
+        requires { may_have_entry self.old.tree path.now ≡ true }
         ensures tree { self.new.tree ≡ self.old.tree }
-        ensures entries { OnOk result (self.new.entries ≡ with_entry (needed_entry edit.now) self.old.entries) }
-        ensures room { OnOk result (RoomForEdit self.new edit.now) }
+        ensures entries { OnOk result (self.new.entries ≡ with_entry (Some path.now) self.old.entries) }
+        ensures room { OnOk result (has_entry self.new path.now ≡ true) }
         ensures err { OnErr result (self.new ≡ self.old) }
-        ensures has_room { RoomForEdit self.old edit.now → IsOk result }
+        ensures has_room { has_entry self.old path.now ≡ true → IsOk result }
     {
-        let Some(path) = edit.needed_entry() else {
-            return Ok(());
-        };
         if !self.groups.contains(path) {
             self.groups.insert(alloc, path, None)?;
         }
         Ok(())
-    }
-
-    /// Whether there is the entry that the edit needs.
-    pub fn has_room(&self, edit: &Edit) -> bool
-        ensures { IsTrue result ↔ RoomForEdit self.now edit.now }
-    {
-        match edit.needed_entry() {
-            Some(path) => self.groups.contains(path),
-            None => true,
-        }
-    }
-
-    /// Puts the value of the edit at its key: a setting of an absent group and the place of an unknown process stay
-    /// absent. Takes no memory.
-    pub fn put_edit(&mut self, edit: Edit)
-        requires { RoomForEdit self.old edit }
-        ensures tree { self.new.tree ≡ edited edit self.old.tree }
-        ensures entries { self.new.entries ≡ self.old.entries }
-    {
-        match edit {
-            Edit::Group { path, settings } => self.put_group(&path, settings),
-            Edit::Place { pid, path } => self.put_place(pid, &path),
-            Edit::Control { path, value } => self.put_value(&path, &NewValue::Control(value)),
-            Edit::Freeze { path, value } => self.put_value(&path, &NewValue::Freeze(value)),
-            Edit::Cpus { path, value } => self.put_value(&path, &NewValue::Cpus(value)),
-            Edit::MaxDescendants { path, value } => self.put_value(
-                &path,
-                &NewValue::MaxDescendants(value),
-            ),
-            Edit::MaxDepth { path, value } => self.put_value(&path, &NewValue::MaxDepth(value)),
-            Edit::Online { value } => self.put_online(value),
-        }
     }
 
     /// Forgets the dead entry of the path, if there is one. No entry lies below it, and no process is in it.
@@ -288,8 +251,9 @@ impl Tree {
         }
     }
 
-    // Puts the settings into the entry of the path, if there is one.
-    fn put_group(&mut self, path: &Path, settings: Option<Settings>)
+    /// Puts a group with the settings at the path, which has an entry, or takes the group there away. The entry stays. Takes no
+    /// memory.
+    pub fn put_group(&mut self, path: &Path, settings: Option<Settings>)
         requires { IsSome settings → has_entry self.old path.now ≡ true }
         ensures tree { self.new.tree ≡ record self.old.tree { groups = set_at self.old.tree.groups path.now settings } }
         ensures entries { self.new.entries ≡ self.old.entries }
@@ -301,8 +265,8 @@ impl Tree {
         self.groups.replace(path, settings);
     }
 
-    // Puts the value of one setting of the group at the path, if there is one.
-    fn put_value(&mut self, path: &Path, value: &NewValue)
+    /// Puts the value of one setting of the group at the path, if there is one. Takes no memory.
+    pub fn put_value(&mut self, path: &Path, value: &NewValue)
         ensures tree { self.new.tree ≡ record self.old.tree { groups = set_at self.old.tree.groups path.now (with_new value.now (group self.old.tree path.now)) } }
         ensures entries { self.new.entries ≡ self.old.entries }
     {
@@ -313,8 +277,8 @@ impl Tree {
         self.may_limit |= found & value.is_limit();
     }
 
-    // Puts the process into the group, if there is a process with this PID.
-    fn put_place(&mut self, pid: u32, path: &Path)
+    /// Puts the process into the group at the path, which has an entry, if there is a process with this PID. Takes no memory.
+    pub fn put_place(&mut self, pid: u32, path: &Path)
         requires { has_entry self.old path.now ≡ true }
         ensures tree { self.new.tree ≡ record self.old.tree { places = set_at self.old.tree.places pid (replaced (place_of self.old.tree pid) (Some path.now)) } }
         ensures entries { self.new.entries ≡ self.old.entries }
@@ -324,8 +288,8 @@ impl Tree {
         self.groups.put_process(pid, path);
     }
 
-    // Sets the CPUs that are online.
-    fn put_online(&mut self, online: CpuSet)
+    /// Sets the CPUs that are online.
+    pub fn put_online(&mut self, online: CpuSet)
         ensures tree { self.new.tree ≡ record self.old.tree { online = online } }
         ensures entries { self.new.entries ≡ self.old.entries }
     {

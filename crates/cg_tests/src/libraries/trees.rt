@@ -3,7 +3,7 @@ use crate::opening::{LARGER, tree};
 use cg_cpus::CpuSet;
 use cg_name::{Path, Refusal};
 use cg_text::{Settings, write_procs};
-use cg_tree::{Edit, Tree};
+use cg_tree::{NewValue, Tree};
 use cg_world_text::WriteWorld;
 use std::alloc::{AllocError, Global};
 
@@ -26,21 +26,18 @@ fn make_group(alloc: Global, tree: &mut Tree, word: &str) -> Result<(), Refusal>
     if tree.parent_settings(&path).is_none() {
         return Err(Refusal::NoGroup);
     }
-    let settings = Some(Settings::fresh());
-    let edit = Edit::Group { path, settings };
-    tree.make_room(alloc, &edit)?;
-    tree.put_edit(edit);
+    tree.make_room(alloc, &path)?;
+    tree.put_group(&path, Some(Settings::fresh()));
     Ok(())
 }
 
 // Moves the process into the group at the path that a word spells, which has an entry.
 fn move_process(alloc: Global, tree: &mut Tree, pid: u32, word: &str) -> Result<(), Refusal> {
     let path = Path::read(alloc, word)?;
-    let edit = Edit::Place { pid, path };
-    if !tree.has_room(&edit) {
+    if !tree.has_entry(&path) {
         return Err(Refusal::NoGroup);
     }
-    tree.put_edit(edit);
+    tree.put_place(pid, &path);
     Ok(())
 }
 
@@ -48,7 +45,7 @@ fn move_process(alloc: Global, tree: &mut Tree, pid: u32, word: &str) -> Result<
 fn ask_for_a_cpu(alloc: Global, tree: &mut Tree, word: &str) -> Result<(), Refusal> {
     let path = Path::read(alloc, word)?;
     let value = CpuSet::read("0")?;
-    tree.put_edit(Edit::Cpus { path, value });
+    tree.put_value(&path, &NewValue::Cpus(value));
     Ok(())
 }
 

@@ -1,17 +1,17 @@
--- The edits of the changes make what an accepted write does.
+-- The changes make what an accepted write does.
 use Rattle.std.proofs.Common.{sym, ap, subst, ◌∙◌}
 use Rattle.cg_model.specs.Change.{done}
 use Rattle.cg_model.specs.Control.{controlled}
 use Rattle.cg_model.specs.Derived.{children}
 use Rattle.cg_model.specs.System.{Accept, Done}
-use Rattle.cg_command.specs.Subtree.{all_edited, NeedNoEntry}
-use Rattle.cg_command.proofs.Emptying.{AreParts, controlled_parts, edits_make_changes, parts_have_room, parts_need_none, subtree_does}
+use Rattle.cg_command.specs.Subtree.{NeedNoEntry}
+use Rattle.cg_command.proofs.Emptying.{AreParts, controlled_parts, parts_have_room, parts_need_none, subtree_does}
 use Rattle.cg_command.proofs.subtree.subtree.Goals as goal
 
 pub put_all-requires : goal.put_all-requires
 put_all-requires c =
     let parts = controlled_parts c.args.path.now c.in-Some.settings.control c.planned-left.result (children c.args.tree.now.tree c.args.path.now) in
-    subst NeedNoEntry (sym c.in_ok-edits.ensures) (parts_need_none c.changes.result.now (subst AreParts (sym (c.changes.ensures ∙ c.in_ok-inverse.ensures)) parts))
+    parts_need_none _ (subst AreParts (sym (c.changes.ensures ∙ c.in_ok-inverse.ensures)) parts)
 
 pub returns : goal.returns
 returns c = record {
@@ -20,11 +20,7 @@ returns c = record {
         subtree_does c.args.tree.now.tree c.args.path.now c.args.ops c.in-Some.settings (sym c.in-Some.ensures) c.requires
         ∙ ap (λ t. Accept Done (controlled c.args.path.now c.in-Some.settings.control t (children c.args.tree.now.tree c.args.path.now))) (sym c.planned-left.ensures)
         ∙ ap (Accept Done) (sym c.in_ok-inverse.ensures);
-    tree =
-        c.put_all.ensures.tree
-        ∙ ap (λ es. all_edited es c.args.tree.now.tree) c.in_ok-edits.ensures
-        ∙ edits_make_changes c.changes.result.now c.args.tree.now.tree
-        ∙ ap (λ cs. done cs c.args.tree.now.tree) c.changes.ensures;
+    tree = c.put_all.ensures.tree ∙ ap (λ cs. done cs c.args.tree.now.tree) c.changes.ensures;
     room =
         let parts = controlled_parts c.args.path.now c.in-Some.settings.control c.planned-left.result (children c.args.tree.now.tree c.args.path.now) in
         parts_have_room _ c.in_ok-inverse.inverse (subst AreParts (sym c.in_ok-inverse.ensures) parts);

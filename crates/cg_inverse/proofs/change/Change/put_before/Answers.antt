@@ -1,0 +1,42 @@
+-- Each variant is one write.
+use Rattle.std.proofs.Common.{Some, sym, ap, subst, ◌∙◌}
+use Rattle.cg_inverse.specs.Meaning.{change_of, HasRoomIn}
+use Rattle.cg_inverse.proofs.Going.{group_room, with_before}
+use Rattle.cg_inverse.proofs.change.Change.put_before.Goals as goal
+use Rattle.cg_model.specs.Key as keys
+use Rattle.cg_model.specs.Key.{put}
+
+pub put_group-requires : goal.put_group-requires
+put_group-requires c = group_room c.args.tree.now c.in-Group.path c.unboxed.result c.in-Group.before (subst (λ x. HasRoomIn c.args.tree.now (change_of x)) c.in-Group.is c.requires) c.unboxed.ensures
+
+pub put_place-requires : goal.put_place-requires
+put_place-requires c = subst (λ x. HasRoomIn c.args.tree.now (change_of x)) c.in-Place.is c.requires
+
+pub returns-in-Group-clause-tree : goal.returns-in-Group-clause-tree
+returns-in-Group-clause-tree c =
+    c.put_group.ensures.tree ∙ ap (λ s. put (keys.Group c.in-Group.path) s c.args.tree.now.tree) c.unboxed.ensures ∙ ap (λ x. with_before x c.args.tree.now.tree) (sym c.in-Group.is)
+
+pub returns-in-Place-clause-tree : goal.returns-in-Place-clause-tree
+returns-in-Place-clause-tree c = c.put_place.ensures.tree ∙ ap (λ x. with_before x c.args.tree.now.tree) (sym c.in-Place.is)
+
+pub returns-in-Control-clause-tree : goal.returns-in-Control-clause-tree
+returns-in-Control-clause-tree c = c.put_value.ensures.tree ∙ ap (λ x. with_before x c.args.tree.now.tree) (sym c.in-Control.is)
+
+pub returns-in-Freeze-clause-tree : goal.returns-in-Freeze-clause-tree
+returns-in-Freeze-clause-tree c = c.put_value-in-Freeze.ensures.tree ∙ ap (λ x. with_before x c.args.tree.now.tree) (sym c.in-Freeze.is)
+
+pub returns-in-Cpus-clause-tree : goal.returns-in-Cpus-clause-tree
+returns-in-Cpus-clause-tree c =
+    c.put_value-in-Cpus.ensures.tree
+    ∙ ap (λ v. put (keys.Part c.in-Cpus.path keys.Cpus) (Some v) c.args.tree.now.tree) c.get.ensures
+    ∙ ap (λ x. with_before x c.args.tree.now.tree) (sym c.in-Cpus.is)
+
+pub returns-in-MaxDescendants-clause-tree : goal.returns-in-MaxDescendants-clause-tree
+returns-in-MaxDescendants-clause-tree c = c.put_value-in-MaxDescendants.ensures.tree ∙ ap (λ x. with_before x c.args.tree.now.tree) (sym c.in-MaxDescendants.is)
+
+pub returns-in-MaxDepth-clause-tree : goal.returns-in-MaxDepth-clause-tree
+returns-in-MaxDepth-clause-tree c = c.put_value-in-MaxDepth.ensures.tree ∙ ap (λ x. with_before x c.args.tree.now.tree) (sym c.in-MaxDepth.is)
+
+pub returns-in-Online-clause-tree : goal.returns-in-Online-clause-tree
+returns-in-Online-clause-tree c =
+    c.put_online.ensures.tree ∙ ap (λ v. put keys.Online (Some v) c.args.tree.now.tree) c.get-in-Online.ensures ∙ ap (λ x. with_before x c.args.tree.now.tree) (sym c.in-Online.is)
