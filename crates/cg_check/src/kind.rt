@@ -5,7 +5,7 @@ ghost use Rattle.cg_check.specs.declared.kind.Kind.{Kind};
 
 use crate::line::places_in_request;
 use cg_name::Refusal;
-use cg_text::read_words;
+use cg_text::{LineWords, read_words};
 use std::alloc::{AllocError, Global};
 use std::fmt;
 
@@ -58,13 +58,14 @@ impl Kind {
     /// no memory for a line's words.
     pub fn of_text(alloc: Global, text: &[u8]) -> Result<Kind, AllocError> {
         for line in text.split(|byte| *byte == b'\n') {
-            match read_words(alloc, line) {
-                Ok(Some(words)) => {
+            let mut words = LineWords::new(alloc);
+            match read_words(line, &mut words) {
+                Ok(true) => {
                     if let Some(kind) = Kind::of_words(words.as_slice()) {
                         return Ok(kind);
                     }
                 }
-                Ok(None) | Err(Refusal::Syntax) => {}
+                Ok(false) | Err(Refusal::Syntax) => {}
                 Err(_) => return Err(AllocError),
             }
         }

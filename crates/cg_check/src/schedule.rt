@@ -10,7 +10,7 @@ use crate::uncut::uncut;
 use crate::want::Want;
 use cg_name::Refusal;
 use cg_script::{SessionName, read_line};
-use cg_text::read_words;
+use cg_text::{LineWords, read_words};
 use indexmap::IndexSet;
 use std::alloc::{AllocError, Global};
 
@@ -81,8 +81,9 @@ fn one_name_more<'a>(
 ) -> Result<Fault<'a>, AllocError> {
     let is = "is the name of one session more than there may be";
     let wanted = "one of the 4096 names above may stand here";
-    match read_words(alloc, line) {
-        Ok(Some(words)) => {
+    let mut words = LineWords::new(alloc);
+    match read_words(line, &mut words) {
+        Ok(true) => {
             let line = Line {
                 number,
                 bytes: line,
@@ -90,7 +91,7 @@ fn one_name_more<'a>(
             };
             Ok(line.wrong_word(0, is, wanted))
         }
-        Ok(None) | Err(Refusal::Syntax) => Ok(Fault {
+        Ok(false) | Err(Refusal::Syntax) => Ok(Fault {
             line: number,
             column: 1,
             wrong: Wrong::here(is, wanted),
@@ -101,8 +102,9 @@ fn one_name_more<'a>(
 
 // Why a line is no session's request.
 fn why_no_call<'a>(alloc: Global, number: usize, line: &'a [u8]) -> Result<Fault<'a>, AllocError> {
-    match read_words(alloc, line) {
-        Ok(Some(words)) => why_no_words(
+    let mut words = LineWords::new(alloc);
+    match read_words(line, &mut words) {
+        Ok(true) => why_no_words(
             alloc,
             Line {
                 number,
@@ -110,7 +112,7 @@ fn why_no_call<'a>(alloc: Global, number: usize, line: &'a [u8]) -> Result<Fault
                 words: words.as_slice(),
             },
         ),
-        Ok(None) | Err(Refusal::Syntax) => Ok(uncut(number, line)),
+        Ok(false) | Err(Refusal::Syntax) => Ok(uncut(number, line)),
         Err(_) => Err(AllocError),
     }
 }

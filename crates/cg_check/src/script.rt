@@ -10,7 +10,7 @@ use crate::place::too_long;
 use crate::uncut::uncut;
 use cg_name::Refusal;
 use cg_script::{LONGEST_SCRIPT, read_script};
-use cg_text::read_words;
+use cg_text::{LineWords, read_words};
 use std::alloc::{AllocError, Global};
 
 // The most requests of a script.
@@ -71,9 +71,10 @@ impl<'a> Pass<'a> {
         number: usize,
         line: &'a [u8],
     ) -> Result<(), AllocError> {
-        match read_words(alloc, line) {
-            Ok(None) => Ok(()),
-            Ok(Some(words)) => self.take_words(
+        let mut words = LineWords::new(alloc);
+        match read_words(line, &mut words) {
+            Ok(false) => Ok(()),
+            Ok(true) => self.take_words(
                 alloc,
                 Line {
                     number,

@@ -2,7 +2,7 @@
 use crate::fault::Faults;
 use crate::line::Line;
 use cg_name::{Controller, Path, Refusal};
-use cg_text::{Controllers, Settings, read_words};
+use cg_text::{Controllers, LineWords, Settings, read_words};
 use cg_world::PlainTree;
 use cg_world_text::{Statement, Version};
 use std::alloc::{AllocError, Global};
@@ -45,11 +45,12 @@ impl Sound {
         line: &'a [u8],
         faults: &mut Faults<'a>,
     ) -> Result<(), AllocError> {
-        let words = match read_words(alloc, line) {
-            Ok(Some(words)) => words,
-            Ok(None) | Err(Refusal::Syntax) => return Ok(()),
+        let mut words = LineWords::new(alloc);
+        match read_words(line, &mut words) {
+            Ok(true) => {}
+            Ok(false) | Err(Refusal::Syntax) => return Ok(()),
             Err(_) => return Err(AllocError),
-        };
+        }
         let line = Line {
             number,
             bytes: line,

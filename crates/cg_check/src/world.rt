@@ -10,7 +10,7 @@ use crate::sound::Sound;
 use crate::uncut::uncut;
 use cg_cpus::CpuSet;
 use cg_name::{Path, Refusal};
-use cg_text::{Controllers, Settings, read_words};
+use cg_text::{Controllers, LineWords, Settings, read_words};
 use cg_world::{PlainTree, World};
 use cg_world_text::{LONGEST_WORLD, ReadWorld, Statement, Version};
 use indexmap::IndexSet;
@@ -167,9 +167,10 @@ impl<'a> Pass<'a> {
         number: usize,
         line: &'a [u8],
     ) -> Result<(), AllocError> {
-        match read_words(alloc, line) {
-            Ok(None) => Ok(()),
-            Ok(Some(words)) => self.take_words(
+        let mut words = LineWords::new(alloc);
+        match read_words(line, &mut words) {
+            Ok(false) => Ok(()),
+            Ok(true) => self.take_words(
                 alloc,
                 Line {
                     number,

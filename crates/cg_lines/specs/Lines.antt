@@ -1,5 +1,5 @@
 -- What a reader of lines takes of a text.
-use Rattle.std.specs.Prelude.{◌≡◌, ◌≢◌, ℕ, ◌+◌, ◌-◌, ◌*◌, ◌≤◌, ◌<◌, ◌⊎◌, Bool, true, false, List, [], ◌∷◌, ◌++◌, length, take, drop, All, Option, Some, None, ⊤}
+use Rattle.std.specs.Prelude.{◌≡◌, ◌≢◌, ℕ, ◌+◌, ◌-◌, ◌*◌, ◌≤◌, ◌<◌, ◌⊎◌, Bool, true, false, List, [], ◌∷◌, ◌++◌, length, take, drop, get_or, All, Option, Some, None, ⊤}
 use Rattle.std.specs.Io.KnownBytes.{prepend_known, Consumes}
 use Rattle.cg_text.specs.Words.{lines_of}
 use Rattle.cg_lines.specs.Device.{Failed, more}
@@ -99,6 +99,12 @@ TakesPiece text bytes false rest = (text ≡ bytes) × (rest ≡ [])
 -- n is the place of the first newline
 abbrev pub IsFirstNewline : List ℕ → ℕ → Type 0
 IsFirstNewline bytes n = (n < length bytes) × HasNoNewline (take n bytes) × (bytes ≡ take n bytes ++ 10 ∷ drop (n + 1) bytes)
+
+-- the lines that end in the bytes end before n: the byte before it is a newline, where there is one, and no later byte is
+pub record EndsWholeLines (bytes : List ℕ) (n : ℕ) : Type 0 where
+  pub within : n ≤ length bytes
+  pub newline : (m : ℕ) → n ≡ m + 1 → get_or bytes m 0 ≡ 10
+  pub last : HasNoNewline (drop n bytes)
 
 -- a step through a text's lines: there is none, or the first is taken
 abbrev pub TakesFirst : List (List ℕ) → LineKind → List ℕ → List (List ℕ) → Type 0

@@ -2,11 +2,11 @@
 ghost use Rattle.std.specs.Prelude.{◌≡◌, ◌≢◌, ℕ, ◌+◌, ◌≤◌, ◌<◌, List, [], ◌∷◌, ◌++◌, length, take, drop, IfOk, IfErr, IfSome, OnOk, OnErr, IsOk, IsErr, IsTrue, MatchOption, is_err, true, false, vec_len, vec_capacity};
 ghost use Rattle.std.specs.Io.KnownBytes.{Consumes, Keeps, IsAtEnd, ReadConsumes};
 ghost use Rattle.cg_lines.specs.Device.{Failed, more};
-ghost use Rattle.cg_lines.specs.Lines.{HasNoNewline, bytes_to_come, TakesKnownLine, LosesOfLine, pending, CanBreak, BreaksNow, IsGathered, TakesPiece, IsFirstNewline, kind_where, last_kind_where, StepsAreLines};
+ghost use Rattle.cg_lines.specs.Lines.{HasNoNewline, bytes_to_come, TakesKnownLine, LosesOfLine, pending, CanBreak, BreaksNow, IsGathered, TakesPiece, IsFirstNewline, EndsWholeLines, kind_where, last_kind_where, StepsAreLines};
 
 use crate::device::{DeviceFault, Source};
 use cg_text::LONGEST_LINE;
-use memchr::memchr;
+use memchr::{memchr, memrchr};
 use std::alloc::{AllocError, Global};
 use std::marker::Model;
 use thiserror::Error;
@@ -52,6 +52,8 @@ pub struct LineReader<S: Source> {
     chunk: Vec<u8>,
     start: usize,
     end: usize,
+    // The place behind the last newline of `chunk[..end]`, or 0: found once a read.
+    whole: usize,
     // It has room for the longest line from the start on, so that reading takes no memory.
     line: Vec<u8>,
     failed_before: u64,
@@ -61,7 +63,7 @@ pub struct LineReader<S: Source> {
 
 impl<S: Source> Model for LineReader<S> {
     ghost use Rattle.std.specs.Prelude.{◌≡◌, ◌≤◌, slice_range, IsTrue, vec_len, vec_capacity};
-    ghost use Rattle.cg_lines.specs.Lines.{Reading, CanBreak};
+    ghost use Rattle.cg_lines.specs.Lines.{Reading, CanBreak, EndsWholeLines};
 
     ghost Value = { Reading };
 
@@ -76,7 +78,7 @@ impl<S: Source> Model for LineReader<S> {
     } };
 
     ghost invariant = { λ r. (vec_len r.chunk ≡ 65536) × (r.start ≤ r.end) × (r.end ≤ 65536)
-        × (65536 ≤ vec_capacity r.line) × (r.reads ≤ 67108864) × (r.failed_before ≤ S.failed r.source)
+        × EndsWholeLines (slice_range r.chunk.items 0 r.end) r.whole × (65536 ≤ vec_capacity r.line) × (r.reads ≤ 67108864) × (r.failed_before ≤ S.failed r.source)
         × (IsTrue r.is_broken → CanBreak r.failed_before (S.failed r.source) r.reads) };
 }
 
@@ -120,6 +122,7 @@ impl<S: Source> LineReader<S> {
             chunk,
             start: 0,
             end: 0,
+            whole: 0,
             line,
             failed_before,
             reads: 0,
@@ -148,10 +151,7 @@ impl<S: Source> LineReader<S> {
         ensures line { result ≡ true → (n : ℕ) × IsFirstNewline self.now.buffered n }
         ensures none { result ≡ false → HasNoNewline self.now.buffered }
     {
-        match newline_in(&self.chunk[self.start..self.end]) {
-            Some(_) => true,
-            None => false,
-        }
+        self.start < self.whole
     }
 
     /// Goes on to the next line. `Read` comes only where the source has failed since the reader was
@@ -239,6 +239,7 @@ impl<S: Source> LineReader<S> {
     {
         self.start = 0;
         self.end = 0;
+        self.whole = 0;
         if self.reads == MOST_READS {
             self.is_broken = true;
             return Err(LineFault::Read);
@@ -247,6 +248,7 @@ impl<S: Source> LineReader<S> {
         match read_over(&mut self.source, &mut self.chunk) {
             Ok(n) => {
                 self.end = n;
+                self.whole = behind_last_newline(&self.chunk[0..n]);
                 Ok(n > 0)
             }
             Err(_) => {
@@ -294,6 +296,16 @@ fn newline_in(bytes: &[u8]) -> Option<usize>
     ensures { MatchOption result (HasNoNewline bytes.now) (IsFirstNewline bytes.now) }
 {
     memchr(NEWLINE, bytes)
+}
+
+// The place behind the last newline, or 0 where there is none.
+fn behind_last_newline(bytes: &[u8]) -> usize
+    ensures { EndsWholeLines bytes.now result }
+{
+    match memrchr(NEWLINE, bytes) {
+        Some(n) => n + 1,
+        None => 0,
+    }
 }
 
 // Appends more bytes of a line that fits so far, and tells whether it still fits; of a line that does not nothing stays.

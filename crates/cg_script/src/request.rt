@@ -13,7 +13,7 @@ use crate::session::SessionName;
 use cg_command_text::{commands_can_be_asked_for, read_command, write_command};
 use cg_history::Request;
 use cg_name::{Refusal, SaveName, or_truncate};
-use cg_text::read_words;
+use cg_text::{LineWords, read_words};
 use std::alloc::{AllocError, Global};
 
 /// Which session asks for what by this line: `None` where the line is blank or a comment. `Syntax` where it
@@ -23,9 +23,10 @@ pub fn read_line(alloc: Global, line: &[u8]) -> Result<Option<(SessionName, Requ
     ensures syntax { IsErrOf result Refusal.Syntax → (call : Option (List ℕ × model.Request cgroups)) → SpellsLine line.now call → ⊥ }
     ensures refusals { IfErr result IsSyntaxOrMemory }
 {
-    let Some(words) = read_words(alloc, line)? else {
+    let mut words = LineWords::new(alloc);
+    if !read_words(line, &mut words)? {
         return Ok(None);
-    };
+    }
     Ok(Some(read_call(alloc, words.as_slice())?))
 }
 

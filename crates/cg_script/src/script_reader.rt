@@ -13,7 +13,7 @@ use crate::request::read_request;
 use crate::script::Script;
 use cg_history::Request;
 use cg_name::Refusal;
-use cg_text::read_words;
+use cg_text::{LineWords, read_words};
 use std::alloc::Global;
 
 /// The most bytes of a script's text.
@@ -66,13 +66,12 @@ impl Script {
         ensures syntax { IsErrOf result Refusal.Syntax → (lines : List Line) (more : List (model.Request cgroups)) → SayRequests (line.now ∷ lines) more → IsNoScript (asked_by self.old ++ more) }
         ensures refusals { IfErr result IsSyntaxOrMemory }
     {
-        match read_words(alloc, line)? {
-            Some(words) => {
-                let request = read_request(alloc, words.as_slice())?;
-                self.take(request)
-            }
-            None => Ok(()),
+        let mut words = LineWords::new(alloc);
+        if !read_words(line, &mut words)? {
+            return Ok(());
         }
+        let request = read_request(alloc, words.as_slice())?;
+        self.take(request)
     }
 
     // Takes the next request.

@@ -1,7 +1,6 @@
 //! How a line of a text is cut into words. A word is bare, of bytes that are neither blanks nor quotation marks nor
 //! backslashes, or it stands between quotation marks, where it may have blanks. A blank is a space or a tab.
-ghost use Rattle.std.specs.Prelude.{◌≡◌, ◌↔◌, ◌∷◌, IfErr, IfOk, IsTrue, List, MatchOption, Option, false, map, true, ℕ};
-ghost use Rattle.std.specs.Option.{option_map};
+ghost use Rattle.std.specs.Prelude.{◌≡◌, ◌↔◌, ◌∷◌, IfErr, IfOk, IsTrue, List, MatchOption, None, OnOk, Option, Some, false, map, true, ℕ};
 ghost use Rattle.std.specs.Result.{IsErrOf};
 ghost use Rattle.std.specs.Str.Lines.{strip_carriage_return};
 ghost use Rattle.cg_name.specs.Refusal.{IsSyntaxOrMemory};
@@ -11,21 +10,28 @@ ghost use Rattle.cg_text.specs.Words.{Cuts, EndsWord, Line, Says, Word, is_silen
 
 use cg_name::{Refusal, is_bare_byte};
 use memchr::{memchr, memchr3};
-use std::alloc::Global;
+use smallvec::SmallVec;
 
 /// The most bytes of a line, its newline left out.
 pub const LONGEST_LINE: usize = 65_536;
 
-/// The words of a line, as they stand in it, with their quotation marks. Blanks separate them, and may stand before
-/// the first and behind the last. Between quotation marks a backslash stands before a quotation mark, a backslash or
-/// an `n`, for a newline, and before nothing else. `Syntax` where a quotation mark isn't closed, where a bare word has
-/// a mark, or where something but a blank stands behind a word.
-pub fn words(alloc: Global, line: &str) -> Result<Vec<&str>, Refusal>
-    ensures value { IfOk result (λ words. Cuts line.now (map (λ w. w.now) words.items)) }
+// How many bytes a word has at most that is short.
+const SHORT_WORD: usize = 16;
+
+/// The words of a line, as they stand in it. Most lines have few, which take no memory.
+pub type LineWords<'a> = SmallVec<&'a str, 8>;
+
+/// Puts the words of a line, as they stand in it, with their quotation marks, in the place of those that `words` has.
+/// Blanks separate them, and may stand before the first and behind the last. Between quotation marks a backslash stands
+/// before a quotation mark, a backslash or an `n`, for a newline, and before nothing else. `Syntax` where a quotation
+/// mark isn't closed, where a bare word has a mark, or where something but a blank stands behind a word. After a refusal
+/// nothing is told of `words`.
+pub fn cut_words<'a>(line: &'a str, words: &mut LineWords<'a>) -> Result<(), Refusal>
+    ensures value { OnOk result (Cuts line.now (map (λ w. w.now) words.new.items)) }
     ensures syntax { IsErrOf result Refusal.Syntax → (ws : List Word) → Cuts line.now ws → ⊥ }
     ensures refusals { IfErr result IsSyntaxOrMemory }
 {
-    let mut words = Vec::new(alloc);
+    words.clear();
     let mut rest = behind_blanks(line);
     while !rest.is_empty() {
         let Some((word, others)) = cut_word(rest) else {
@@ -34,14 +40,16 @@ pub fn words(alloc: Global, line: &str) -> Result<Vec<&str>, Refusal>
         words.push(word)?;
         rest = behind_blanks(others);
     }
-    Ok(words)
+    Ok(())
 }
 
-/// What a line says: its words, or `None` where it says nothing, since it has no byte past its blanks, or a number
-/// sign, whatever stands behind that. One carriage return at the line's end is dropped. A line that is too long or
-/// isn't UTF-8 is `Syntax`, one that says nothing too, and so is a line that can't be cut into words.
-pub fn read_words(alloc: Global, line: &[u8]) -> Result<Option<Vec<&str>>, Refusal>
-    ensures value { IfOk result (λ said. Says line.now (option_map (λ words. map (λ w. w.now) words.items) said)) }
+/// What a line says: its words, which stand in `words` in the place of those that were there, or false where it says
+/// nothing, since it has no byte past its blanks, or a number sign, whatever stands behind that. One carriage return at
+/// the line's end is dropped. A line that is too long or isn't UTF-8 is `Syntax`, and so is one that says something and
+/// can't be cut into words. After a refusal nothing is told of `words`.
+pub fn read_words<'a>(line: &'a [u8], words: &mut LineWords<'a>) -> Result<bool, Refusal>
+    ensures words { IfOk result (λ says. says ≡ true → Says line.now (Some (map (λ w. w.now) words.new.items))) }
+    ensures silent { IfOk result (λ says. says ≡ false → Says line.now None) }
     ensures syntax { IsErrOf result Refusal.Syntax → (said : Option (List Word)) → Says line.now said → ⊥ }
     ensures refusals { IfErr result IsSyntaxOrMemory }
 {
@@ -52,9 +60,10 @@ pub fn read_words(alloc: Global, line: &[u8]) -> Result<Option<Vec<&str>>, Refus
         return Err(Refusal::Syntax);
     };
     if is_silent(line) {
-        return Ok(None);
+        return Ok(false);
     }
-    Ok(Some(words(alloc, line)?))
+    cut_words(line, words)?;
+    Ok(true)
 }
 
 // The line without one carriage return at its end.
@@ -135,8 +144,23 @@ fn behind_escaped(text: &[u8]) -> Option<&[u8]>
     }
 }
 
-// The text behind the bytes at its front that a bare word may have.
+// The text behind the bytes at its front that a bare word may have: the first ones are looked at one by one, and a search
+// for the end begins behind them, since it pays only for a long word.
 fn behind_bare(text: &[u8]) -> &[u8]
+    ensures { result.now ≡ behind is_bare_byte text.now }
+{
+    let mut rest = text;
+    'bytes: for _ in 0..SHORT_WORD {
+        match rest {
+            [byte, others @ ..] if is_bare_byte(*byte) => rest = others,
+            _ => return rest,
+        }
+    }
+    behind_many_bare(rest)
+}
+
+// The same by searches.
+fn behind_many_bare(text: &[u8]) -> &[u8]
     ensures { result.now ≡ behind is_bare_byte text.now }
 {
     let end = memchr3(b' ', b'\t', b'"', text).unwrap_or(text.len());

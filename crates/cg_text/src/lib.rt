@@ -13,7 +13,7 @@ mod writing;
 pub use cg_name::{FileName, write_quoted};
 pub use control_ops::ControlOps;
 pub use controllers::Controllers;
-pub use cutting::{LONGEST_LINE, read_words, words};
+pub use cutting::{LONGEST_LINE, LineWords, cut_words, read_words};
 pub use limit::{Limit, LimitNumber};
 pub use reading::{LAST_PID, read_flag, read_limit, read_ops, read_pid};
 pub use settings::Settings;

@@ -10,7 +10,7 @@ ghost use Rattle.cg_world_text.specs.Reader.{BeginTree, HasTaken, SomeEnds, Spel
 use crate::stage::Stage;
 use crate::statement::Statement;
 use cg_name::Refusal;
-use cg_text::read_words;
+use cg_text::{LineWords, read_words};
 use cg_world::World;
 use std::alloc::Global;
 use std::marker::Model;
@@ -48,9 +48,10 @@ impl WorldReader {
         ensures syntax { IsErrOf result Refusal.Syntax → (lines : List Line) → HasTaken self.old lines → ¬ (BeginTree (lines ++ line.now ∷ [])) }
         ensures refusals { IfErr result IsSyntaxOrMemory }
     {
-        let Some(words) = read_words(alloc, line)? else {
+        let mut words = LineWords::new(alloc);
+        if !read_words(line, &mut words)? {
             return Ok(());
-        };
+        }
         let statement = Statement::read(alloc, self.stage.version(), words.as_slice())?;
         self.stage.take(alloc, statement)
     }

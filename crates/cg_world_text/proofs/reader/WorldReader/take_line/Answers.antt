@@ -1,6 +1,5 @@
 -- A line of words says what the statement read says.
-use Rattle.std.proofs.Common.{Some, map, ap, subst, sym, ◌∙◌}
-use Rattle.std.specs.Option.{option_map}
+use Rattle.std.proofs.Common.{Some, None, map, ap, rules, subst, sym, ◌∙◌}
 use Rattle.std.proofs.lemmas.Result.{err_from_is_err_and, on_ok_weaker}
 use Rattle.cg_text.specs.Words.{Says}
 use Rattle.cg_world_text.specs.Statement.{SpellsStatement}
@@ -10,22 +9,22 @@ use Rattle.cg_world_text.proofs.Lines.{misplaced, unspoken, unsaid}
 use Rattle.cg_world_text.proofs.Taken.{taken_no_more, taken_silent, taken_spoken}
 use Rattle.cg_world_text.proofs.reader.WorldReader.take_line.Goals as goal
 
-pub returns-in_err-words-clause-syntax : goal.returns-in_err-words-clause-syntax
-returns-in_err-words-clause-syntax c =
+pub returns-in_err-read_words-clause-syntax : goal.returns-in_err-read_words-clause-syntax
+returns-in_err-read_words-clause-syntax c =
     let gone = err_from_is_err_and c.from_residual.result c.from_residual.ensures.1 in
-    λ e. taken_no_more c.args.self.now c.args.line.now (unsaid c.args.self.now c.args.line.now (c.in_err-words.ensures.syntax (cc (gone.1, gone.2))))
+    λ e. taken_no_more c.args.self.now c.args.line.now (unsaid c.args.self.now c.args.line.now (c.in_err-read_words.ensures.syntax (cc (gone.1, gone.2))))
 
-pub returns-in_default-clause-taken : goal.returns-in_default-clause-taken
-returns-in_default-clause-taken c =
-    let none = subst (Says c.args.line.now) (ap (option_map (λ words. map (λ w. w.now) words.items)) c.in_default.is) c.in_ok-words.ensures.value in
+pub returns-then-not-branch-clause-taken : goal.returns-then-not-branch-clause-taken
+returns-then-not-branch-clause-taken c =
+    let none : Says c.args.line.now None = search rules in
     taken_silent c.args.self.now c.args.line.now none
 
-pub returns-in_default-clause-begins : goal.returns-in_default-clause-begins
-returns-in_default-clause-begins c = λ lines h. taken_begin c.args.self.now _ (returns-in_default-clause-taken c lines h)
+pub returns-then-not-branch-clause-begins : goal.returns-then-not-branch-clause-begins
+returns-then-not-branch-clause-begins c = λ lines h. taken_begin c.args.self.now _ (returns-then-not-branch-clause-taken c lines h)
 
 pub returns-in_err-statement-clause-syntax : goal.returns-in_err-statement-clause-syntax
 returns-in_err-statement-clause-syntax c =
-    let said = subst (Says c.args.line.now) (ap (option_map (λ words. map (λ w. w.now) words.items)) c.in-Some.is ∙ ap (λ ws. Some (map (λ w. w.now) ws)) (sym c.as_slice.ensures.value)) c.in_ok-words.ensures.value in
+    let said : Says c.args.line.now (Some (map (λ w. w.now) c.as_slice.result.now)) = search rules in
     let version = c.version.ensures ∙ ap version_at c.self.view_is in
     let gone = err_from_is_err_and c.from_residual-in_err-statement.result c.from_residual-in_err-statement.ensures.1 in
     λ e. taken_no_more c.args.self.now c.args.line.now
@@ -33,7 +32,7 @@ returns-in_err-statement-clause-syntax c =
 
 pub returns-clause-syntax : goal.returns-clause-syntax
 returns-clause-syntax c =
-    let said = subst (Says c.args.line.now) (ap (option_map (λ words. map (λ w. w.now) words.items)) c.in-Some.is ∙ ap (λ ws. Some (map (λ w. w.now) ws)) (sym c.as_slice.ensures.value)) c.in_ok-words.ensures.value in
+    let said : Says c.args.line.now (Some (map (λ w. w.now) c.as_slice.result.now)) = search rules in
     let version = c.version.ensures ∙ ap version_at c.self.view_is in
     let says = subst (λ v. SpellsStatement v (map (λ w. w.now) c.as_slice.result.now) c.in_ok-statement.statement) version c.in_ok-statement.ensures.value in
     λ e.
@@ -42,7 +41,7 @@ returns-clause-syntax c =
 
 pub returns-clause-taken : goal.returns-clause-taken
 returns-clause-taken c =
-    let said = subst (Says c.args.line.now) (ap (option_map (λ words. map (λ w. w.now) words.items)) c.in-Some.is ∙ ap (λ ws. Some (map (λ w. w.now) ws)) (sym c.as_slice.ensures.value)) c.in_ok-words.ensures.value in
+    let said : Says c.args.line.now (Some (map (λ w. w.now) c.as_slice.result.now)) = search rules in
     let version = c.version.ensures ∙ ap version_at c.self.view_is in
     let says = subst (λ v. SpellsStatement v (map (λ w. w.now) c.as_slice.result.now) c.in_ok-statement.statement) version c.in_ok-statement.ensures.value in
     on_ok_weaker c.take.result

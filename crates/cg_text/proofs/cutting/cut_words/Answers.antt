@@ -7,14 +7,14 @@ use Rattle.cg_text.specs.Words.{Word}
 use Rattle.cg_text.proofs.Cuts.{IsCutTo, cut_from_start, cut_more, cut_to_end, cut_by_none}
 use Rattle.cg_text.proofs.FirstWord.{rest_is_shorter}
 use Rattle.cg_text.proofs.Lists.{behind_is_shorter}
-use Rattle.cg_text.proofs.cutting.words.Goals as goal
+use Rattle.cg_text.proofs.cutting.cut_words.Goals as goal
 
 pub loop-rest-init : goal.loop-rest-init
 loop-rest-init c = record {
   utf8 = c.behind_blanks-rest.utf8;
   cut =
-      subst (IsCutTo c.args.line.now (map (λ w. w.now) c.new-words.result.items)) (sym c.behind_blanks-rest.ensures)
-      (subst (λ done. IsCutTo c.args.line.now done (behind is_blank c.args.line.now)) (ap (map (λ w. w.now)) (sym c.new-words.ensures.items)) (cut_from_start c.args.line.now));
+      subst (IsCutTo c.args.line.now (map (λ w. w.now) c.clear.new.self.items)) (sym c.behind_blanks-rest.ensures)
+      (subst (λ done. IsCutTo c.args.line.now done (behind is_blank c.args.line.now)) (ap (map (λ w. w.now)) (sym c.clear.ensures.items)) (cut_from_start c.args.line.now));
 }
 
 pub returns-in_default-clause-syntax : goal.returns-in_default-clause-syntax
@@ -28,7 +28,7 @@ pub loop-rest-preserved : goal.loop-rest-preserved
 loop-rest-preserved c =
     let line = c.args.line.now in
     let texts : List (Bor (List ℕ)) → List Word = map (λ w. w.now) in
-    let more : texts c.push.new.self.items ≡ texts c.loop-rest.words.items ++ c.in-Some.word.now ∷ [] = ap texts c.in_ok-push.ensures.items ∙ map-append (λ w. w.now) c.loop-rest.words.items (c.in-Some.word ∷ []) in
+    let more : texts c.push.new.self.items ≡ texts c.loop-rest.words.items ++ c.in-Some.word.now ∷ [] = ap texts c.in_ok-push.ensures.ok ∙ map-append (λ w. w.now) c.loop-rest.words.items (c.in-Some.word ∷ []) in
     record {
       utf8 = c.behind_blanks-rest-in-loop-rest.utf8;
       cut =

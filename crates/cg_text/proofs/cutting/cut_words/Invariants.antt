@@ -1,7 +1,7 @@
 use Rattle.std.proofs.Common.{map, length}
 use Rattle.std.specs.Str.{IsUtf8}
 use Rattle.cg_text.proofs.Cuts.{IsCutTo}
-use Rattle.cg_text.proofs.cutting.words.Given as goal
+use Rattle.cg_text.proofs.cutting.cut_words.Given as goal
 
 abbrev pub invariant-loop-rest : goal.invariant-loop-rest
 invariant-loop-rest l = record {
