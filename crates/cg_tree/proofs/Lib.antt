@@ -19,4 +19,5 @@ mod Unlimited
 mod Unordered
 mod Values
 mod WorldGroups
+mod Writing
 pub mod Downward

@@ -7,7 +7,7 @@ use Rattle.cg_maps.proofs.Maps.{get-domain, set_same}
 use Rattle.cg_name.specs.Path.{Path, is_parent, is_root}
 use Rattle.cg_name.specs.Order.{path_cmp_total, path_cmp_exact}
 use Rattle.cg_text.specs.declared.settings.Settings.{Settings}
-use Rattle.cg_model.specs.Tree.{Tree, group, place_of, parent_group}
+use Rattle.cg_model.specs.Tree.{group, place_of, parent_group}
 use Rattle.cg_tree.specs.declared.tree.Tree.TheInside.{Inside}
 use Rattle.cg_tree.specs.Contents.{Contents}
 use Rattle.cg_tree.specs.Inside.{room_of}

@@ -1,13 +1,16 @@
 // The nodes of a tree's groups, with the counts of groups and processes below each kept as these come and go.
-ghost use Rattle.std.specs.Prelude.{◌≡◌, true, option_map, List, ℕ, IfOk, OnErr, OnOk, None, Some};
+ghost use Rattle.std.specs.Prelude.{◌≡◌, true, is_some, option_map, List, ℕ, IfOk, OnErr, OnOk, None, Some};
+ghost use Rattle.std.specs.Option.{option_flatten};
 ghost use Rattle.cg_maps.specs.FiniteMap.{get, set_at};
 ghost use Rattle.cg_name.specs.Path.{is_above, is_parent, is_prefix};
 ghost use Rattle.cg_path_tree.specs.Nodes.{with_value, HasParent, IsKey};
 ghost use Rattle.cg_tree.specs.declared.entry.Entry.{Entry};
 ghost use Rattle.cg_tree.specs.Entries.{count_of, counted, counted_if, entry_at, groups_in, held_in, passing_in, path_at, recounted, with_passing, with_right_below, AreCounted, AreCountedBelow, CanCount};
+ghost use Rattle.cg_tree.specs.NewValue.{with_new};
 ghost use Rattle.cg_tree.specs.Passing.{stepped, CanPass};
 
 use crate::entry::{Count, Entry, counted};
+use crate::new_value::NewValue;
 use crate::passing::{Passing, control_of};
 use cg_name::Path;
 use cg_path_tree::{NodeKey, PathTree};
@@ -15,11 +18,21 @@ use cg_text::{Controllers, Settings};
 use std::alloc::{AllocError, Global};
 
 // Writes the settings of a node.
-fn write_settings(nodes: &mut PathTree<Entry>, key: NodeKey, settings: Option<Settings>)
+fn write_settings(nodes: &mut PathTree<Entry>, key: NodeKey, settings: &Option<Settings>)
     requires { IsKey nodes.old.keys key }
-    ensures { (e : Entry) → entry_at nodes.old key ≡ Some e → nodes.new ≡ with_value nodes.old (path_at nodes.old key) (record e { settings = settings }) }
+    ensures { (e : Entry) → entry_at nodes.old key ≡ Some e → nodes.new ≡ with_value nodes.old (path_at nodes.old key) (record e { settings = settings.now }) }
 {
-    nodes.get_mut(key).settings = settings;
+    nodes.get_mut(key).settings = *settings;
+}
+
+// Writes the value of one setting of a node, where there are settings.
+fn write_value(nodes: &mut PathTree<Entry>, key: NodeKey, value: &NewValue)
+    requires { IsKey nodes.old.keys key }
+    ensures { (e : Entry) → entry_at nodes.old key ≡ Some e → nodes.new ≡ with_value nodes.old (path_at nodes.old key) (record e { settings = with_new value.now e.settings }) }
+{
+    if let Some(settings) = &mut nodes.get_mut(key).settings {
+        value.assign(settings);
+    }
 }
 
 // One more or less in a count of a node.
@@ -107,11 +120,11 @@ fn pass_at_parent(
 }
 
 // Puts the settings at the node: where a group comes or goes, it is counted above.
-fn put_group(nodes: &mut PathTree<Entry>, key: NodeKey, settings: Option<Settings>)
+fn put_group(nodes: &mut PathTree<Entry>, key: NodeKey, settings: &Option<Settings>)
     requires key { IsKey nodes.old.keys key }
     requires counted { AreCountedBelow nodes.old.values }
     ensures keys { nodes.new.keys ≡ nodes.old.keys }
-    ensures groups { groups_in nodes.new.values ≡ set_at (groups_in nodes.old.values) (path_at nodes.old key) (Some settings) }
+    ensures groups { groups_in nodes.new.values ≡ set_at (groups_in nodes.old.values) (path_at nodes.old key) (Some settings.now) }
     ensures counted { AreCountedBelow nodes.new.values }
     ensures passing { passing_in nodes.new.values ≡ passing_in nodes.old.values }
     ensures held { held_in nodes.new.values ≡ held_in nodes.old.values }
@@ -130,17 +143,17 @@ fn put_group(nodes: &mut PathTree<Entry>, key: NodeKey, settings: Option<Setting
 
 // Puts the settings at the node: where a group comes or goes, it is counted above, and where what it passes on changes, at its
 // parent.
-pub(crate) fn put(nodes: &mut PathTree<Entry>, key: NodeKey, settings: Option<Settings>)
+pub(crate) fn put(nodes: &mut PathTree<Entry>, key: NodeKey, settings: &Option<Settings>)
     requires key { IsKey nodes.old.keys key }
     requires counted { AreCounted nodes.old.values }
     ensures keys { nodes.new.keys ≡ nodes.old.keys }
-    ensures groups { groups_in nodes.new.values ≡ set_at (groups_in nodes.old.values) (path_at nodes.old key) (Some settings) }
+    ensures groups { groups_in nodes.new.values ≡ set_at (groups_in nodes.old.values) (path_at nodes.old key) (Some settings.now) }
     ensures counted { AreCounted nodes.new.values }
     ensures held { held_in nodes.new.values ≡ held_in nodes.old.values }
 {
     nodes.laws();
     let before = control_of(&nodes.get(key).settings);
-    let after = control_of(&settings);
+    let after = control_of(settings);
     put_group(nodes, key, settings);
     nodes.laws();
     // As in `put_group`.
@@ -148,6 +161,34 @@ pub(crate) fn put(nodes: &mut PathTree<Entry>, key: NodeKey, settings: Option<Se
     if before != after {
         pass_at_parent(nodes, key, &before, &after);
     }
+}
+
+// Puts the value of one setting of the node, where that is a group's, and says whether it is: where what the group passes on
+// changes, it is counted at its parent.
+pub(crate) fn put_value(nodes: &mut PathTree<Entry>, key: NodeKey, value: &NewValue) -> bool
+    requires key { IsKey nodes.old.keys key }
+    requires counted { AreCounted nodes.old.values }
+    ensures found { result ≡ is_some (option_flatten (get (groups_in nodes.old.values) (path_at nodes.old key))) }
+    ensures keys { nodes.new.keys ≡ nodes.old.keys }
+    ensures groups { groups_in nodes.new.values ≡ set_at (groups_in nodes.old.values) (path_at nodes.old key) (option_map (with_new value.now) (get (groups_in nodes.old.values) (path_at nodes.old key))) }
+    ensures counted { AreCounted nodes.new.values }
+    ensures held { held_in nodes.new.values ≡ held_in nodes.old.values }
+{
+    nodes.laws();
+    let Some(settings) = &nodes.get(key).settings else {
+        return false;
+    };
+    let before = settings.control;
+    write_value(nodes, key, value);
+    if let NewValue::Control(after) = value {
+        nodes.laws();
+        // As in `put_group`.
+        let _ = nodes.len();
+        if before != *after {
+            pass_at_parent(nodes, key, &before, after);
+        }
+    }
+    true
 }
 
 // One process more or less in the group of a node: counted there and at each node above.

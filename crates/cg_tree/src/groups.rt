@@ -1,6 +1,6 @@
 // The groups of a tree and its dead paths, each found by one look-up, with how many groups and processes are below, and the
 // processes in them.
-ghost use Rattle.std.specs.Prelude.{◌≡◌, ◌≢◌, ◌≤◌, ◌<◌, ℕ, false, filter, is_some, length, option_map, suc, true, take, IsSome, IfOk, OnErr, OnOk, Some, None};
+ghost use Rattle.std.specs.Prelude.{◌≡◌, ◌≢◌, ◌≤◌, ◌<◌, ℕ, false, filter, is_some, length, option_copied, option_map, suc, true, take, IsSome, IfOk, OnErr, OnOk, Some, None};
 ghost use Rattle.std.specs.Option.{option_flatten};
 ghost use Rattle.cg_maps.specs.FiniteMap.{empty, entries, get, is_nonempty, keys, retain, set_at};
 ghost use Rattle.cg_model.specs.Control.{used_below};
@@ -15,7 +15,7 @@ ghost use Rattle.cg_tree.specs.NewValue.{with_new};
 ghost use Rattle.cg_tree.specs.Present.{present};
 
 use crate::ancestors::{Ancestors, deepest, deepest_above};
-use crate::counting::{add_dead, count_process, put};
+use crate::counting::{add_dead, count_process, put, put_value};
 use crate::entry::Entry;
 use crate::listed::{Listed, asking_for_cpus};
 use crate::looking::{entry, parent_entry, prefix_entry};
@@ -69,18 +69,18 @@ impl Groups {
     }
 
     // What the map has at the path.
-    pub(crate) fn get(&self, path: &Path) -> Option<Option<Settings>>
-        ensures { result ≡ get self.now.groups path.now }
+    pub(crate) fn get(&self, path: &Path) -> Option<&Option<Settings>>
+        ensures { option_copied result ≡ get self.now.groups path.now }
     {
-        Some(entry(&self.nodes, path)?.settings)
+        Some(&entry(&self.nodes, path)?.settings)
     }
 
     // What the map has at the path one name shorter; none for the root's.
-    pub(crate) fn get_parent(&self, path: &Path) -> Option<Option<Settings>>
-        ensures root { is_root path.now ≡ true → result ≡ None }
-        ensures value { is_root path.now ≡ false → result ≡ get self.now.groups (parent_path path.now) }
+    pub(crate) fn get_parent(&self, path: &Path) -> Option<&Option<Settings>>
+        ensures root { is_root path.now ≡ true → option_copied result ≡ None }
+        ensures value { is_root path.now ≡ false → option_copied result ≡ get self.now.groups (parent_path path.now) }
     {
-        Some(parent_entry(&self.nodes, path)?.settings)
+        Some(&parent_entry(&self.nodes, path)?.settings)
     }
 
     // Whether there is a group at the path.
@@ -107,11 +107,11 @@ impl Groups {
         &mut self,
         alloc: Global,
         path: &Path,
-        settings: Option<Settings>,
+        settings: &Option<Settings>,
     ) -> Result<(), AllocError>
         requires absent { get self.old.groups path.now ≡ None }
         requires parent { is_root path.now ≡ false → IsSome (get self.old.groups (parent_path path.now)) }
-        ensures ok { OnOk result (self.new.groups ≡ set_at self.old.groups path.now (Some settings)) }
+        ensures ok { OnOk result (self.new.groups ≡ set_at self.old.groups path.now (Some settings.now)) }
         ensures places { self.new.places ≡ self.old.places }
         ensures err { OnErr result (self.new ≡ self.old) }
     {
@@ -127,8 +127,8 @@ impl Groups {
     }
 
     // Puts the settings into the entry at the path, if there is one.
-    pub(crate) fn replace(&mut self, path: &Path, settings: Option<Settings>)
-        ensures there { IsSome (get self.old.groups path.now) → self.new.groups ≡ set_at self.old.groups path.now (Some settings) }
+    pub(crate) fn replace(&mut self, path: &Path, settings: &Option<Settings>)
+        ensures there { IsSome (get self.old.groups path.now) → self.new.groups ≡ set_at self.old.groups path.now (Some settings.now) }
         ensures absent { get self.old.groups path.now ≡ None → self.new.groups ≡ self.old.groups }
         ensures places { self.new.places ≡ self.old.places }
     {
@@ -148,12 +148,7 @@ impl Groups {
         let Some(key) = self.nodes.find(path) else {
             return false;
         };
-        let Some(mut settings) = self.nodes.get(key).settings else {
-            return false;
-        };
-        value.assign(&mut settings);
-        put(&mut self.nodes, key, Some(settings));
-        true
+        put_value(&mut self.nodes, key, value)
     }
 
     // Takes out the entry at the path, if there is one: it is no group's, none is right below it, and no process is in it.

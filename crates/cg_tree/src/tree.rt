@@ -140,7 +140,7 @@ impl Tree {
     pub fn settings(&self, path: &Path) -> Option<Settings>
         ensures { result ≡ group self.now.tree path.now }
     {
-        self.groups.get(path)?
+        *self.groups.get(path)?
     }
 
     /// The settings of the parent of the path, if there is such a group: none for the root, which has no parent. One look-up, which
@@ -148,7 +148,7 @@ impl Tree {
     pub fn parent_settings(&self, path: &Path) -> Option<Settings>
         ensures { result ≡ parent_group self.now.tree path.now }
     {
-        self.groups.get_parent(path)?
+        *self.groups.get_parent(path)?
     }
 
     /// Whether the process is in the group at the path itself; no where no process has this PID.
@@ -235,7 +235,7 @@ impl Tree {
         ensures has_room { has_entry self.old path.now ≡ true → IsOk result }
     {
         if !self.groups.contains(path) {
-            self.groups.insert(alloc, path, None)?;
+            self.groups.insert(alloc, path, &None)?;
         }
         Ok(())
     }
@@ -262,7 +262,7 @@ impl Tree {
         let _ = path.names();
         tell_cpus(&settings);
         self.may_limit |= has_limit(&settings);
-        self.groups.replace(path, settings);
+        self.groups.replace(path, &settings);
     }
 
     /// Puts the value of one setting of the group at the path, if there is one. Takes no memory.

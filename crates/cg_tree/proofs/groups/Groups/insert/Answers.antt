@@ -127,9 +127,9 @@ returns-clause-ok c =
     let made : get c.add_dead.new.nodes.keys c.args.path.now ≡ Some c.in_ok-key.key = made_here c.self.inside.nodes.keys c.add_dead.new.nodes.keys c.args.path.now c.in_ok-key.key absent c.in_ok-key.ensures.keys in
     let place = at_path c.add_dead.new.nodes c.in_ok-key.key c.args.path.now c.laws-2.ensures.one_path made in
     c.put.ensures.groups
-    ∙ (λ i. set_at (c.in_ok-key.ensures.groups i) (place i) (Some c.args.settings))
-    ∙ set_set path_cmp_total path_cmp_exact (groups_in c.self.inside.nodes.values) c.args.path.now (Some None) (Some c.args.settings)
-    ∙ ap (λ (v : Contents). set_at v.groups c.args.path.now (Some c.args.settings)) c.self.view_is
+    ∙ (λ i. set_at (c.in_ok-key.ensures.groups i) (place i) (Some c.args.settings.now))
+    ∙ set_set path_cmp_total path_cmp_exact (groups_in c.self.inside.nodes.values) c.args.path.now (Some None) (Some c.args.settings.now)
+    ∙ ap (λ (v : Contents). set_at v.groups c.args.path.now (Some c.args.settings.now)) c.self.view_is
 
 pub returns-clause-places : goal.returns-clause-places
 returns-clause-places c = places_with_more c ∙ ap (λ (v : Contents). v.places) c.self.view_is
