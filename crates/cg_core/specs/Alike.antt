@@ -1,7 +1,7 @@
 -- An answer more than once.
-use Rattle.std.specs.Prelude.{◌≡◌, Bool, true, false}
-use Rattle.cg_core.specs.declared.answers.Answers.{Answers}
-use Rattle.cg_history.specs.Meaning.{answer_of}
+use Rattle.std.specs.Prelude.{◌≡◌, ℕ, Bool, true, false, List, Option, Some, option_map}
+use Rattle.std.specs.Bool.{OnTrue}
+use Rattle.cg_core.specs.declared.answers.Copies.{Copies}
 use Rattle.cg_model.specs.History.{Answer, Gave}
 use Rattle.cg_model.specs.System.{Text}
 
@@ -10,7 +10,12 @@ abbrev pub is_text_answer : Answer → Bool
 is_text_answer (Gave (Text x)) = true
 is_text_answer _ = false
 
--- the answer for the log and that for the record are the one that is given
-pub record AreAlike (a : Answers) : Type 0 where
-  pub logged : answer_of a.logged ≡ answer_of a.given
-  pub recorded : answer_of a.recorded ≡ answer_of a.given
+-- where the answer is a text, this is a copy of it
+abbrev pub IsCopy : Answer → Option (List ℕ) → Type 0
+IsCopy (Gave (Text x)) t = t ≡ Some x
+IsCopy _ t = Unit {0}
+
+-- the copy for the record is one of the answer, and so is that for the log, where there is a log
+pub record AreCopies (a : Answer) (log : Bool) (c : Copies) : Type 0 where
+  pub recorded : IsCopy a (option_map (λ v. v.items) c.recorded)
+  pub logged : OnTrue log (IsCopy a (option_map (λ v. v.items) c.logged))

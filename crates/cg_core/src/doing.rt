@@ -1,19 +1,17 @@
 //! A command is carried out in its transaction.
-ghost use Rattle.std.specs.Prelude.{◌≡◌, ℕ, IfOk, OnErr, true};
+ghost use Rattle.std.specs.Prelude.{◌≡◌, ℕ, IfOk, OnErr};
 ghost use Rattle.cg_command.specs.Applied.{outcome_of};
 ghost use Rattle.cg_command.specs.Meaning.{command_of};
-ghost use Rattle.cg_core.specs.Alike.{AreAlike};
-ghost use Rattle.cg_core.specs.Doing.{is_text, IsApplied, IsCarriedOut};
-ghost use Rattle.cg_history.specs.Meaning.{answer_of};
+ghost use Rattle.cg_core.specs.Alike.{AreCopies};
+ghost use Rattle.cg_core.specs.Doing.{IsApplied, IsCarriedOut};
 ghost use Rattle.cg_locks.specs.Holdings.{holdings};
 ghost use Rattle.cg_model.specs.Command.{IsAccepted};
 ghost use Rattle.cg_model.specs.Effect.{effect};
 ghost use Rattle.cg_model.specs.Footprint.{Mark};
 ghost use Rattle.cg_model.specs.History as model;
 
-use crate::answers::Answers;
+use crate::answers::Copies;
 use cg_command::{Command, Outcome};
-use cg_history::Answer;
 use cg_inverse::Inverse;
 use cg_locks::{Footprint, LockTable};
 use cg_tree::Tree;
@@ -30,10 +28,11 @@ pub(crate) fn carry_out(
     place: u32,
     command: &Command,
     footprint: Footprint,
-) -> Result<Answers, AllocError>
+    copies: &mut Copies,
+) -> Result<Outcome, AllocError>
     requires { IsAccepted (effect (command_of command.now) tree.old.tree) }
-    ensures done { IfOk result (λ r. IsCarriedOut (command_of command.now) place footprint tree.old locks.old txn.old (answer_of r.given) tree.new locks.new txn.new) }
-    ensures alike { IfOk result AreAlike }
+    ensures done { IfOk result (λ r. IsCarriedOut (command_of command.now) place footprint tree.old locks.old txn.old (model.Gave (outcome_of r)) tree.new locks.new txn.new) }
+    ensures copies { IfOk result (λ r. AreCopies (model.Gave (outcome_of r)) copies.old.is_logged copies.new) }
     ensures tree { OnErr result (tree.new ≡ tree.old) }
     ensures locks { OnErr result ((u : ℕ) (m : Mark) → holdings locks.new u m ≡ holdings locks.old u m) }
     ensures number { OnErr result (txn.new.number ≡ txn.old.number) }
@@ -41,14 +40,14 @@ pub(crate) fn carry_out(
 {
     txn.reserve()?;
     locks.take(alloc, txn.number(), &footprint)?;
-    match apply(alloc, tree, command) {
-        Ok((answers, inverse)) => {
+    match apply(alloc, tree, command, copies) {
+        Ok((outcome, inverse)) => {
             txn.push_reserved(Entry {
                 place,
                 inverse,
                 footprint,
             });
-            Ok(answers)
+            Ok(outcome)
         }
         Err(error) => {
             locks.release(txn.number(), &footprint);
@@ -57,48 +56,25 @@ pub(crate) fn carry_out(
     }
 }
 
-// Changes the tree as the accepted command does, and gives the answers, with the inverse. An error, where there is no
-// memory, leaves the tree as it was.
+// Changes the tree as the accepted command does, and gives the outcome, of which the copies are made, with the inverse. An
+// error, where there is no memory, leaves the tree as it was.
 fn apply(
     alloc: Global,
     tree: &mut Tree,
     command: &Command,
-) -> Result<(Answers, Inverse), AllocError>
+    copies: &mut Copies,
+) -> Result<(Outcome, Inverse), AllocError>
     requires { IsAccepted (effect (command_of command.now) tree.old.tree) }
-    ensures ok { IfOk result (λ r. IsApplied (command_of command.now) tree.old (answer_of r.0.given) r.1 tree.new) }
-    ensures alike { IfOk result (λ r. AreAlike r.0) }
+    ensures ok { IfOk result (λ r. IsApplied (command_of command.now) tree.old (model.Gave (outcome_of r.0)) r.1 tree.new) }
+    ensures copies { IfOk result (λ r. AreCopies (model.Gave (outcome_of r.0)) copies.old.is_logged copies.new) }
     ensures err { OnErr result (tree.new ≡ tree.old) }
 {
-    let (outcome, inverse) = command.apply(alloc, tree)?;
-    match answers(alloc, outcome) {
-        Ok(answers) => Ok((answers, inverse)),
+    let applied = command.apply(alloc, tree)?;
+    match copies.copy(alloc, &applied.0) {
+        Ok(()) => Ok(applied),
         Err(error) => {
-            inverse.undo(tree);
+            applied.1.undo(tree);
             Err(error)
-        }
-    }
-}
-
-// The answers with an outcome. An error, where there is no memory, comes with a text alone.
-fn answers(alloc: Global, outcome: Outcome) -> Result<Answers, AllocError>
-    ensures ok { IfOk result (λ r. answer_of r.given ≡ model.Gave (outcome_of outcome)) }
-    ensures alike { IfOk result AreAlike }
-    ensures err { OnErr result (is_text (outcome_of outcome) ≡ true) }
-{
-    match outcome {
-        Outcome::Done => Ok(Answers {
-            given: Answer::Done,
-            logged: Answer::Done,
-            recorded: Answer::Done,
-        }),
-        Outcome::Text(text) => {
-            let logged = Vec::from_slice(alloc, text.as_slice())?;
-            let recorded = Vec::from_slice(alloc, text.as_slice())?;
-            Ok(Answers {
-                given: Answer::Text(text),
-                logged: Answer::Text(logged),
-                recorded: Answer::Text(recorded),
-            })
         }
     }
 }

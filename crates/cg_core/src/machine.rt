@@ -6,6 +6,7 @@ ghost use Rattle.cg_core_laws.specs.Laws.{GoBack, IsBusyExactly};
 ghost use Rattle.cg_core_laws.specs.MachineOf.{Reached};
 ghost use Rattle.cg_core_laws.specs.Room.{RoomKept};
 ghost use Rattle.cg_core_laws.specs.Serial.{IsFaithful, IsSerial, OthersStay};
+ghost use Rattle.cg_core.specs.Alike.{is_text_answer, IsCopy};
 ghost use Rattle.cg_core.specs.Answers.{is_memory, takes_memory};
 ghost use Rattle.cg_core.specs.Held.{keeps_entry, times_held};
 ghost use Rattle.cg_core.specs.State.{after, has_record, machine, reply, StepsAsReplied};
@@ -21,7 +22,7 @@ ghost use Rattle.cg_model.specs.Sound.{Sound};
 ghost use Rattle.cg_name.specs.Path.{Path};
 ghost use Rattle.cg_tree.specs.Room.{has_entry};
 
-use crate::answers::twice;
+use crate::answers::{Copies, again};
 use crate::ending::Ending;
 use cg_commits::CommitHistory;
 use cg_history::{Answer, Record, Request, SessionId, SessionMap};
@@ -210,11 +211,15 @@ impl Core {
         ensures others { OthersStay cgroups (machine self.new) }
         ensures busy { IsBusyExactly self.new.opening (machine self.new) }
     {
-        self.step_pair(alloc, session, request).0
+        let mut copies = Copies::none(false);
+        self.tell_steps();
+        let answer = self.answer(alloc, session, request, &mut copies);
+        self.laws();
+        answer
     }
 
-    /// As `step`, with the answer twice: the second is for whoever writes it down. Both are made before the step is recorded, so
-    /// that no memory is wanted for it afterwards.
+    /// As `step`, with the answer twice: the second is for whoever writes it down. A text is copied for it before the step is
+    /// recorded, so that no memory is wanted for it afterwards.
     pub fn step_pair(
         &mut self,
         alloc: Global,
@@ -236,10 +241,12 @@ impl Core {
         ensures others { OthersStay cgroups (machine self.new) }
         ensures busy { IsBusyExactly self.new.opening (machine self.new) }
     {
+        let mut copies = Copies::none(true);
         self.tell_steps();
-        let answers = self.answer(alloc, session, request);
+        let answer = self.answer(alloc, session, request, &mut copies);
         self.laws();
-        answers
+        let second = again(&answer, &mut copies.logged);
+        (answer, second)
     }
 
     /// Answers `Back`, `Undo`, `Commit` or `Abort` as `step_pair` does. These take no memory, and so it takes no allocator.
@@ -259,41 +266,48 @@ impl Core {
         ensures busy { IsBusyExactly self.new.opening (machine self.new) }
     {
         self.tell_steps();
-        let answers = self.answer_without_memory(session, request);
+        let answer = self.answer_without_memory(session, request);
         self.laws();
-        answers
+        let second = again(&answer, &mut None);
+        (answer, second)
     }
 
     // Answers a request as its kind asks for.
-    fn answer(&mut self, alloc: Global, session: SessionId, request: Request) -> (Answer, Answer)
-        ensures answer { OnFalse (is_memory result.0) (answer_of result.0 ≡ reply self.old session.0 (request_of request)) }
-        ensures state { OnFalse (is_memory result.0) (self.new ≡ after self.old session.0 (request_of request)) }
-        ensures memory { OnTrue (is_memory result.0) (self.new ≡ self.old) }
-        ensures infallible { takes_memory request ≡ false → is_memory result.0 ≡ false }
-        ensures unrecorded { has_record self.old session.0 (request_of request) ≡ false → is_memory result.0 ≡ false }
-        ensures copy { answer_of result.1 ≡ answer_of result.0 }
+    fn answer(
+        &mut self,
+        alloc: Global,
+        session: SessionId,
+        request: Request,
+        copies: &mut Copies,
+    ) -> Answer
+        ensures answer { OnFalse (is_memory result) (answer_of result ≡ reply self.old session.0 (request_of request)) }
+        ensures state { OnFalse (is_memory result) (self.new ≡ after self.old session.0 (request_of request)) }
+        ensures memory { OnTrue (is_memory result) (self.new ≡ self.old) }
+        ensures infallible { takes_memory request ≡ false → is_memory result ≡ false }
+        ensures unrecorded { has_record self.old session.0 (request_of request) ≡ false → is_memory result ≡ false }
+        ensures copy { OnTrue copies.old.is_logged (IsCopy (answer_of result) (option_map (λ v. v.items) copies.new.logged)) }
     {
         match request {
-            Request::Begin => twice(self.begin(alloc, session)),
-            Request::Do(command) => self.run(alloc, session, command),
-            Request::Save(name) => twice(self.save(session, name)),
+            Request::Begin => self.begin(alloc, session),
+            Request::Do(command) => self.run(alloc, session, command, copies),
+            Request::Save(name) => self.save(session, name),
             other => self.answer_without_memory(session, other),
         }
     }
 
     // Answers a request that takes no memory as its kind asks for.
-    fn answer_without_memory(&mut self, session: SessionId, request: Request) -> (Answer, Answer)
+    fn answer_without_memory(&mut self, session: SessionId, request: Request) -> Answer
         requires { takes_memory request ≡ false }
-        ensures answer { answer_of result.0 ≡ reply self.old session.0 (request_of request) }
+        ensures answer { answer_of result ≡ reply self.old session.0 (request_of request) }
         ensures state { self.new ≡ after self.old session.0 (request_of request) }
-        ensures infallible { is_memory result.0 ≡ false }
-        ensures copy { answer_of result.1 ≡ answer_of result.0 }
+        ensures infallible { is_memory result ≡ false }
+        ensures no_text { is_text_answer (answer_of result) ≡ false }
     {
         match request {
-            Request::Back(name) => twice(self.back(session, name)),
-            Request::Undo => twice(self.undo(session)),
-            Request::Commit => twice(self.end(session, Ending::Commit)),
-            Request::Abort => twice(self.end(session, Ending::Abort)),
+            Request::Back(name) => self.back(session, name),
+            Request::Undo => self.undo(session),
+            Request::Commit => self.end(session, Ending::Commit),
+            Request::Abort => self.end(session, Ending::Abort),
             Request::Begin | Request::Do(_) | Request::Save(_) => unreachable!(),
         }
     }

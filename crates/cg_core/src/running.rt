@@ -1,8 +1,8 @@
 //! A command is run.
-ghost use Rattle.std.specs.Prelude.{◌≡◌, ◌+◌, ◌≤◌, ℕ, IfErr, IfOk, OnErr, OnOk, false, length};
+ghost use Rattle.std.specs.Prelude.{◌≡◌, ◌+◌, ◌≤◌, ℕ, IfErr, IfOk, OnErr, OnOk, false, length, option_map};
 ghost use Rattle.std.specs.Bool.{OnFalse, OnTrue};
 ghost use Rattle.cg_command.specs.Meaning.{command_of};
-ghost use Rattle.cg_core.specs.Alike.{AreAlike};
+ghost use Rattle.cg_core.specs.Alike.{AreCopies, IsCopy};
 ghost use Rattle.cg_core.specs.Answers.{is_memory};
 ghost use Rattle.cg_core.specs.Refusing.{IsFree, IsRefusedBy};
 ghost use Rattle.cg_core.specs.Settled.{IsSettled, IsUnheard};
@@ -14,7 +14,7 @@ ghost use Rattle.cg_model.specs.Effect.{effect};
 ghost use Rattle.cg_model.specs.Footprint.{Mark};
 ghost use Rattle.cg_model.specs.History as model;
 
-use crate::answers::Answers;
+use crate::answers::{Copies, again, answer_with};
 use crate::doing::carry_out;
 use crate::machine::Core;
 use cg_command::Command;
@@ -27,27 +27,26 @@ use cg_txn::Txn;
 use std::alloc::Global;
 
 impl Core {
-    // Runs a command in the session's transaction. The answer comes twice.
+    // Runs a command in the session's transaction. Of a text that it shows the copy for the session to write down, where it does,
+    // stays in the copies.
     pub(crate) fn run(
         &mut self,
         alloc: Global,
         session: SessionId,
         command: Command,
-    ) -> (Answer, Answer)
-        ensures answer { OnFalse (is_memory result.0) (answer_of result.0 ≡ reply self.old session.0 (model.Do (command_of command))) }
-        ensures state { OnFalse (is_memory result.0) (self.new ≡ after self.old session.0 (model.Do (command_of command))) }
-        ensures memory { OnTrue (is_memory result.0) (self.new ≡ self.old) }
-        ensures unrecorded { has_record self.old session.0 (model.Do (command_of command)) ≡ false → is_memory result.0 ≡ false }
-        ensures copy { answer_of result.1 ≡ answer_of result.0 }
+        copies: &mut Copies,
+    ) -> Answer
+        ensures answer { OnFalse (is_memory result) (answer_of result ≡ reply self.old session.0 (model.Do (command_of command))) }
+        ensures state { OnFalse (is_memory result) (self.new ≡ after self.old session.0 (model.Do (command_of command))) }
+        ensures memory { OnTrue (is_memory result) (self.new ≡ self.old) }
+        ensures unrecorded { has_record self.old session.0 (model.Do (command_of command)) ≡ false → is_memory result ≡ false }
+        ensures copy { OnTrue copies.old.is_logged (IsCopy (answer_of result) (option_map (λ v. v.items) copies.new.logged)) }
     {
         let full = self.is_full();
         let Some(txn) = self.open.get_mut(session) else {
             // By a call, here as below: else its destructor is a part of this body, with a way out for each case.
             drop(command);
-            return (
-                Answer::Refused(Refusal::NoTransaction),
-                Answer::Refused(Refusal::NoTransaction),
-            );
+            return Answer::Refused(Refusal::NoTransaction);
         };
         let number = txn.number();
         match settle(
@@ -58,19 +57,21 @@ impl Core {
             &mut self.history,
             full,
             &command,
+            copies,
         ) {
-            Ok(answers) => {
+            Ok(answer) => {
+                let recorded = again(&answer, &mut copies.recorded);
                 self.history.push(Record {
                     session,
                     txn: number,
                     request: Request::Do(command),
-                    answer: answers.recorded,
+                    answer: recorded,
                 });
-                (answers.given, answers.logged)
+                answer
             }
             Err(refusal) => {
                 drop(command);
-                (Answer::Refused(refusal), Answer::Refused(refusal))
+                Answer::Refused(refusal)
             }
         }
     }
@@ -86,10 +87,11 @@ fn settle(
     history: &mut CommitHistory,
     full: bool,
     command: &Command,
-) -> Result<Answers, Refusal>
+    copies: &mut Copies,
+) -> Result<Answer, Refusal>
     requires { length history.old.0 + history.old.1 ≤ 1048576 }
-    ensures settled { IfOk result (λ r. IsSettled (command_of command.now) tree.old locks.old txn.old history.old (answer_of r.given) tree.new locks.new txn.new history.new) }
-    ensures alike { IfOk result AreAlike }
+    ensures settled { IfOk result (λ r. IsSettled (command_of command.now) tree.old locks.old txn.old history.old (answer_of r) tree.new locks.new txn.new history.new) }
+    ensures copies { IfOk result (λ r. AreCopies (answer_of r) copies.old.is_logged copies.new) }
     ensures room { OnOk result (full ≡ false) }
     ensures unheard { IfErr result (IsUnheard full) }
     ensures tree { OnErr result (tree.new ≡ tree.old) }
@@ -109,14 +111,14 @@ fn settle(
     };
     if let Err(refusal) = may_run(tree, locks, txn.number(), &footprint, command) {
         history.release(1);
-        return Ok(Answers::refused(refusal));
+        return Ok(Answer::Refused(refusal));
     }
     let place = history.len() as u32;
-    let Ok(answers) = carry_out(alloc, tree, locks, txn, place, command, footprint) else {
+    let Ok(outcome) = carry_out(alloc, tree, locks, txn, place, command, footprint, copies) else {
         history.release(2);
         return Err(Refusal::Memory);
     };
-    Ok(answers)
+    Ok(answer_with(outcome))
 }
 
 // Whether the command can be carried out: no other transaction is in its way, and the tree is as it asks. Takes no memory.

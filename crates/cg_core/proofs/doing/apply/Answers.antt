@@ -5,6 +5,6 @@ use Rattle.cg_core.proofs.doing.apply.Goals as goal
 
 pub returns-in-Err-clause-err : goal.returns-in-Err-clause-err
 returns-in-Err-clause-err c = λ i. record {
-  tree = (c.undo.ensures.tree ∙ c.in_ok-outcome.ensures.identity) i;
-  entries = (c.undo.ensures.entries ∙ c.in_ok-outcome.ensures.entries ∙ makes_no_entry _ _ _ _ _ c.in_ok-outcome.ensures.effect c.in-Err.ensures.err) i;
+  tree = (c.undo.ensures.tree ∙ c.in_ok-applied.ensures.identity) i;
+  entries = (c.undo.ensures.entries ∙ c.in_ok-applied.ensures.entries ∙ makes_no_entry _ _ _ _ _ c.in_ok-applied.ensures.effect c.in-Err.ensures.err) i;
 }

@@ -1,10 +1,11 @@
 -- What the lock table and the tree say of the command's footprint is said of the model's.
-use Rattle.std.proofs.Common.{◌≡◌, ℕ, ◌+◌, ◌-◌, length, inl, inr, refl, ap, subst₂, ◌∙◌, arith}
+use Rattle.std.proofs.Common.{◌≡◌, ℕ, ◌+◌, ◌-◌, length, inl, inr, refl, sym, ap, subst, subst₂, ◌∙◌, arith}
+use Rattle.cg_command.specs.Applied.{outcome_of}
 use Rattle.cg_command.specs.Meaning.{command_of}
-use Rattle.cg_history.specs.Meaning.{answer_of}
 use Rattle.cg_model.specs.Cgroups.{cgroups}
 use Rattle.cg_model.specs.Effect.{effect}
-use Rattle.cg_model.specs.History.{History}
+use Rattle.cg_model.specs.Footprint.{footprint}
+use Rattle.cg_model.specs.History.{Gave, History}
 use Rattle.cg_core.specs.Doing.{IsCarriedOut}
 use Rattle.cg_core.specs.Refusing.{IsFree, IsRefusedBy}
 use Rattle.cg_core.proofs.running.settle.Goals as goal
@@ -21,7 +22,7 @@ returns-in-Err-clause-settled c = inl (record {
   by =
       subst₂ (λ t g. IsRefusedBy c.args.locks.now t g (effect (command_of c.args.command.now) c.args.tree.now.tree) c.in-Err.refusal)
       c.number.ensures c.in-Ok.ensures c.in-Err.ensures.refused;
-  answer = c.refused.ensures.given;
+  answer = refl;
   tree = refl;
   locks = refl;
   stack = refl;
@@ -32,7 +33,9 @@ pub returns-clause-settled : goal.returns-clause-settled
 returns-clause-settled c = inr (record {
   free = subst₂ (λ t g. IsFree c.args.locks.now t g) c.number.ensures c.in-Ok.ensures c.in_default-may_run.ensures.free;
   carried =
-      subst₂ (λ k g. IsCarriedOut (command_of c.args.command.now) k g c.args.tree.now c.args.locks.now c.args.txn.now (answer_of c.in-Ok-carry_out.answers.given) c.carry_out.new.tree c.carry_out.new.locks c.carry_out.new.txn)
-      (c.len-place.ensures ∙ ap (λ (p : History cgroups × ℕ). length p.0) c.in-Ok-reserve.ensures.ok) c.in-Ok.ensures c.in-Ok-carry_out.ensures.done;
+      subst (λ a. IsCarriedOut (command_of c.args.command.now) (length c.args.history.now.0) (footprint (command_of c.args.command.now) c.args.tree.now.tree) c.args.tree.now c.args.locks.now c.args.txn.now a c.carry_out.new.tree c.carry_out.new.locks c.carry_out.new.txn)
+      (sym c.answer_with.ensures)
+      (subst₂ (λ k g. IsCarriedOut (command_of c.args.command.now) k g c.args.tree.now c.args.locks.now c.args.txn.now (Gave (outcome_of c.in-Ok-carry_out.outcome)) c.carry_out.new.tree c.carry_out.new.locks c.carry_out.new.txn)
+      (c.len-place.ensures ∙ ap (λ (p : History cgroups × ℕ). length p.0) c.in-Ok-reserve.ensures.ok) c.in-Ok.ensures c.in-Ok-carry_out.ensures.done);
   history = c.in-Ok-reserve.ensures.ok;
 })

@@ -89,7 +89,7 @@ returns-in-Err-clause-unrecorded c =
 -- ---- it is settled
 
 pub push-requires-clause-other : goal.push-requires-clause-other
-push-requires-clause-other c = ap is_commit c.in-Ok.ensures.alike.recorded ∙ settled_other c.in-Ok.ensures.settled
+push-requires-clause-other c = ap is_commit c.again-recorded.ensures ∙ settled_other c.in-Ok.ensures.settled
 
 pub invariant_of-self-in-Ok : goal.invariant_of-self-in-Ok
 invariant_of-self-in-Ok c =
@@ -97,7 +97,7 @@ invariant_of-self-in-Ok c =
     let room : is_full c.self.inside.limit c.self.inside.history.0 ≡ false = full_told c.self.view_is c.is_full-full.ensures c.in-Ok.ensures.room in
     let written : c.get_mut.follows.lender last ≡ with_value c.args.session.0 last c.self.inside.open = where_lent c.in-Some.is (c.get_mut.follows.holds last) in
     subst₂ (λ k l. IsCoreOf c.self.inside.opening c.self.inside.limit k c.push.new.self.1 c.settle.new.tree c.settle.new.locks l)
-    (sym (noted_is c.number-number.ensures c.in-Ok.ensures.alike.recorded refl c.push.ensures)) (sym written)
+    (sym (noted_is c.number-number.ensures c.again-recorded.ensures refl c.push.ensures)) (sym written)
     (settled_core c.self.invariant c.args.session.0 c.in-Some.txn.now (sym c.in-Some.ensures.value) (command_of c.args.command) (proper c.args.command) room _ _ _ last c.settle.new.history c.in-Ok.ensures.settled
     c.push.new.self.1 (ap (λ p. p.1) c.push.ensures))
 
@@ -114,16 +114,16 @@ returns-in-Ok-clause-state c =
     unless _
     (state_told c.args.session.0 (Do (command_of c.args.command)) c.self.view_is
     (settled_history c.self.invariant c.args.session.0 c.in-Some.txn.now (sym c.in-Some.ensures.value) (command_of c.args.command) (proper c.args.command) room _ _ _ _ c.settle.new.history c.in-Ok.ensures.settled
-    ∙ sym (noted_is c.number-number.ensures c.in-Ok.ensures.alike.recorded refl c.push.ensures)))
+    ∙ sym (noted_is c.number-number.ensures c.again-recorded.ensures refl c.push.ensures)))
 
 pub returns-in-Ok-clause-unrecorded : goal.returns-in-Ok-clause-unrecorded
 returns-in-Ok-clause-unrecorded c = λ unnoted.
     let room : is_full c.self.inside.limit c.self.inside.history.0 ≡ false = full_told c.self.view_is c.is_full-full.ensures c.in-Ok.ensures.room in
-    no_memory (command_of c.args.command) c.in-Ok.answers.given
+    no_memory (command_of c.args.command) c.in-Ok.answer
     (settled_noted c.self.invariant c.args.session.0 c.in-Some.txn.now (sym c.in-Some.ensures.value) (command_of c.args.command) (proper c.args.command) room _ _ _ _ c.settle.new.history c.in-Ok.ensures.settled)
 
 pub returns-in-Ok-clause-memory : goal.returns-in-Ok-clause-memory
 returns-in-Ok-clause-memory c =
     let room : is_full c.self.inside.limit c.self.inside.history.0 ≡ false = full_told c.self.view_is c.is_full-full.ensures c.in-Ok.ensures.room in
     let noted = settled_noted c.self.invariant c.args.session.0 c.in-Some.txn.now (sym c.in-Some.ensures.value) (command_of c.args.command) (proper c.args.command) room _ _ _ _ c.settle.new.history c.in-Ok.ensures.settled in
-    never _ _ (no_memory (command_of c.args.command) c.in-Ok.answers.given noted)
+    never _ _ (no_memory (command_of c.args.command) c.in-Ok.answer noted)

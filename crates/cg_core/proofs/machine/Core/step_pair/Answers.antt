@@ -5,4 +5,4 @@ use Rattle.cg_core.proofs.machine.Core.step_pair.Goals as goal
 pub returns-clause-machine : goal.returns-clause-machine
 returns-clause-machine c =
     told_unless _ c.args.self.now _ c.args.session.0 (request_of c.args.request) _
-    (c.tell_steps.ensures c.args.session.0 (request_of c.args.request) (proper_request c.args.request)) c.answer-answers.ensures.answer c.answer-answers.ensures.state
+    (c.tell_steps.ensures c.args.session.0 (request_of c.args.request) (proper_request c.args.request)) c.answer-answer.ensures.answer c.answer-answer.ensures.state
