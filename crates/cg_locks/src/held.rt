@@ -63,13 +63,14 @@ impl Kind {
 // Who holds what at one path, and at or below its children.
 #[derive(Drop)]
 pub(crate) struct Held {
+    // Most marks are of subtrees to be changed: what is read and written for them stands together.
     changed: Holders,
+    changed_below: Holders,
+    stays_below: Holders,
+    read_below: Holders,
     read: Holders,
     stays: Holders,
     descendants: Holders,
-    changed_below: Holders,
-    read_below: Holders,
-    stays_below: Holders,
 }
 
 impl Held {
@@ -89,6 +90,7 @@ impl Held {
     }
 
     // Whether nobody holds anything.
+    #[inline(always)]
     pub(crate) fn is_empty(&self) -> bool
         ensures { IsTrue result → (r : Part) (u : ℕ) → held_by (part_of r self.now) u ≡ 0 }
     {
@@ -102,6 +104,7 @@ impl Held {
     }
 
     // The holders in this part.
+    #[inline(always)]
     pub(crate) fn part(&self, part: Part) -> &Holders
         ensures { result.now ≡ part_of part self.now }
     {
@@ -165,6 +168,7 @@ impl Held {
 
     // One holding more by the transaction in this part, and how many it has there then. An error, where there is no memory
     // for it, changes nothing.
+    #[inline(always)]
     pub(crate) fn add(&mut self, part: Part, transaction: TxnNumber) -> Result<usize, AllocError>
         ensures ok { OnOk result (IsHeldMore self.old part transaction.0 self.new) }
         ensures count { IfOk result (λ n. n ≡ held_by (part_of part self.old) transaction.0 + 1) }
@@ -183,6 +187,7 @@ impl Held {
 
     // One holding less by the transaction in this part, where it has one, and how many are left to it there. Takes no
     // memory.
+    #[inline(always)]
     pub(crate) fn remove(&mut self, part: Part, transaction: TxnNumber) -> usize
         requires { 0 < held_by (part_of part self.old) transaction.0 }
         ensures less { IsHeldMore self.new part transaction.0 self.old }

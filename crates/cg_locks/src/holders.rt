@@ -66,6 +66,7 @@ impl Holders {
     }
 
     // The least other transaction that holds it.
+    #[inline(always)]
     pub(crate) fn least_other(&self, transaction: TxnNumber) -> Option<TxnNumber>
         ensures { IsLeastOther transaction.0 (held_by self.now) (option_map number_of result) }
     {
@@ -83,6 +84,7 @@ impl Holders {
 
     // One holding more by the transaction, and how many it has then. An error, where there is no memory for it, changes
     // nothing.
+    #[inline(always)]
     pub(crate) fn add(&mut self, transaction: TxnNumber) -> Result<usize, AllocError>
         ensures ok { OnOk result ((u : ℕ) → held_by self.new u ≡ held_by self.old u + one (u == transaction.0)) }
         ensures count { IfOk result (λ n. n ≡ held_by self.old transaction.0 + 1) }
@@ -111,6 +113,7 @@ impl Holders {
     }
 
     // One holding less by the transaction, which has one, and how many are left to it. Takes no memory.
+    #[inline(always)]
     pub(crate) fn remove(&mut self, transaction: TxnNumber) -> usize
         requires { 0 < held_by self.old transaction.0 }
         ensures less { (u : ℕ) → held_by self.old u ≡ held_by self.new u + one (u == transaction.0) }
@@ -211,6 +214,7 @@ fn take_first(entries: &mut Vec<(u32, u32)>) -> (u32, u32)
 }
 
 // The lesser of two numbers, of which each may be missing.
+#[inline(always)]
 pub(crate) fn lesser(first: Option<TxnNumber>, second: Option<TxnNumber>) -> Option<TxnNumber>
     ensures { option_map number_of result ≡ lesser_of (option_map number_of first) (option_map number_of second) }
 {

@@ -34,6 +34,7 @@ pub(crate) fn least_above(
 
 // One holding more by the transaction in this part of the node, and how many it has there then. An error, where there is no
 // memory for it, changes nothing.
+#[inline(always)]
 pub(crate) fn add_at(
     nodes: &mut PathTree<Held>,
     key: NodeKey,
@@ -50,6 +51,7 @@ pub(crate) fn add_at(
 }
 
 // One holding less by the transaction in this part of the node, where it has one, and how many are left to it there.
+#[inline(always)]
 pub(crate) fn remove_at(
     nodes: &mut PathTree<Held>,
     key: NodeKey,
