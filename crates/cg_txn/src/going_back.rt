@@ -5,7 +5,7 @@ ghost use Rattle.cg_txn.specs.Laws.{below, commands_above};
 ghost use Rattle.cg_txn.specs.Stack.{ends_in_command, has_savepoint};
 ghost use Rattle.cg_txn.specs.TakingOff.{AllComeOff, AllLetGo, AllMayComeOff, AllMayLetGo};
 
-use crate::letting_go::{keep, take_off};
+use crate::letting_go::{let_go, take_off};
 use crate::txn::Txn;
 use cg_locks::LockTable;
 use cg_name::{Refusal, SaveName};
@@ -71,13 +71,15 @@ pub fn abort(tree: &mut Tree, locks: &mut LockTable, mut txn: Txn)
 }
 
 /// Ends the transaction for good: its commands stay done, and what they hold is let go, of the oldest first. Takes no memory.
-pub fn commit(tree: &mut Tree, locks: &mut LockTable, mut txn: Txn)
+pub fn commit(tree: &mut Tree, locks: &mut LockTable, txn: Txn)
     requires { AllMayLetGo txn.number (reverse txn.items) tree.old locks.old }
     ensures let_go { AllLetGo txn.number (reverse txn.items) tree.old locks.old tree.new locks.new }
     ensures tree { tree.new.tree ≡ tree.old.tree }
 {
     let number = txn.number();
-    while let Some(entry) = txn.drain_oldest_first() {
-        keep(tree, locks, number, entry);
+    for index in 0..txn.len() {
+        if let Some(entry) = txn.command_at(index) {
+            let_go(tree, locks, number, &entry.footprint);
+        }
     }
 }

@@ -9,7 +9,12 @@ use cg_tree::Tree;
 
 // Lets go of the footprint of one command of the transaction, and of the dead entry that it kept, where no other command of
 // the transaction keeps it.
-fn let_go(tree: &mut Tree, locks: &mut LockTable, number: TxnNumber, footprint: &Footprint)
+pub(crate) fn let_go(
+    tree: &mut Tree,
+    locks: &mut LockTable,
+    number: TxnNumber,
+    footprint: &Footprint,
+)
     requires { MayLetGo number.0 footprint.now tree.old locks.old }
     ensures { IsLetGo number.0 footprint.now tree.old locks.old tree.new locks.new }
 {
@@ -37,12 +42,4 @@ pub(crate) fn take_off(tree: &mut Tree, locks: &mut LockTable, number: TxnNumber
     } = entry;
     inverse.undo(tree);
     let_go(tree, locks, number, &footprint);
-}
-
-// Lets go of what one command of the transaction holds; the command stays done.
-pub(crate) fn keep(tree: &mut Tree, locks: &mut LockTable, number: TxnNumber, entry: Entry)
-    requires { MayLetGo number.0 entry.footprint tree.old locks.old }
-    ensures { IsLetGo number.0 entry.footprint tree.old locks.old tree.new locks.new }
-{
-    let_go(tree, locks, number, &entry.footprint);
 }

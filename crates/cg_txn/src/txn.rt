@@ -1,5 +1,5 @@
 //! The stack of one transaction.
-ghost use Rattle.std.specs.Prelude.{◌≡◌, ◌≤◌, ◌+◌, ◌↔◌, ◌∷◌, ◌++◌, ◌⊎◌, [], vec_len, IfErr, IfOk, IsOk, IsTrue, OnErr, OnOk, None, false, length, option_map, true};
+ghost use Rattle.std.specs.Prelude.{◌≡◌, ◌≤◌, ◌+◌, ◌↔◌, ◌∷◌, ◌++◌, ◌⊎◌, [], drop, reverse, vec_len, IfErr, IfOk, IsOk, IsTrue, OnErr, OnOk, None, false, length, option_copied, option_map, true};
 ghost use Rattle.std.specs.Result.{IsErrOf};
 ghost use Rattle.std.specs.Vec.{vec_capacity};
 ghost use Rattle.cg_txn.specs.Clashing.{oldest_clashing, told_clash};
@@ -15,6 +15,9 @@ use indexmap::IndexSet;
 use std::alloc::{AllocError, Global};
 use std::collections::VecDeque;
 use std::marker::Model;
+
+// For how many items room is made at least, where there is none: most transactions are short, and then this is done once.
+const AT_ONCE: usize = 8;
 
 /// An open transaction: its number, what stands of it, and whether room for one more item is reserved.
 pub struct Txn {
@@ -82,6 +85,19 @@ impl Txn {
         self.items.len()
     }
 
+    // The command with that many items before it, the oldest first; none where that is a savepoint, or fewer items stand.
+    pub(crate) fn command_at(&self, index: usize) -> Option<&Entry>
+        ensures { commands (drop index (reverse self.now.items)) ≡ taken_items (option_copied result) ++ commands (drop (index + 1) (reverse self.now.items)) }
+    {
+        if self.items.len() <= index {
+            return None;
+        }
+        match &self.items[index] {
+            Item::Command(entry) => Some(entry),
+            Item::Savepoint(_) => None,
+        }
+    }
+
     /// Whether a savepoint with this name stands. Takes no memory.
     pub fn has_savepoint(&self, name: SaveName) -> bool
         ensures { result ≡ has_savepoint name self.now.items }
@@ -125,7 +141,9 @@ impl Txn {
         ensures err { OnErr result (self.new ≡ self.old) }
         ensures again { IsTrue self.old.reserved → IsOk result }
     {
-        self.items.reserve(1)?;
+        if self.items.len() == self.items.capacity() {
+            self.items.reserve(AT_ONCE)?;
+        }
         self.reserved = true;
         Ok(())
     }
