@@ -1,9 +1,9 @@
 //! Sets of CPU numbers in memory of their own.
-ghost use Rattle.std.specs.Prelude.{◌≡◌, IfOk, IsOk, true};
+ghost use Rattle.std.specs.Prelude.{◌≡◌, ◌<◌, ℕ, IfOk, IsOk, IsTrue, true};
 ghost use Rattle.std.proofs.Common.{nat_eq, rules};
 ghost use Rattle.std.specs.Cmp.Lexicographic.{pointwise};
 ghost use Rattle.std.specs.Cmp.Rules.{comparing};
-ghost use Rattle.cg_maps.specs.FiniteSet.{is_empty_set, members, no_members};
+ghost use Rattle.cg_maps.specs.FiniteSet.{has, in_common, is_empty_set, members, no_members};
 
 use cg_cpus::CpuSet;
 use std::alloc::{AllocError, Global};
@@ -74,6 +74,37 @@ impl BoxedCpus {
         match &self.set {
             Some(set) => **set,
             None => CpuSet::empty(),
+        }
+    }
+
+    /// Whether the set has no number.
+    pub fn is_empty(&self) -> bool
+        ensures { result ≡ is_empty_set self.now }
+    {
+        match &self.set {
+            Some(set) => set.is_empty(),
+            None => CpuSet::empty().is_empty(),
+        }
+    }
+
+    /// Whether the set has the number.
+    pub fn contains(&self, cpu: u16) -> bool
+        ensures member { result ≡ has self.now cpu }
+        ensures below { (n : ℕ) → IsTrue (has self.now n) → n < 1024 }
+    {
+        match &self.set {
+            Some(set) => set.contains(cpu),
+            None => CpuSet::empty().contains(cpu),
+        }
+    }
+
+    /// The numbers that both sets have.
+    pub fn intersect(&self, other: CpuSet) -> CpuSet
+        ensures { result ≡ in_common self.now other }
+    {
+        match &self.set {
+            Some(set) => set.intersect(other),
+            None => CpuSet::empty().intersect(other),
         }
     }
 

@@ -103,7 +103,7 @@ impl Sound {
                 "has no parent",
                 "the group above it has to stand in a line of its own",
             )),
-            Some(above) => why_no_child(&above, settings),
+            Some(above) => why_no_child(above.control(), settings),
         })
     }
 
@@ -134,7 +134,7 @@ impl Sound {
     fn why_no_process(&self, path: &Path) -> Option<Unsound> {
         match self.tree.settings(path) {
             None => Some((2, "is no group", "a process is in a group of the world")),
-            Some(settings) if path.is_root() || settings.control.is_empty() => None,
+            Some(settings) if path.is_root() || settings.control().is_empty() => None,
             Some(_) => Some((
                 2,
                 "passes controllers on, and so has no processes",
@@ -144,16 +144,16 @@ impl Sound {
     }
 }
 
-// Why a group with settings like those above can't have a child with these.
-fn why_no_child(above: &Settings, settings: &Settings) -> Option<Unsound> {
-    if let Some(controller) = first_beyond(settings.control, above.control) {
+// Why a group that passes these controllers on can't have a child with these settings.
+fn why_no_child(above: Controllers, settings: &Settings) -> Option<Unsound> {
+    if let Some(controller) = first_beyond(settings.control, above) {
         return Some((
             2,
             passes_on_unavailable(controller),
             "a group passes on only what its parent passes on to it",
         ));
     }
-    if settings.cpus.is_empty() || above.control.cpuset {
+    if settings.cpus.is_empty() || above.cpuset {
         return None;
     }
     Some((

@@ -8,6 +8,7 @@ use crate::line::{Line, places_in_world};
 use crate::place::too_long;
 use crate::sound::Sound;
 use crate::uncut::uncut;
+use cg_boxed::CompactSettings;
 use cg_cpus::CpuSet;
 use cg_name::{Path, Refusal};
 use cg_text::{Controllers, LineWords, Settings, read_words};
@@ -199,7 +200,7 @@ impl<'a> Pass<'a> {
         }
         let version = self.version_for(line);
         match Statement::read(alloc, version, line.words) {
-            Ok(statement) => self.take_statement(line, statement),
+            Ok(statement) => self.take_statement(alloc, line, statement),
             Err(Refusal::Syntax) => {
                 let fault = self.why_no_statement(alloc, version, line)?;
                 self.faults.add(fault)
@@ -237,6 +238,7 @@ impl<'a> Pass<'a> {
     // Takes what a line says.
     fn take_statement(
         &mut self,
+        alloc: Global,
         line: Line<'a, '_>,
         statement: Statement,
     ) -> Result<(), AllocError> {
@@ -244,7 +246,9 @@ impl<'a> Pass<'a> {
             Statement::Version(version) => self.version = Some(version),
             Statement::Controllers(controllers) => self.controllers = controllers,
             Statement::Online(_) | Statement::End => {}
-            Statement::Group(path, settings) => return self.take_group(line, path, settings),
+            Statement::Group(path, settings) => {
+                return self.take_group(alloc, line, path, &settings);
+            }
             Statement::Process(pid, _path) => return self.take_process(line, pid),
         }
         Ok(())
@@ -253,9 +257,10 @@ impl<'a> Pass<'a> {
     // Takes a group.
     fn take_group(
         &mut self,
+        alloc: Global,
         line: Line<'a, '_>,
         path: Path,
-        settings: Settings,
+        settings: &Settings,
     ) -> Result<(), AllocError> {
         if self.tree.settings(&path).is_some() {
             return self.faults.add(line.wrong_word(
@@ -264,6 +269,7 @@ impl<'a> Pass<'a> {
                 "a group stands in one line alone",
             ));
         }
+        let settings = CompactSettings::new(alloc, settings)?;
         self.tree.set_group(path, settings)?;
         Ok(())
     }

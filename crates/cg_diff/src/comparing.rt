@@ -9,8 +9,8 @@ ghost use Rattle.cg_diff.specs.Sides.{group_side, process_side};
 use crate::lines::{
     append_changed, append_group_line, append_moved, append_process_line, append_settings,
 };
+use cg_boxed::CompactSettings;
 use cg_name::Path;
-use cg_text::Settings;
 use cg_world::PlainTree;
 use cg_world_text::{Version, version_of};
 use itertools::{EitherOrBoth, Itertools};
@@ -66,7 +66,7 @@ fn append_groups(before: &PlainTree, after: &PlainTree, out: &mut Vec<u8>) -> Re
     let (old, new) = (version_of(before), version_of(after));
     let sides = before.groups().iter().merge_join_by(
         after.groups().iter(),
-        |left: &(&Path, &Settings), right: &(&Path, &Settings)| -> Ordering
+        |left: &(&Path, &CompactSettings), right: &(&Path, &CompactSettings)| -> Ordering
             ensures { result ≡ path_cmp left.now.0.now right.now.0.now }
         { left.0.cmp(right.0) },
     );
@@ -80,7 +80,7 @@ fn append_groups(before: &PlainTree, after: &PlainTree, out: &mut Vec<u8>) -> Re
 fn append_group(
     old: Version,
     new: Version,
-    side: EitherOrBoth<(&Path, &Settings), (&Path, &Settings)>,
+    side: EitherOrBoth<(&Path, &CompactSettings), (&Path, &CompactSettings)>,
     out: &mut Vec<u8>,
 ) -> Result<(), AllocError>
     ensures { OnOk result (out.new.items ≡ out.old.items ++ group_side old new side.entry) }

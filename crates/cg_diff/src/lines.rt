@@ -6,8 +6,8 @@ ghost use Rattle.cg_world_text.specs.World.{group_line, limits_text, process_lin
 ghost use Rattle.cg_diff.specs.Difference.{became, changed, setting, settings_changes};
 
 use crate::words::AsWord;
+use cg_boxed::CompactSettings;
 use cg_name::Path;
-use cg_text::Settings;
 use cg_world_text::Version;
 use itoa::Buffer;
 use std::alloc::AllocError;
@@ -35,23 +35,29 @@ pub(crate) fn append_changed<W: AsWord>(
 /// Appends a line for each setting of a group that changed.
 pub(crate) fn append_settings(
     path: &Path,
-    before: &Settings,
-    after: &Settings,
+    before: &CompactSettings,
+    after: &CompactSettings,
     out: &mut Vec<u8>,
 ) -> Result<(), AllocError>
     ensures { OnOk result (out.new.items ≡ out.old.items ++ settings_changes path.now before.now after.now) }
 {
-    append_setting(path, b"control", &before.control, &after.control, out)?;
-    append_setting(path, b"freeze", &before.freeze, &after.freeze, out)?;
-    append_setting(path, b"cpus", &before.cpus, &after.cpus, out)?;
+    append_setting(path, b"control", &before.control(), &after.control(), out)?;
+    append_setting(path, b"freeze", &before.freeze(), &after.freeze(), out)?;
+    append_setting(
+        path,
+        b"cpus",
+        &before.cpus().get(),
+        &after.cpus().get(),
+        out,
+    )?;
     append_setting(
         path,
         b"descendants",
-        &before.max_descendants,
-        &after.max_descendants,
+        &before.max_descendants(),
+        &after.max_descendants(),
         out,
     )?;
-    append_setting(path, b"depth", &before.max_depth, &after.max_depth, out)
+    append_setting(path, b"depth", &before.max_depth(), &after.max_depth(), out)
 }
 
 /// Appends the line of a process, where it has another group.
@@ -76,7 +82,7 @@ pub(crate) fn append_moved(
 pub(crate) fn append_group_line(
     version: Version,
     path: &Path,
-    settings: &Settings,
+    settings: &CompactSettings,
     out: &mut Vec<u8>,
 ) -> Result<(), AllocError>
     ensures { OnOk result (out.new.items ≡ out.old.items ++ group_line version (path.now, settings.now)) }
@@ -84,11 +90,11 @@ pub(crate) fn append_group_line(
     out.extend_from_slice(b"group ")?;
     path.write(out)?;
     out.push(b' ')?;
-    settings.control.append_word(out)?;
+    settings.control().append_word(out)?;
     out.push(b' ')?;
-    settings.freeze.append_word(out)?;
+    settings.freeze().append_word(out)?;
     out.push(b' ')?;
-    settings.cpus.append_word(out)?;
+    settings.cpus().get().append_word(out)?;
     append_limits(version, settings, out)?;
     out.push(b'\n')?;
     Ok(())
@@ -143,16 +149,20 @@ fn append_became<W: AsWord>(before: &W, after: &W, out: &mut Vec<u8>) -> Result<
 }
 
 // Appends the limits on descendants and on depth, each with a space before it, which version 1 has not.
-fn append_limits(version: Version, settings: &Settings, out: &mut Vec<u8>) -> Result<(), AllocError>
+fn append_limits(
+    version: Version,
+    settings: &CompactSettings,
+    out: &mut Vec<u8>,
+) -> Result<(), AllocError>
     ensures { OnOk result (out.new.items ≡ out.old.items ++ limits_text version settings.now) }
 {
     match version {
         Version::One => Ok(()),
         Version::Two => {
             out.push(b' ')?;
-            settings.max_descendants.append_word(out)?;
+            settings.max_descendants().append_word(out)?;
             out.push(b' ')?;
-            settings.max_depth.append_word(out)
+            settings.max_depth().append_word(out)
         }
     }
 }

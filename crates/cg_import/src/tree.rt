@@ -18,6 +18,7 @@ use crate::folders::Folders;
 use crate::left_out::LeftOut;
 use crate::reading::{file_in, folder_of};
 use crate::values::{common, controllers_in, cpus_in, freeze_at, limit_at, lines_in};
+use cg_boxed::CompactSettings;
 use cg_cpus::CpuSet;
 use cg_name::{Name, Path, Refusal};
 use cg_program::{Inputs, OpenFault};
@@ -202,7 +203,8 @@ impl Import {
         let settings = self.settings_at(alloc, inputs, &path, folder, above)?;
         self.take_processes(alloc, &path, &settings, pids.as_str())?;
         self.take_below(alloc, inputs, &path, folder)?;
-        self.tree.set_group(path, settings)?;
+        let compact = CompactSettings::new(alloc, &settings)?;
+        self.tree.set_group(path, compact)?;
         Ok(())
     }
 
@@ -240,7 +242,7 @@ impl Import {
             return Ok(Some(self.tree.controllers()));
         };
         match self.tree.settings(&parent) {
-            Some(settings) => Ok(Some(settings.control)),
+            Some(settings) => Ok(Some(settings.control())),
             None => Ok(None),
         }
     }

@@ -1,6 +1,7 @@
 //! What turns one world into another, in an order that every rule accepts.
 use crate::sets::growing;
 use crate::steps::Steps;
+use cg_boxed::CompactSettings;
 use cg_cpus::CpuSet;
 use cg_name::Path;
 use cg_text::{Limit, Settings};
@@ -108,7 +109,7 @@ impl Planning<'_> {
     fn enable_controllers(&mut self, alloc: Global) -> Result<(), AllocError> {
         for (path, settings) in self.to.groups() {
             let has = self.settings_before(path).control;
-            let more = settings.control.difference(&has);
+            let more = settings.control().difference(&has);
             self.steps.subtree(alloc, path, true, more)?;
         }
         Ok(())
@@ -123,20 +124,25 @@ impl Planning<'_> {
 
     fn write_settings(&mut self, alloc: Global) -> Result<(), AllocError> {
         for (path, settings) in self.to.groups() {
-            self.write(alloc, path, settings)?;
+            self.write(alloc, path, &settings.get())?;
         }
         Ok(())
     }
 
     // Raises the limits of a group, where they are in the way.
-    fn raise(&mut self, alloc: Global, path: &Path, settings: &Settings) -> Result<(), AllocError> {
+    fn raise(
+        &mut self,
+        alloc: Global,
+        path: &Path,
+        settings: &CompactSettings,
+    ) -> Result<(), AllocError> {
         if !self.raised.contains(path) || self.to.settings(path).is_none() {
             return Ok(());
         }
-        if settings.max_descendants != Limit::Max {
+        if settings.max_descendants() != Limit::Max {
             self.steps.max_descendants(alloc, path, Limit::Max)?;
         }
-        if settings.max_depth != Limit::Max {
+        if settings.max_depth() != Limit::Max {
             self.steps.max_depth(alloc, path, Limit::Max)?;
         }
         Ok(())
@@ -158,7 +164,7 @@ impl Planning<'_> {
     fn has_to_leave(&self, path: &Path) -> bool {
         match self.to.settings(path) {
             None => true,
-            Some(settings) => !path.is_root() && !settings.control.is_empty(),
+            Some(settings) => !path.is_root() && !settings.control().is_empty(),
         }
     }
 
@@ -166,7 +172,7 @@ impl Planning<'_> {
     fn is_open(&self, path: &Path) -> bool {
         match self.from.settings(path) {
             None => false,
-            Some(settings) => path.is_root() || settings.control.is_empty(),
+            Some(settings) => path.is_root() || settings.control().is_empty(),
         }
     }
 
@@ -192,12 +198,12 @@ impl Planning<'_> {
         &mut self,
         alloc: Global,
         path: &Path,
-        settings: &Settings,
+        settings: &CompactSettings,
     ) -> Result<(), AllocError> {
         match self.to.settings(path) {
             None => Ok(()),
             Some(goal) => {
-                let gone = settings.control.difference(&goal.control);
+                let gone = settings.control().difference(&goal.control());
                 self.steps.subtree(alloc, path, false, gone)
             }
         }
@@ -206,7 +212,7 @@ impl Planning<'_> {
     // The settings of a group before anything is done, fresh ones where it isn't there.
     fn settings_before(&self, path: &Path) -> Settings {
         match self.from.settings(path) {
-            Some(settings) => settings,
+            Some(settings) => settings.get(),
             None => Settings::fresh(),
         }
     }
@@ -247,7 +253,7 @@ impl Planning<'_> {
     // Whether a group is to pass `cpuset` on.
     fn passes_cpuset(&self, path: &Path) -> bool {
         match self.to.settings(path) {
-            Some(settings) => settings.control.cpuset,
+            Some(settings) => settings.control().cpuset,
             None => false,
         }
     }

@@ -4,6 +4,7 @@ ghost use Rattle.cg_maps.specs.FiniteMap.{from_entries};
 ghost use Rattle.cg_name.specs.Path.{path_cmp};
 ghost use Rattle.cg_tree.specs.Unlimited.{AreUnlimited, IsUnlimited};
 
+use cg_boxed::CompactSettings;
 use cg_name::Path;
 use cg_text::{Limit, Settings};
 use std::collections::BTreeMap;
@@ -32,11 +33,11 @@ pub(crate) fn has_limit(settings: &Option<Settings>) -> bool
 }
 
 // Whether one of these groups has such a limit.
-pub(crate) fn have_limit(listed: &BTreeMap<Path, Settings>) -> bool
+pub(crate) fn have_limit(listed: &BTreeMap<Path, CompactSettings>) -> bool
     ensures { result ≡ false → AreUnlimited (from_entries path_cmp listed.now.entries) }
 {
     for (_, settings) in listed {
-        if is_limited(settings) {
+        if is_limited(&settings.get()) {
             return true;
         }
     }

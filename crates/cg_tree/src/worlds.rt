@@ -8,8 +8,8 @@ ghost use Rattle.cg_tree.specs.Room.{HaveParents};
 
 use crate::groups::Groups;
 use crate::tree::Tree;
+use cg_boxed::CompactSettings;
 use cg_name::Path;
-use cg_text::Settings;
 use cg_world::PlainTree;
 use std::alloc::{AllocError, Global};
 use std::collections::BTreeMap;
@@ -17,7 +17,7 @@ use std::collections::BTreeMap;
 // The map of the groups, with an entry for each and no other. The parent of each group is a group.
 pub(crate) fn with_entries(
     alloc: Global,
-    listed: &BTreeMap<Path, Settings>,
+    listed: &BTreeMap<Path, CompactSettings>,
 ) -> Result<Groups, AllocError>
     requires { HaveParents (from_entries path_cmp listed.now.entries) }
     ensures groups { IfOk result (λ made. present made.groups ≡ from_entries path_cmp listed.now.entries) }
@@ -27,7 +27,7 @@ pub(crate) fn with_entries(
     let mut made = Groups::new(alloc);
     // A parent comes before its children.
     for (path, settings) in listed {
-        made.insert(alloc, path, &Some(*settings))?;
+        made.insert(alloc, path, &Some(settings.get()))?;
     }
     Ok(made)
 }
@@ -42,6 +42,7 @@ pub(crate) fn add_groups(
     ensures { OnOk result (tree.new ≡ record tree.old { groups = present groups.now.groups }) }
 {
     for (path, settings) in groups.present_groups(alloc)? {
+        let settings = CompactSettings::new(alloc, &settings)?;
         tree.set_group(path.to_path(alloc)?, settings)?;
     }
     Ok(())

@@ -5,6 +5,6 @@ mod plain;
 mod soundness;
 mod world;
 
-pub use cg_text::Settings;
+pub use cg_boxed::CompactSettings;
 pub use plain::PlainTree;
 pub use world::World;

@@ -7,9 +7,10 @@ ghost use Rattle.cg_name.specs.Path.{path_cmp};
 ghost use Rattle.cg_model.specs.Tree.{Tree, group, place_of};
 ghost use Rattle.cg_world.specs.Representable.{IsPid, IsRepresentable};
 
+use cg_boxed::CompactSettings;
 use cg_cpus::CpuSet;
 use cg_name::Path;
-use cg_text::{Controllers, Settings};
+use cg_text::Controllers;
 use std::alloc::{AllocError, Global};
 use std::collections::BTreeMap;
 use std::marker::Model;
@@ -18,7 +19,7 @@ use std::marker::Model;
 pub struct PlainTree {
     controllers: Controllers,
     online: CpuSet,
-    groups: BTreeMap<Path, Settings>,
+    groups: BTreeMap<Path, CompactSettings>,
     places: BTreeMap<u32, Path>,
 }
 
@@ -81,14 +82,14 @@ impl PlainTree {
     }
 
     /// The settings of a group, where there is one at this path.
-    pub fn settings(&self, path: &Path) -> Option<Settings>
-        ensures { result ≡ group self.now path.now }
+    pub fn settings(&self, path: &Path) -> Option<&CompactSettings>
+        ensures { option_copied result ≡ group self.now path.now }
     {
-        self.groups.get(path).copied()
+        self.groups.get(path)
     }
 
     // The path and the settings of the group at this path, where there is one.
-    pub(crate) fn entry(&self, path: &Path) -> Option<(&Path, &Settings)>
+    pub(crate) fn entry(&self, path: &Path) -> Option<(&Path, &CompactSettings)>
         ensures key { IfSome result (λ e. e.0.now ≡ path.now) }
         ensures value { option_map (λ e. e.1.now) result ≡ group self.now path.now }
     {
@@ -104,14 +105,14 @@ impl PlainTree {
 
     /// Makes the group at this path, or gives it these settings, and answers whether there was one. An error, where there is
     /// no memory, leaves the tree as it was.
-    pub fn set_group(&mut self, path: Path, settings: Settings) -> Result<bool, AllocError>
+    pub fn set_group(&mut self, path: Path, settings: CompactSettings) -> Result<bool, AllocError>
         ensures ok { OnOk result (self.new ≡ record self.old { groups = set_at self.old.groups path (Some settings) }) }
         ensures had { IfOk result (λ had. had ≡ is_some (group self.old path)) }
         ensures err { OnErr result (self.new ≡ self.old) }
     {
         // The path and the CPUs tell what holds of them.
         let _ = path.names();
-        let _ = settings.cpus.contains(0);
+        let _ = settings.cpus().contains(0);
         let former = self.groups.insert(path, settings)?;
         Ok(former.is_some())
     }
@@ -143,7 +144,7 @@ impl PlainTree {
     }
 
     /// The settings of the groups, by path.
-    pub fn groups(&self) -> &BTreeMap<Path, Settings>
+    pub fn groups(&self) -> &BTreeMap<Path, CompactSettings>
         ensures { from_entries path_cmp result.now.entries ≡ self.now.groups }
     {
         &self.groups
@@ -160,13 +161,13 @@ impl PlainTree {
 // A map of the same groups.
 fn copy_groups(
     alloc: Global,
-    groups: &BTreeMap<Path, Settings>,
-) -> Result<BTreeMap<Path, Settings>, AllocError>
+    groups: &BTreeMap<Path, CompactSettings>,
+) -> Result<BTreeMap<Path, CompactSettings>, AllocError>
     ensures { IfOk result (λ made. from_entries path_cmp made.entries ≡ from_entries path_cmp groups.now.entries) }
 {
     let mut made = BTreeMap::new(alloc);
     for (path, settings) in groups {
-        made.insert(path.copy(alloc)?, *settings)?;
+        made.insert(path.copy(alloc)?, settings.copy(alloc)?)?;
     }
     Ok(made)
 }

@@ -9,8 +9,8 @@ ghost use Rattle.cg_model.specs.Sound.{Sound, IsChildOf, IsRootOf};
 ghost use Rattle.cg_world.specs.Soundness.{HasGroup, HasParent, HasNoParent, HasSoundRoot, HasSoundGroups, HasSoundPlaces, IsSoundGroup, IsSoundPlace};
 
 use crate::plain::PlainTree;
+use cg_boxed::CompactSettings;
 use cg_name::{Path, Refusal};
-use cg_text::Settings;
 use std::alloc::{AllocError, Global};
 
 impl PlainTree {
@@ -36,23 +36,25 @@ fn has_sound_root(tree: &PlainTree, alloc: Global) -> bool
     ensures { IsTrue result ↔ HasSoundRoot tree.now }
 {
     match tree.settings(&Path::root(alloc)) {
-        Some(settings) => may_be_root(tree, &settings),
+        Some(settings) => may_be_root(tree, settings),
         None => false,
     }
 }
 
 // Whether the root may have these settings.
-fn may_be_root(tree: &PlainTree, settings: &Settings) -> bool
+fn may_be_root(tree: &PlainTree, settings: &CompactSettings) -> bool
     ensures { IsTrue result ↔ IsRootOf tree.now settings.now }
 {
-    settings.control.is_subset(&tree.controllers()) && !settings.freeze && settings.cpus.is_empty()
+    settings.control().is_subset(&tree.controllers())
+        && !settings.freeze()
+        && settings.cpus().is_empty()
 }
 
 // A group of a tree.
 #[derive(Clone, Copy)]
 struct Found<'a> {
     path: &'a Path,
-    settings: &'a Settings,
+    settings: &'a CompactSettings,
     // How many names the path has.
     depth: u32,
     ghost counted: { depth ≡ length path.now },
@@ -60,7 +62,7 @@ struct Found<'a> {
 
 impl<'a> Found<'a> {
     // The group at this path, with these settings.
-    fn new(path: &'a Path, settings: &'a Settings) -> Found<'a>
+    fn new(path: &'a Path, settings: &'a CompactSettings) -> Found<'a>
         ensures path { result.path.now ≡ path.now }
         ensures settings { result.settings.now ≡ settings.now }
     {
@@ -150,11 +152,11 @@ fn find_parent<'a>(
 }
 
 // Whether the child of a group may have these settings.
-fn may_be_child(parent: &Settings, settings: &Settings) -> bool
+fn may_be_child(parent: &CompactSettings, settings: &CompactSettings) -> bool
     ensures { IsTrue result ↔ IsChildOf parent.now settings.now }
 {
-    settings.control.is_subset(&parent.control)
-        && (settings.cpus.is_empty() || parent.control.cpuset)
+    let control = parent.control();
+    settings.control().is_subset(&control) && (settings.cpus().is_empty() || control.cpuset)
 }
 
 // Whether each process may be where it is.
@@ -187,7 +189,7 @@ fn is_sound_place(tree: &PlainTree, path: &Path) -> bool
     ensures { IsTrue result ↔ IsSoundPlace tree.now path.now }
 {
     match tree.entry(path) {
-        Some((_, settings)) => path.is_root() || settings.control.is_empty(),
+        Some((_, settings)) => path.is_root() || settings.control().is_empty(),
         None => false,
     }
 }

@@ -7,9 +7,10 @@ ghost use Rattle.cg_model.specs.Tree.{group, place_of};
 ghost use Rattle.cg_world.specs.Representable.{IsRepresentable};
 
 use crate::plain::PlainTree;
+use cg_boxed::CompactSettings;
 use cg_cpus::CpuSet;
 use cg_name::Path;
-use cg_text::{Controllers, Settings};
+use cg_text::Controllers;
 use std::alloc::{AllocError, Global};
 use std::marker::Model;
 
@@ -77,8 +78,8 @@ impl World {
     }
 
     /// The settings of a group, where there is one at this path.
-    pub fn settings(&self, path: &Path) -> Option<Settings>
-        ensures { result ≡ group self.now path.now }
+    pub fn settings(&self, path: &Path) -> Option<&CompactSettings>
+        ensures { option_copied result ≡ group self.now path.now }
     {
         self.tree.settings(path)
     }
@@ -92,11 +93,10 @@ impl World {
 
     /// The group with that many groups before it in the order of the paths, and its settings: the root at 0, `None` from
     /// the number of groups on.
-    pub fn group_at(&self, index: u64) -> Option<(&Path, Settings)>
-        ensures { option_map (λ e. (e.0.now, e.1)) result ≡ slice_get (entries self.now.groups) index }
+    pub fn group_at(&self, index: u64) -> Option<(&Path, &CompactSettings)>
+        ensures { option_map (λ e. (e.0.now, e.1.now)) result ≡ slice_get (entries self.now.groups) index }
     {
-        let (path, settings) = self.tree.groups().iter().nth(index as usize)?;
-        Some((path, *settings))
+        self.tree.groups().iter().nth(index as usize)
     }
 
     /// The process with that many processes before it by ascending PID, and the path of its group; `None` from the number

@@ -6,9 +6,10 @@ ghost use Rattle.cg_name.specs.Path.{path_cmp};
 ghost use Rattle.cg_world_text.specs.World.{cpus_fit_one, fits_version_one, settings_fit_one, written_version};
 
 use crate::version::Version;
+use cg_boxed::{BoxedCpus, CompactSettings};
 use cg_cpus::CpuSet;
 use cg_name::Path;
-use cg_text::{Limit, Settings};
+use cg_text::Limit;
 use cg_world::PlainTree;
 use std::collections::BTreeMap;
 
@@ -31,7 +32,7 @@ fn fits_version_one(tree: &PlainTree) -> bool
 }
 
 // Whether the groups' settings fit version 1.
-fn groups_fit(groups: &BTreeMap<Path, Settings>) -> bool
+fn groups_fit(groups: &BTreeMap<Path, CompactSettings>) -> bool
     ensures { result ≡ list_all (λ e. settings_fit_one e.1) (entries (from_entries path_cmp groups.now.entries)) }
 {
     for (_path, settings) in groups {
@@ -43,12 +44,19 @@ fn groups_fit(groups: &BTreeMap<Path, Settings>) -> bool
 }
 
 // Whether the settings of a group fit version 1: no CPU number is above 127, and there is no limit.
-pub(crate) fn settings_fit(settings: &Settings) -> bool
+pub(crate) fn settings_fit(settings: &CompactSettings) -> bool
     ensures { result ≡ settings_fit_one settings.now }
 {
-    cpus_fit(&settings.cpus)
-        && matches!(settings.max_descendants, Limit::Max)
-        && matches!(settings.max_depth, Limit::Max)
+    asked_cpus_fit(settings.cpus())
+        && matches!(settings.max_descendants(), Limit::Max)
+        && matches!(settings.max_depth(), Limit::Max)
+}
+
+// Whether the CPUs that a group asks for fit version 1.
+fn asked_cpus_fit(cpus: &BoxedCpus) -> bool
+    ensures { result ≡ cpus_fit_one cpus.now }
+{
+    cpus.is_empty() || cpus_fit(&cpus.get())
 }
 
 // Whether the CPUs fit version 1: no number is above 127.

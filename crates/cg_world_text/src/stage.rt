@@ -12,6 +12,7 @@ ghost use Rattle.cg_world_text.specs.Stage.{HasPid, behind_groups, taken, versio
 
 use crate::statement::Statement;
 use crate::version::Version;
+use cg_boxed::CompactSettings;
 use cg_cpus::CpuSet;
 use cg_name::{Path, Refusal};
 use cg_text::{Controllers, Settings};
@@ -59,7 +60,7 @@ impl Stage {
         ensures refusals { IfErr result IsSyntaxOrMemory }
     {
         match statement {
-            Statement::Group(path, settings) => self.take_group(path, settings),
+            Statement::Group(path, settings) => self.take_group(alloc, path, &settings),
             Statement::Process(pid, path) => self.take_process(pid, path),
             Statement::End => self.take_end(),
             Statement::Version(version) => self.take_version(version),
@@ -69,13 +70,13 @@ impl Stage {
     }
 
     // Takes the line of a group.
-    fn take_group(&mut self, path: Path, settings: Settings) -> Result<(), Refusal>
-        ensures value { OnOk result (taken self.old (Group path settings) ≡ Some self.new) }
-        ensures syntax { IsErrOf result Refusal.Syntax → taken self.old (Group path settings) ≡ None }
+    fn take_group(&mut self, alloc: Global, path: Path, settings: &Settings) -> Result<(), Refusal>
+        ensures value { OnOk result (taken self.old (Group path settings.now) ≡ Some self.new) }
+        ensures syntax { IsErrOf result Refusal.Syntax → taken self.old (Group path settings.now) ≡ None }
         ensures refusals { IfErr result IsSyntaxOrMemory }
     {
         match self {
-            Stage::Groups(_, tree) => add_group(tree, path, settings),
+            Stage::Groups(_, tree) => add_group(alloc, tree, path, settings),
             _ => Err(Refusal::Syntax),
         }
     }
@@ -168,12 +169,18 @@ impl Stage {
 }
 
 // Adds a group to a tree; `Syntax` where it has it already. After an error nothing is told of the tree.
-fn add_group(tree: &mut PlainTree, path: Path, settings: Settings) -> Result<(), Refusal>
+fn add_group(
+    alloc: Global,
+    tree: &mut PlainTree,
+    path: Path,
+    settings: &Settings,
+) -> Result<(), Refusal>
     ensures free { OnOk result (is_some (group tree.old path) ≡ false) }
-    ensures value { OnOk result (tree.new ≡ with_group tree.old path settings) }
+    ensures value { OnOk result (tree.new ≡ with_group tree.old path settings.now) }
     ensures syntax { IsErrOf result Refusal.Syntax → is_some (group tree.old path) ≡ true }
     ensures refusals { IfErr result IsSyntaxOrMemory }
 {
+    let settings = CompactSettings::new(alloc, settings)?;
     if tree.set_group(path, settings)? {
         return Err(Refusal::Syntax);
     }

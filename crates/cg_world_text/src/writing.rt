@@ -13,9 +13,10 @@ ghost use Rattle.cg_world_text.specs.Writing.{head_lines};
 
 use crate::fitting::version_of;
 use crate::version::Version;
+use cg_boxed::{BoxedCpus, CompactSettings};
 use cg_cpus::CpuSet;
 use cg_name::{Path, PathRef, or_truncate};
-use cg_text::{Controllers, Limit, Settings, write_names};
+use cg_text::{Controllers, Limit, write_names};
 use cg_world::{PlainTree, World};
 use itoa::Buffer;
 use std::alloc::AllocError;
@@ -72,7 +73,7 @@ pub(crate) fn append_head(
 pub(crate) fn append_group(
     version: Version,
     path: &PathRef<'_>,
-    settings: &Settings,
+    settings: &CompactSettings,
     out: &mut Vec<u8>,
 ) -> Result<(), AllocError>
     ensures ok { OnOk result (out.new.items ≡ out.old.items ++ group_line version (path.now, settings.now)) }
@@ -81,11 +82,11 @@ pub(crate) fn append_group(
     out.extend_from_slice(b"group ")?;
     path.write(out)?;
     out.push(b' ')?;
-    append_control(&settings.control, out)?;
+    append_control(&settings.control(), out)?;
     out.push(b' ')?;
-    out.push(flag(settings.freeze))?;
+    out.push(flag(settings.freeze()))?;
     out.push(b' ')?;
-    append_asked_cpus(&settings.cpus, out)?;
+    append_asked_cpus(settings.cpus(), out)?;
     append_limits(version, settings, out)?;
     out.push(b'\n')?;
     Ok(())
@@ -158,7 +159,7 @@ fn append_names(controllers: &Controllers, out: &mut Vec<u8>) -> Result<(), Allo
 // The line of each group.
 fn append_groups(
     version: Version,
-    groups: &BTreeMap<Path, Settings>,
+    groups: &BTreeMap<Path, CompactSettings>,
     out: &mut Vec<u8>,
 ) -> Result<(), AllocError>
     ensures ok { OnOk result (out.new.items ≡ out.old.items ++ flat_map (group_line version) (entries (from_entries path_cmp groups.now.entries))) }
@@ -182,15 +183,19 @@ fn append_processes(places: &BTreeMap<u32, Path>, out: &mut Vec<u8>) -> Result<(
 }
 
 // The limits on descendants and on depth, each with a space before it, which version 1 has not.
-fn append_limits(version: Version, settings: &Settings, out: &mut Vec<u8>) -> Result<(), AllocError>
+fn append_limits(
+    version: Version,
+    settings: &CompactSettings,
+    out: &mut Vec<u8>,
+) -> Result<(), AllocError>
     ensures ok { OnOk result (out.new.items ≡ out.old.items ++ limits_text version settings.now) }
     ensures kept { OnErr result (take (length out.old.items) out.new.items ≡ out.old.items) }
 {
     match version {
         Version::One => Ok(()),
         Version::Two => {
-            append_limit(settings.max_descendants, out)?;
-            append_limit(settings.max_depth, out)
+            append_limit(settings.max_descendants(), out)?;
+            append_limit(settings.max_depth(), out)
         }
     }
 }
@@ -230,7 +235,7 @@ fn flag(value: bool) -> u8
 }
 
 // The list of the CPUs, or a minus for none.
-fn append_asked_cpus(cpus: &CpuSet, out: &mut Vec<u8>) -> Result<(), AllocError>
+fn append_asked_cpus(cpus: &BoxedCpus, out: &mut Vec<u8>) -> Result<(), AllocError>
     ensures ok { OnOk result (out.new.items ≡ out.old.items ++ asked_cpus_text cpus.now) }
     ensures kept { OnErr result (take (length out.old.items) out.new.items ≡ out.old.items) }
 {
@@ -238,5 +243,5 @@ fn append_asked_cpus(cpus: &CpuSet, out: &mut Vec<u8>) -> Result<(), AllocError>
         out.push(b'-')?;
         return Ok(());
     }
-    cpus.write(out)
+    cpus.get().write(out)
 }

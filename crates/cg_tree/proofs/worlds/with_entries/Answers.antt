@@ -1,7 +1,8 @@
 -- What is put in comes next of the world's groups, and its parent came before.
-use Rattle.std.proofs.Common.{sym, subst, ◌∙◌}
+use Rattle.std.proofs.Common.{Some, sym, ap, subst, ◌∙◌}
 use Rattle.std.specs.Map.Iter.{deref_pair}
 use Rattle.std.proofs.lemmas.Map.Iter.{rest_more, rest_all}
+use Rattle.cg_maps.specs.FiniteMap.{set_at}
 use Rattle.cg_tree.proofs.WorldGroups.{IsPartOf, all_to_come, made_entries, made_groups, not_made, one_more, parent_made}
 use Rattle.cg_tree.proofs.worlds.with_entries.Goals as goal
 
@@ -22,7 +23,7 @@ insert-requires-clause-parent c = parent_made (subst (IsPartOf c.args.listed.now
 pub loop-path-preserved : goal.loop-path-preserved
 loop-path-preserved c = record {
   part =
-      one_more (subst (IsPartOf c.args.listed.now.entries c.loop-path.made.groups) (rest_more deref_pair _ _ _ _ c.in-Some.is c.next.ensures.steps) c.loop-path.invariant.part) c.insert.new.self.groups c.in_ok-insert.ensures.ok;
+      one_more (subst (IsPartOf c.args.listed.now.entries c.loop-path.made.groups) (rest_more deref_pair _ _ _ _ c.in-Some.is c.next.ensures.steps) c.loop-path.invariant.part) c.insert.new.self.groups (c.in_ok-insert.ensures.ok ∙ ap (λ s. set_at c.loop-path.made.groups c.in-Some.path.now (Some (Some s))) c.get.ensures);
   places = c.insert.ensures.places ∙ c.loop-path.invariant.places;
 }
 

@@ -13,4 +13,4 @@ returns-then-is_root c =
 pub returns-else-is_root : goal.returns-else-is_root
 returns-else-is_root c =
     place_is c.args.tree.now _ _ _ (sym c.entry.ensures.value ∙ ap (option_map (λ e. e.1.now)) c.in-Some.is)
-    (ap (λ b. b || is_no_controllers c.in-Some.settings.now.control) (sym c.is_root.ensures ∙ c.if-is_root.false) ∙ tells_none _ _ c.is_empty.ensures)
+    (ap (λ b. b || is_no_controllers c.in-Some.settings.now.control) (sym c.is_root.ensures ∙ c.if-is_root.false) ∙ ap is_no_controllers (sym c.control.ensures) ∙ tells_none _ _ c.is_empty.ensures)

@@ -22,33 +22,33 @@ returns-in_err-append_control-clause-kept c =
 pub returns-in_err-append_asked_cpus-clause-kept : goal.returns-in_err-append_asked_cpus-clause-kept
 returns-in_err-append_asked_cpus-clause-kept c =
     let path = up_to_path c.args.out.now.items (path_word c.args.path.now) c.in_ok-extend_from_slice.ensures.items c.in_ok-write.ensures.ok c.in_ok-push.ensures.items in
-    let flagged = c.in_ok-push-3.ensures.items ∙ ap (λ t. c.push-2.new.self.items ++ t) c.flag.ensures in
-    let flag = up_to_flag (control_text c.args.settings.now.control) (flag_word c.args.settings.now.freeze) path c.in_ok-append_control.ensures.ok c.in_ok-push-2.ensures.items flagged c.in_ok-push-4.ensures.items in
+    let flagged = c.in_ok-push-3.ensures.items ∙ ap (λ t. c.push-2.new.self.items ++ t) (c.flag.ensures ∙ ap flag_word c.freeze.ensures) in
+    let flag = up_to_flag (control_text c.args.settings.now.control) (flag_word c.args.settings.now.freeze) path (c.in_ok-append_control.ensures.ok ∙ ap (λ k. c.push.new.self.items ++ control_text k) c.control.ensures) c.in_ok-push-2.ensures.items flagged c.in_ok-push-4.ensures.items in
     refused _ flag _ c.in_err-append_asked_cpus.ensures.kept
 
 pub returns-in_err-append_limits-clause-kept : goal.returns-in_err-append_limits-clause-kept
 returns-in_err-append_limits-clause-kept c =
     let path = up_to_path c.args.out.now.items (path_word c.args.path.now) c.in_ok-extend_from_slice.ensures.items c.in_ok-write.ensures.ok c.in_ok-push.ensures.items in
-    let flagged = c.in_ok-push-3.ensures.items ∙ ap (λ t. c.push-2.new.self.items ++ t) c.flag.ensures in
-    let flag = up_to_flag (control_text c.args.settings.now.control) (flag_word c.args.settings.now.freeze) path c.in_ok-append_control.ensures.ok c.in_ok-push-2.ensures.items flagged c.in_ok-push-4.ensures.items in
-    let cpus = more (asked_cpus_text c.args.settings.now.cpus) flag c.in_ok-append_asked_cpus.ensures.ok in
+    let flagged = c.in_ok-push-3.ensures.items ∙ ap (λ t. c.push-2.new.self.items ++ t) (c.flag.ensures ∙ ap flag_word c.freeze.ensures) in
+    let flag = up_to_flag (control_text c.args.settings.now.control) (flag_word c.args.settings.now.freeze) path (c.in_ok-append_control.ensures.ok ∙ ap (λ k. c.push.new.self.items ++ control_text k) c.control.ensures) c.in_ok-push-2.ensures.items flagged c.in_ok-push-4.ensures.items in
+    let cpus = more (asked_cpus_text c.args.settings.now.cpus) flag (c.in_ok-append_asked_cpus.ensures.ok ∙ ap (λ k. c.push-4.new.self.items ++ asked_cpus_text k) c.cpus.ensures) in
     refused _ cpus _ c.in_err-append_limits.ensures.kept
 
 pub returns-in_err-push-5-clause-kept : goal.returns-in_err-push-5-clause-kept
 returns-in_err-push-5-clause-kept c =
     let path = up_to_path c.args.out.now.items (path_word c.args.path.now) c.in_ok-extend_from_slice.ensures.items c.in_ok-write.ensures.ok c.in_ok-push.ensures.items in
-    let flagged = c.in_ok-push-3.ensures.items ∙ ap (λ t. c.push-2.new.self.items ++ t) c.flag.ensures in
-    let flag = up_to_flag (control_text c.args.settings.now.control) (flag_word c.args.settings.now.freeze) path c.in_ok-append_control.ensures.ok c.in_ok-push-2.ensures.items flagged c.in_ok-push-4.ensures.items in
-    let cpus = more (asked_cpus_text c.args.settings.now.cpus) flag c.in_ok-append_asked_cpus.ensures.ok in
+    let flagged = c.in_ok-push-3.ensures.items ∙ ap (λ t. c.push-2.new.self.items ++ t) (c.flag.ensures ∙ ap flag_word c.freeze.ensures) in
+    let flag = up_to_flag (control_text c.args.settings.now.control) (flag_word c.args.settings.now.freeze) path (c.in_ok-append_control.ensures.ok ∙ ap (λ k. c.push.new.self.items ++ control_text k) c.control.ensures) c.in_ok-push-2.ensures.items flagged c.in_ok-push-4.ensures.items in
+    let cpus = more (asked_cpus_text c.args.settings.now.cpus) flag (c.in_ok-append_asked_cpus.ensures.ok ∙ ap (λ k. c.push-4.new.self.items ++ asked_cpus_text k) c.cpus.ensures) in
     let limits = more (limits_text c.args.version c.args.settings.now) cpus c.in_ok-append_limits.ensures.ok in
     refused_same _ limits _ c.in_err-push-5.ensures.items
 
 pub returns-clause-ok : goal.returns-clause-ok
 returns-clause-ok c =
     let path = up_to_path c.args.out.now.items (path_word c.args.path.now) c.in_ok-extend_from_slice.ensures.items c.in_ok-write.ensures.ok c.in_ok-push.ensures.items in
-    let flagged = c.in_ok-push-3.ensures.items ∙ ap (λ t. c.push-2.new.self.items ++ t) c.flag.ensures in
-    let flag = up_to_flag (control_text c.args.settings.now.control) (flag_word c.args.settings.now.freeze) path c.in_ok-append_control.ensures.ok c.in_ok-push-2.ensures.items flagged c.in_ok-push-4.ensures.items in
-    let cpus = more (asked_cpus_text c.args.settings.now.cpus) flag c.in_ok-append_asked_cpus.ensures.ok in
+    let flagged = c.in_ok-push-3.ensures.items ∙ ap (λ t. c.push-2.new.self.items ++ t) (c.flag.ensures ∙ ap flag_word c.freeze.ensures) in
+    let flag = up_to_flag (control_text c.args.settings.now.control) (flag_word c.args.settings.now.freeze) path (c.in_ok-append_control.ensures.ok ∙ ap (λ k. c.push.new.self.items ++ control_text k) c.control.ensures) c.in_ok-push-2.ensures.items flagged c.in_ok-push-4.ensures.items in
+    let cpus = more (asked_cpus_text c.args.settings.now.cpus) flag (c.in_ok-append_asked_cpus.ensures.ok ∙ ap (λ k. c.push-4.new.self.items ++ asked_cpus_text k) c.cpus.ensures) in
     let limits = more (limits_text c.args.version c.args.settings.now) cpus c.in_ok-append_limits.ensures.ok in
     let end = more newline limits c.in_ok-push-5.ensures.items in
     end.is

@@ -1,6 +1,7 @@
-use Rattle.std.proofs.Common.{sym, ap, subst, ◌∙◌, Some}
+use Rattle.std.proofs.Common.{◌≡◌, ◌<◌, ℕ, true, sym, ap, subst, ◌∙◌, Some}
 use Rattle.std.specs.Option.{is_some}
 use Rattle.cg_maps.specs.FiniteMap.{set_at}
+use Rattle.cg_maps.specs.FiniteSet.{has}
 use Rattle.cg_maps.proofs.TreeMaps.{get-view, view-insert}
 use Rattle.cg_name.specs.Order.{path_cmp_total, path_cmp_exact}
 use Rattle.cg_model.specs.Tree.{group}
@@ -14,7 +15,7 @@ pub invariant_of-self-2 : goal.invariant_of-self-2
 invariant_of-self-2 c =
     subst IsRepresentable
     (sym (ap (with_groups (tree_of c.self.inside)) (view-insert path_cmp_total path_cmp_exact c.self.inside.groups c.insert.new.self c.args.path c.args.settings c.in_ok-former.ensures.updates)))
-    (group_representable (tree_of c.self.inside) c.args.path c.args.settings c.self.invariant c.names.ensures.valid (up_to_last c.args.settings.cpus c.contains.ensures.below))
+    (group_representable (tree_of c.self.inside) c.args.path c.args.settings c.self.invariant c.names.ensures.valid (up_to_last c.args.settings.cpus (subst (λ s. (n : ℕ) → has s n ≡ true → n < 1024) c.cpus.ensures c.contains.ensures.below)))
 
 pub returns-clause-ok : goal.returns-clause-ok
 returns-clause-ok c =

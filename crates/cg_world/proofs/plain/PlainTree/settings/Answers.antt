@@ -6,6 +6,6 @@ use Rattle.cg_world.proofs.plain.PlainTree.settings.Goals as goal
 
 pub returns : goal.returns
 returns c =
-    c.copied.ensures ∙ c.get.ensures.value
+    c.get.ensures.value
     ∙ sym (get-view path_cmp_total path_cmp_exact c.self.inside.groups c.args.path.now)
     ∙ ap (λ T. group T c.args.path.now) c.self.view_is
