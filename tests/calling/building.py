@@ -14,8 +14,8 @@ NAME = "cg_calls"
 
 # What the program stands on, as a line of crates.txt.
 NEEDS = (
-    "cg_view cg_desk cg_core cg_inverse cg_replay cg_script cg_program cg_command_text cg_world_text cg_world cg_txn cg_locks cg_command"
-    " cg_derive cg_history cg_log cg_tree cg_lines cg_path_tree cg_places cg_text cg_name"
+    "cg_view cg_desk cg_core cg_inverse cg_boxed cg_replay cg_script cg_program cg_command_text cg_world_text cg_world cg_txn cg_locks"
+    " cg_command cg_derive cg_history cg_log cg_tree cg_lines cg_path_tree cg_places cg_text cg_name"
 )
 
 # The seconds that it may run.

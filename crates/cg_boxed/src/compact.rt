@@ -96,9 +96,10 @@ impl CompactSettings {
         }
     }
 
-    /// Equal settings; an error where there is no memory for them.
+    /// Equal settings; an error where there is no memory for them. Where no CPUs are asked for, they take none.
     pub fn copy(&self, alloc: Global) -> Result<CompactSettings, AllocError>
-        ensures { IfOk result (λ s. s ≡ self.now) }
+        ensures value { IfOk result (λ s. s ≡ self.now) }
+        ensures without_cpus { is_empty_set self.now.cpus ≡ true → IsOk result }
     {
         Ok(CompactSettings {
             control: self.control,

@@ -108,9 +108,10 @@ impl BoxedCpus {
         }
     }
 
-    /// An equal set; an error where there is no memory for it.
+    /// An equal set; an error where there is no memory for it. The empty set takes none.
     pub fn copy(&self, alloc: Global) -> Result<BoxedCpus, AllocError>
-        ensures { IfOk result (λ b. b ≡ self.now) }
+        ensures value { IfOk result (λ b. b ≡ self.now) }
+        ensures empty { is_empty_set self.now ≡ true → IsOk result }
     {
         BoxedCpus::new(alloc, self.get())
     }

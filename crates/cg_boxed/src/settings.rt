@@ -1,15 +1,16 @@
 //! Settings of a group in memory of their own.
-ghost use Rattle.std.specs.Prelude.{◌≡◌, IfOk};
+ghost use Rattle.std.specs.Prelude.{◌≡◌, ◌↔◌, IfOk, IsOk, IsTrue, true};
+ghost use Rattle.cg_maps.specs.FiniteSet.{is_empty_set};
 ghost use Rattle.cg_text.specs.Settings.{fresh};
 
-use cg_text::Settings;
+use crate::compact::CompactSettings;
 use std::alloc::{AllocError, Global};
 use std::marker::Model;
 
 /// What the interface files of one group hold. The settings of a new group take no memory of their own.
 pub struct BoxedSettings {
     // None of a new group's.
-    settings: Option<Box<Settings>>,
+    settings: Option<Box<CompactSettings>>,
 }
 
 // By hand, so that whoever drops one calls this, and doesn't drop each thing in it: that makes proofs shorter.
@@ -38,7 +39,7 @@ impl BoxedSettings {
     }
 
     /// These settings; an error where there is no memory for them.
-    pub fn new(alloc: Global, settings: Settings) -> Result<BoxedSettings, AllocError>
+    pub fn new(alloc: Global, settings: CompactSettings) -> Result<BoxedSettings, AllocError>
         ensures { IfOk result (λ b. b ≡ settings) }
     {
         Ok(BoxedSettings {
@@ -46,13 +47,36 @@ impl BoxedSettings {
         })
     }
 
-    /// The settings.
-    pub fn get(&self) -> Settings
-        ensures { result ≡ self.now }
+    /// Equal settings, outside the box; an error where there is no memory for their CPUs. Where no CPUs are asked for, they take
+    /// none.
+    pub fn copy(&self, alloc: Global) -> Result<CompactSettings, AllocError>
+        ensures value { IfOk result (λ s. s ≡ self.now) }
+        ensures without_cpus { is_empty_set self.now.cpus ≡ true → IsOk result }
     {
         match &self.settings {
-            Some(settings) => **settings,
-            None => Settings::fresh(),
+            Some(settings) => settings.copy(alloc),
+            None => Ok(CompactSettings::fresh()),
+        }
+    }
+
+    /// The settings, out of the box. Takes no memory.
+    pub fn into_settings(self) -> CompactSettings
+        ensures { result ≡ self }
+    {
+        let BoxedSettings { settings } = self;
+        match settings {
+            Some(settings) => Box::into_inner(settings),
+            None => CompactSettings::fresh(),
+        }
+    }
+
+    /// Whether these are the settings.
+    pub fn is(&self, settings: &CompactSettings) -> bool
+        ensures { IsTrue result ↔ (self.now ≡ settings.now) }
+    {
+        match &self.settings {
+            Some(own) => **own == *settings,
+            None => CompactSettings::fresh() == *settings,
         }
     }
 }

@@ -2,7 +2,8 @@
 use Rattle.std.proofs.Common.{◌≡◌, Bool, true, false, cond, not, ◌&&◌, List, [], ◌∷◌, ◌++◌, map, filter, Option, Some, None, Ok, Err, refl, ap, subst, ◌∙◌}
 use Rattle.std.specs.List.{AllByRecursion}
 use Rattle.cg_maps.specs.FiniteMap.{empty}
-use Rattle.cg_maps.specs.FiniteSet.{is_empty_set}
+use Rattle.cg_maps.specs.FiniteSet.{is_empty_set, no_members}
+use Rattle.cg_maps.proofs.Sets.{empty_has_none, has-no_members}
 use Rattle.cg_name.specs.Path.{Path, is_root}
 use Rattle.cg_name.specs.declared.controller.Controller.{Controller}
 use Rattle.cg_name.specs.declared.refusal.Refusal.TheVariants.{HasProcesses, InUse, Unavailable}
@@ -21,7 +22,7 @@ use Rattle.cg_model.specs.System.{Done, Accept}
 use Rattle.cg_model.specs.Tree.{Tree, group}
 use Rattle.cg_tree.specs.Listing.{asks_for_cpus}
 use Rattle.cg_tree.specs.Room.{TreeWithRoom, has_entry}
-use Rattle.cg_command.specs.Subtree.{NeedNoEntry}
+use Rattle.cg_command.specs.Subtree.{LeaveNoCpus, NeedNoEntry}
 
 -- ---- parts
 
@@ -57,6 +58,21 @@ all_emptied_parts (e ∷ es) last h = emptied_parts (is_empty_set e.1.cpus) e.0 
 
 pub controlled_parts : (p : Path) (s t : Controllers) (es : List (Path × Settings)) → AreParts (controlled p s t es)
 controlled_parts p s t es = all_emptied_parts (cond (loses_cpuset s t) es []) (control_change p s t) (tt, tt)
+
+-- the set of no number is empty
+pub none_is_empty : is_empty_set no_members ≡ true
+none_is_empty = (empty_has_none no_members).1 has-no_members
+
+emptied_leave : (b : Bool) (p : Path) (s : Settings) (cs : List Change) → LeaveNoCpus cs → LeaveNoCpus (cond b cs (change (Part p Cpus) (Some s.cpus) (Some empty) ∷ cs))
+emptied_leave true p s cs h = h
+emptied_leave false p s cs h = (none_is_empty, h)
+
+all_emptied_leave : (es : List (Path × Settings)) (last : List Change) → LeaveNoCpus last → LeaveNoCpus (emptied es last)
+all_emptied_leave [] last h = h
+all_emptied_leave (e ∷ es) last h = emptied_leave (is_empty_set e.1.cpus) e.0 e.1 (emptied es last) (all_emptied_leave es last h)
+
+pub controlled_leave : (p : Path) (s t : Controllers) (es : List (Path × Settings)) → LeaveNoCpus (controlled p s t es)
+controlled_leave p s t es = all_emptied_leave (cond (loses_cpuset s t) es []) (control_change p s t) (tt, tt)
 
 then_last : (b : Bool) (c : Change) (cs ds last : List Change) → ds ≡ cs ++ last → cond b ds (c ∷ ds) ≡ cond b cs (c ∷ cs) ++ last
 then_last true c cs ds last h = h

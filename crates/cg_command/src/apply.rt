@@ -1,7 +1,7 @@
 //! What each accepted command changes, and the inverse of that.
-ghost use Rattle.std.specs.Prelude.{◌≡◌, ◌∷◌, []};
+ghost use Rattle.std.specs.Prelude.{◌≡◌, ◌∷◌, [], IfOk, IsOk, OnErr, OnOk};
 ghost use Rattle.cg_command.specs.Applied.{IsCarriedOut};
-ghost use Rattle.cg_inverse.specs.Meaning.{change_of, HasRoomIn, HasRoomToMake};
+ghost use Rattle.cg_inverse.specs.Meaning.{change_of, HasRoomIn, HasRoomToMake, LeavesNoCpus};
 ghost use Rattle.cg_model.specs.Command as model;
 ghost use Rattle.cg_model.specs.Command.{IsAccepted};
 ghost use Rattle.cg_model.specs.Effect.{effect};
@@ -33,7 +33,8 @@ pub(crate) fn create(
         left: Some(BoxedSettings::fresh()),
     };
     tree.make_room(alloc, path)?;
-    Ok((Outcome::Done, change_one(alloc, change, tree)))
+    // The settings of a new group take no memory, so that the room isn't left without the group.
+    Ok((Outcome::Done, change_one(alloc, change, tree)?))
 }
 
 // Takes the group at the path away. Its entry stays.
@@ -54,10 +55,10 @@ pub(crate) fn remove(
     tree.laws();
     let change = Change::Group {
         path: path.copy(alloc)?,
-        before: Some(BoxedSettings::new(alloc, settings)?),
+        before: Some(BoxedSettings::new(alloc, settings.copy(alloc)?)?),
         left: None,
     };
-    Ok((Outcome::Done, change_one(alloc, change, tree)))
+    Ok((Outcome::Done, change_one(alloc, change, tree)?))
 }
 
 // Moves the process into the group.
@@ -82,7 +83,7 @@ pub(crate) fn migrate(
         before,
         left: path.copy(alloc)?,
     };
-    Ok((Outcome::Done, change_one(alloc, change, tree)))
+    Ok((Outcome::Done, change_one(alloc, change, tree)?))
 }
 
 // Writes `cgroup.freeze`.
@@ -102,23 +103,26 @@ pub(crate) fn freeze(
     };
     let change = Change::Freeze {
         path: path.copy(alloc)?,
-        before: settings.freeze,
+        before: settings.freeze(),
         left: value,
     };
-    Ok((Outcome::Done, change_one(alloc, change, tree)))
+    Ok((Outcome::Done, change_one(alloc, change, tree)?))
 }
 
-// Makes the change, for which and for undoing which the entries are there, and gives its inverse. Takes no memory.
-fn change_one(alloc: Global, change: Change, tree: &mut Tree) -> Inverse
+// Makes the change, for which and for undoing which the entries are there, and gives its inverse. An error, where there is no
+// memory for the CPUs that are left, leaves the tree as it was; where none are left, it takes none.
+fn change_one(alloc: Global, change: Change, tree: &mut Tree) -> Result<Inverse, AllocError>
     requires made { HasRoomToMake tree.old (change_of change) }
     requires undone { HasRoomIn tree.old (change_of change) }
-    ensures inverse { result ≡ change_of change ∷ [] }
-    ensures tree { tree.new.tree ≡ put (change_of change).key (change_of change).left tree.old.tree }
-    ensures room { RoomFor (has_entry tree.new) result }
-    ensures entries { tree.new.entries ≡ tree.old.entries }
+    ensures inverse { IfOk result (λ i. i ≡ change_of change ∷ []) }
+    ensures tree { OnOk result (tree.new.tree ≡ put (change_of change).key (change_of change).left tree.old.tree) }
+    ensures room { IfOk result (λ i. RoomFor (has_entry tree.new) i) }
+    ensures entries { OnOk result (tree.new.entries ≡ tree.old.entries) }
+    ensures err { OnErr result (tree.new ≡ tree.old) }
+    ensures without_cpus { LeavesNoCpus (change_of change) → IsOk result }
 {
-    change.put_left(tree);
-    Inverse::of_one(alloc, change)
+    change.put_left(alloc, tree)?;
+    Ok(Inverse::of_one(alloc, change))
 }
 
 // Writes `cpuset.cpus`.
@@ -138,10 +142,10 @@ pub(crate) fn cpus(
     };
     let change = Change::Cpus {
         path: path.copy(alloc)?,
-        before: BoxedCpus::new(alloc, settings.cpus)?,
+        before: settings.cpus().copy(alloc)?,
         left: value.copy(alloc)?,
     };
-    Ok((Outcome::Done, change_one(alloc, change, tree)))
+    Ok((Outcome::Done, change_one(alloc, change, tree)?))
 }
 
 // Writes `cgroup.max.descendants`.
@@ -161,10 +165,10 @@ pub(crate) fn max_descendants(
     };
     let change = Change::MaxDescendants {
         path: path.copy(alloc)?,
-        before: settings.max_descendants,
+        before: settings.max_descendants(),
         left: limit,
     };
-    Ok((Outcome::Done, change_one(alloc, change, tree)))
+    Ok((Outcome::Done, change_one(alloc, change, tree)?))
 }
 
 // Writes `cgroup.max.depth`.
@@ -184,10 +188,10 @@ pub(crate) fn max_depth(
     };
     let change = Change::MaxDepth {
         path: path.copy(alloc)?,
-        before: settings.max_depth,
+        before: settings.max_depth(),
         left: limit,
     };
-    Ok((Outcome::Done, change_one(alloc, change, tree)))
+    Ok((Outcome::Done, change_one(alloc, change, tree)?))
 }
 
 // Sets which CPUs are online.
@@ -203,7 +207,7 @@ pub(crate) fn online(
         before: BoxedCpus::new(alloc, tree.online())?,
         left: value.copy(alloc)?,
     };
-    Ok((Outcome::Done, change_one(alloc, change, tree)))
+    Ok((Outcome::Done, change_one(alloc, change, tree)?))
 }
 
 // Tells the text of the file.

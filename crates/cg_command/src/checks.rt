@@ -15,9 +15,10 @@ ghost use Rattle.cg_text.specs.declared.limit.Limit.{Limit};
 
 use crate::limits::{too_deep, too_many};
 use cg_avail::plan;
+use cg_boxed::CompactSettings;
 use cg_derive::{available, check_file};
 use cg_name::{Path, Refusal};
-use cg_text::{ControlOps, Controllers, FileName, Settings};
+use cg_text::{ControlOps, Controllers, FileName};
 use cg_tree::Tree;
 
 // The path isn't the root's, its parent is there, it is free, and no group above it is full or too far above.
@@ -77,7 +78,7 @@ pub(crate) fn check_migrate(pid: u32, path: &Path, tree: &Tree) -> Result<(), Re
     let Some(settings) = tree.settings(path) else {
         return Err(Refusal::NoGroup);
     };
-    if !admits(path, &settings) {
+    if !admits(path, settings) {
         return Err(Refusal::Controlled);
     }
     Ok(())
@@ -95,7 +96,7 @@ pub(crate) fn check_subtree(path: &Path, ops: ControlOps, tree: &Tree) -> Result
     let Some(available) = available(tree, path) else {
         return Err(Refusal::NoGroup);
     };
-    plan_on(path, available, settings.control, ops, tree)?;
+    plan_on(path, available, settings.control(), ops, tree)?;
     Ok(())
 }
 
@@ -179,8 +180,8 @@ pub(crate) fn check_limit(path: &Path, tree: &Tree) -> Result<(), Refusal>
 }
 
 // Whether a group with these settings may have processes: the root may, and one that passes no controllers on.
-fn admits(path: &Path, settings: &Settings) -> bool
+fn admits(path: &Path, settings: &CompactSettings) -> bool
     ensures { result ≡ admits path.now settings.now }
 {
-    path.is_root() || settings.control.is_empty()
+    path.is_root() || settings.control().is_empty()
 }

@@ -32,12 +32,12 @@ pub(crate) fn too_deep(path: &Path, tree: &Tree) -> bool
 fn reaches_descendants(above: &Ancestor) -> bool
     ensures { result ≡ reaches_descendants above.now.settings above.now.descendants }
 {
-    let Some(settings) = &above.settings else {
+    let Some(settings) = above.settings() else {
         return false;
     };
-    match settings.max_descendants {
+    match settings.max_descendants() {
         Limit::Max => false,
-        Limit::UpTo(most) => above.descendants >= u64::from(most.number),
+        Limit::UpTo(most) => above.descendants() >= u64::from(most.number),
     }
 }
 
@@ -45,11 +45,11 @@ fn reaches_descendants(above: &Ancestor) -> bool
 fn exceeds_depth(above: &Ancestor, depth: u32) -> bool
     ensures { result ≡ exceeds_depth above.now.settings (depth - above.now.depth) }
 {
-    let Some(settings) = &above.settings else {
+    let Some(settings) = above.settings() else {
         return false;
     };
-    match settings.max_depth {
+    match settings.max_depth() {
         Limit::Max => false,
-        Limit::UpTo(most) => depth.saturating_sub(above.depth) > most.number,
+        Limit::UpTo(most) => depth.saturating_sub(above.depth()) > most.number,
     }
 }

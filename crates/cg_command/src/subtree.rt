@@ -2,7 +2,7 @@
 //! CPUs that its children ask for.
 ghost use Rattle.std.specs.Prelude.{◌≡◌, ◌++◌, [], cond, IfOk, OnOk, map};
 ghost use Rattle.cg_command.specs.Applied.{IsCarriedOut};
-ghost use Rattle.cg_command.specs.Subtree.{NeedNoEntry};
+ghost use Rattle.cg_command.specs.Subtree.{LeaveNoCpus, NeedNoEntry};
 ghost use Rattle.cg_inverse.specs.Meaning.{change_of};
 ghost use Rattle.cg_model.specs.Change.{done};
 ghost use Rattle.cg_model.specs.Command as model;
@@ -34,9 +34,10 @@ pub(crate) fn subtree(
         // The group of an accepted command is there.
         unreachable!()
     };
-    let left = planned(settings.control, ops);
-    let inverse = changes_of(path, settings.control, left, alloc, tree)?;
-    put_all(inverse.changes(), tree);
+    let before = settings.control();
+    let left = planned(before, ops);
+    let inverse = changes_of(path, before, left, alloc, tree)?;
+    put_all(inverse.changes(), alloc, tree);
     Ok((Outcome::Done, inverse))
 }
 
@@ -83,22 +84,26 @@ fn add_emptied(
     for (child, settings) in tree.children_with_cpus(alloc, path)? {
         inverse.push(Change::Cpus {
             path: child.to_path(alloc)?,
-            before: BoxedCpus::new(alloc, settings.cpus)?,
+            before: settings.cpus().copy(alloc)?,
             left: BoxedCpus::empty(),
         })?;
     }
     Ok(())
 }
 
-// Makes the changes, none of which needs an entry.
-fn put_all(changes: &[Change], tree: &mut Tree)
-    requires { NeedNoEntry (map change_of changes.now) }
+// Makes the changes, none of which needs an entry or leaves CPUs. So it takes no memory.
+fn put_all(changes: &[Change], alloc: Global, tree: &mut Tree)
+    requires no_entry { NeedNoEntry (map change_of changes.now) }
+    requires no_cpus { LeaveNoCpus (map change_of changes.now) }
     ensures tree { tree.new.tree ≡ done (map change_of changes.now) tree.old.tree }
     ensures entries { tree.new.entries ≡ tree.old.entries }
 {
     let mut rest = changes;
     while let Some((change, others)) = rest.split_first() {
-        change.put_left(tree);
+        let Ok(()) = change.put_left(alloc, tree) else {
+            // Only CPUs that are left take memory.
+            unreachable!()
+        };
         rest = others;
     }
 }

@@ -70,15 +70,15 @@ pub fn file(alloc: Global, tree: &Tree, path: &Path, name: FileName) -> Result<V
                 write_controllers(controllers, &mut text)?;
             }
         }
-        FileName::SubtreeControl => write_controllers(settings.control, &mut text)?,
+        FileName::SubtreeControl => write_controllers(settings.control(), &mut text)?,
         FileName::Events => {
             write_events(tree.is_populated(path), is_frozen(tree, path), &mut text)?
         }
-        FileName::Freeze => write_flag(settings.freeze, &mut text)?,
-        FileName::Cpus => write_cpus(settings.cpus, &mut text)?,
+        FileName::Freeze => write_flag(settings.freeze(), &mut text)?,
+        FileName::Cpus => write_cpus(settings.cpus().get(), &mut text)?,
         FileName::EffectiveCpus => write_cpus(effective_cpus(tree, path), &mut text)?,
-        FileName::MaxDescendants => write_limit(settings.max_descendants, &mut text)?,
-        FileName::MaxDepth => write_limit(settings.max_depth, &mut text)?,
+        FileName::MaxDescendants => write_limit(settings.max_descendants(), &mut text)?,
+        FileName::MaxDepth => write_limit(settings.max_depth(), &mut text)?,
     }
     Ok(text)
 }

@@ -1,12 +1,13 @@
 //! The values of a group: what is available to it, whether it is populated and frozen, and its effective CPUs (the kernel's
 //! cgroup-v2 page, "Controlling Controllers", "Core Interface Files" and "Cpuset Interface Files").
-ghost use Rattle.std.specs.Prelude.{◌≡◌, ◌&&◌, nat_lt};
+ghost use Rattle.std.specs.Prelude.{◌≡◌, ◌&&◌, nat_lt, option_copied};
 ghost use Rattle.cg_derive.specs.Upward.{narrowed_upward};
 ghost use Rattle.cg_model.specs.Derived.{available, effective, effective_cpus, frozen, has_freeze, is_frozen, narrowed, populated};
 
+use cg_boxed::CompactSettings;
 use cg_cpus::CpuSet;
 use cg_name::Path;
-use cg_text::{Controllers, Settings};
+use cg_text::Controllers;
 use cg_tree::{Ancestor, Ancestors, Tree};
 
 /// The controllers that the group at the path has: the root those of the computer, another group those that its parent
@@ -21,7 +22,7 @@ pub fn available(tree: &Tree, path: &Path) -> Option<Controllers>
         return Some(tree.controllers());
     }
     let parent = tree.parent_settings(path)?;
-    Some(parent.control)
+    Some(parent.control())
 }
 
 /// Whether the group at the path, or one below it, has a process. None for the root, and where there is no group.
@@ -69,8 +70,8 @@ pub(crate) fn is_frozen(tree: &Tree, path: &Path) -> bool
 fn freezes(at: &Ancestor) -> bool
     ensures { result ≡ (nat_lt 0 at.now.depth && has_freeze at.now.settings) }
 {
-    match &at.settings {
-        Some(settings) => at.depth > 0 && settings.freeze,
+    match at.settings() {
+        Some(settings) => at.depth() > 0 && settings.freeze(),
         None => false,
     }
 }
@@ -90,19 +91,19 @@ fn narrowed_upward(mut groups: Ancestors<'_>, online: CpuSet) -> CpuSet
     let Some(at) = groups.next() else {
         return online;
     };
-    if at.depth == 0 {
+    if at.depth() == 0 {
         return online;
     }
-    narrowed(narrowed_upward(groups, online), at.settings)
+    narrowed(narrowed_upward(groups, online), at.settings())
 }
 
 // Those of the parent's CPUs that the group asks for, or all of these where there are none.
-fn narrowed(cpus: CpuSet, group: Option<Settings>) -> CpuSet
-    ensures { result ≡ narrowed cpus group }
+fn narrowed(cpus: CpuSet, group: Option<&CompactSettings>) -> CpuSet
+    ensures { result ≡ narrowed cpus (option_copied group.entry) }
 {
     let Some(settings) = group else {
         return cpus;
     };
-    let both = settings.cpus.intersect(cpus);
+    let both = settings.cpus().intersect(cpus);
     if both.is_empty() { cpus } else { both }
 }

@@ -7,8 +7,8 @@ ghost use Rattle.cg_name.specs.Path.{Path};
 ghost use Rattle.cg_text.specs.declared.settings.Settings.{Settings};
 
 use crate::comment::{append_note, append_number};
+use cg_boxed::CompactSettings;
 use cg_name::{Controller, Path, PathRef};
-use cg_text::Settings;
 use cg_tree::Tree;
 use std::alloc::{AllocError, Global};
 
@@ -75,7 +75,7 @@ pub(crate) fn append_children(
     let said = child_said(*out.allocator(), wanted)?;
     let mut left = MOST_NAMED;
     for (child, settings) in tree.children(*out.allocator(), path)? {
-        left = append_wanted(wanted, &child, &settings, said.as_slice(), left, out)?;
+        left = append_wanted(wanted, &child, settings, said.as_slice(), left, out)?;
     }
     Ok(())
 }
@@ -84,7 +84,7 @@ pub(crate) fn append_children(
 fn append_wanted(
     wanted: Option<Controller>,
     child: &PathRef<'_>,
-    settings: &Settings,
+    settings: &CompactSettings,
     said: &[u8],
     left: usize,
     out: &mut Vec<u8>,
@@ -115,12 +115,12 @@ fn child_said(alloc: Global, wanted: Option<Controller>) -> Result<Vec<u8>, Allo
 }
 
 // Whether a child with these settings passes the controller on, where one is asked for.
-fn is_wanted(wanted: Option<Controller>, settings: &Settings) -> bool
+fn is_wanted(wanted: Option<Controller>, settings: &CompactSettings) -> bool
     ensures { (path : Path) → result ≡ is_wanted wanted (path, settings.now) }
 {
     match wanted {
         None => true,
-        Some(controller) => settings.control.contains(controller),
+        Some(controller) => settings.control().contains(controller),
     }
 }
 

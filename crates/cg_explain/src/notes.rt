@@ -1,5 +1,5 @@
 //! What is in the way of a command that the tree refuses.
-ghost use Rattle.std.specs.Prelude.{◌≡◌, ◌++◌, OnOk};
+ghost use Rattle.std.specs.Prelude.{◌≡◌, ◌++◌, OnOk, option_copied};
 ghost use Rattle.cg_command.specs.Meaning.{command_of};
 ghost use Rattle.cg_explain.specs.Explained.{began_note, busy_note, record_notes, refusal_notes};
 ghost use Rattle.cg_history.specs.Meaning.{answer_of, request_of};
@@ -11,11 +11,12 @@ use crate::below::{append_children, append_processes};
 use crate::comment::{append_comment, append_note, append_number};
 use crate::in_the_way::append_way;
 use crate::upward::{append_deep, append_lacking, append_many, append_missing};
+use cg_boxed::CompactSettings;
 use cg_command::Command;
 use cg_core::Core;
 use cg_history::{Answer, Record, Request};
 use cg_name::{Controller, Path, Refusal, TxnNumber};
-use cg_text::{Controllers, Settings, write_names};
+use cg_text::{Controllers, write_names};
 use cg_tree::{Ancestors, Tree};
 use std::alloc::AllocError;
 
@@ -164,16 +165,16 @@ fn append_computer(
 // Appends what a group with these settings passes on.
 fn append_control(
     path: &Path,
-    settings: Option<Settings>,
+    settings: Option<&CompactSettings>,
     out: &mut Vec<u8>,
 ) -> Result<(), AllocError>
-    ensures { OnOk result (out.new.items ≡ out.old.items ++ control_note path.now settings) }
+    ensures { OnOk result (out.new.items ≡ out.old.items ++ control_note path.now (option_copied settings.entry)) }
 {
     let Some(settings) = settings else {
         return Ok(());
     };
     let mut said = Vec::new(*out.allocator());
     said.extend_from_slice(b" passes on ")?;
-    write_names(settings.control, b',', &mut said)?;
+    write_names(settings.control(), b',', &mut said)?;
     append_note(path, said.as_slice(), out)
 }

@@ -30,10 +30,10 @@ pub(crate) fn append_missing(
 fn append_missing_at(path: &Path, ancestor: &Ancestor, out: &mut Vec<u8>) -> Result<(), AllocError>
     ensures { OnOk result (out.new.items ≡ out.old.items ++ missing_note path.now ancestor.now.depth ancestor.now.settings) }
 {
-    if ancestor.settings.is_some() {
+    if ancestor.settings().is_some() {
         return Ok(());
     }
-    append_note_above(path, ancestor.depth, b" is no group", out)
+    append_note_above(path, ancestor.depth(), b" is no group", out)
 }
 
 /// Appends which groups on the way don't pass the controller on.
@@ -61,16 +61,16 @@ fn append_lacking_at(
 ) -> Result<(), AllocError>
     ensures { OnOk result (out.new.items ≡ out.old.items ++ lacking_note controller path.now ancestor.now.depth ancestor.now.settings) }
 {
-    let Some(settings) = ancestor.settings else {
+    let Some(settings) = ancestor.settings() else {
         return Ok(());
     };
-    if settings.control.contains(controller) {
+    if settings.control().contains(controller) {
         return Ok(());
     }
     let mut said = Vec::new(*out.allocator());
     said.extend_from_slice(b" passes on no ")?;
     said.extend_from_slice(controller.word().as_bytes())?;
-    append_note_above(path, ancestor.depth, said.as_slice(), out)
+    append_note_above(path, ancestor.depth(), said.as_slice(), out)
 }
 
 /// Appends which groups on the way have as many descendants as they may have.
@@ -92,14 +92,14 @@ pub(crate) fn append_many(
 fn append_many_at(path: &Path, ancestor: &Ancestor, out: &mut Vec<u8>) -> Result<(), AllocError>
     ensures { OnOk result (out.new.items ≡ out.old.items ++ many_note path.now ancestor.now.depth ancestor.now.descendants ancestor.now.settings) }
 {
-    let Some(settings) = ancestor.settings else {
+    let Some(settings) = ancestor.settings() else {
         return Ok(());
     };
     append_many_where(
         path,
-        ancestor.depth,
-        ancestor.descendants,
-        settings.max_descendants,
+        ancestor.depth(),
+        ancestor.descendants(),
+        settings.max_descendants(),
         out,
     )
 }
@@ -149,10 +149,10 @@ pub(crate) fn append_deep(
 fn append_deep_at(path: &Path, ancestor: &Ancestor, out: &mut Vec<u8>) -> Result<(), AllocError>
     ensures { OnOk result (out.new.items ≡ out.old.items ++ deep_note path.now ancestor.now.depth ancestor.now.settings) }
 {
-    let Some(settings) = ancestor.settings else {
+    let Some(settings) = ancestor.settings() else {
         return Ok(());
     };
-    append_deep_where(path, ancestor.depth, settings.max_depth, out)
+    append_deep_where(path, ancestor.depth(), settings.max_depth(), out)
 }
 
 // The same by how deep groups below may be.

@@ -1,13 +1,15 @@
 -- What the changes of the code mean in the model.
-use Rattle.std.specs.Prelude.{◌≡◌, Some}
+use Rattle.std.specs.Prelude.{◌≡◌, true, Option, None, Some}
+use Rattle.cg_maps.specs.FiniteSet.{is_empty_set}
 use Rattle.cg_model.specs.Change as model
 use Rattle.cg_model.specs.Change.{change}
 use Rattle.cg_model.specs.Key as keys
-use Rattle.cg_model.specs.Key.{value_at}
+use Rattle.cg_model.specs.Key.{value_at, Key, ValueOf}
 use Rattle.cg_model.specs.Room.{room_for}
 use Rattle.cg_inverse.specs.declared.change.Change.{Change}
 use Rattle.cg_inverse.specs.declared.change.Change.TheVariants as changes
 use Rattle.cg_model.specs.Tree.{Tree}
+use Rattle.cg_text.specs.declared.settings.Settings.{Settings}
 use Rattle.cg_tree.specs.Room.{TreeWithRoom, has_entry}
 
 abbrev pub change_of : Change → model.Change
@@ -35,3 +37,18 @@ HasRoomToMake t c = room_for (has_entry t) c.key c.left
 -- the key can be put back
 abbrev pub MayGoBack : TreeWithRoom → model.Change → Type 0
 MayGoBack t c = FitsIn t.tree c × HasRoomIn t c
+
+-- the settings of a group, if there is one, ask for no CPUs
+abbrev pub AsksForNone : Option Settings → Type 0
+AsksForNone None = Unit {0}
+AsksForNone (Some s) = is_empty_set s.cpus ≡ true
+
+-- what is put at the key asks for no CPUs
+abbrev pub PutsNoCpus : (k : Key) → Option (ValueOf k) → Type 0
+PutsNoCpus (keys.Group p) v = AsksForNone v
+PutsNoCpus (keys.Part p keys.Cpus) (Some v) = is_empty_set v ≡ true
+PutsNoCpus _ _ = Unit {0}
+
+-- the change leaves no CPUs that a group asks for
+abbrev pub LeavesNoCpus : model.Change → Type 0
+LeavesNoCpus c = PutsNoCpus c.key c.left

@@ -1,13 +1,13 @@
 //! Changes: a key of the tree, what it held before a command, and what the command left there.
-ghost use Rattle.std.specs.Prelude.{◌≡◌, ◌↔◌, IsTrue};
-ghost use Rattle.cg_inverse.specs.Meaning.{change_of, FitsIn, HasRoomIn, HasRoomToMake, MayGoBack};
+ghost use Rattle.std.specs.Prelude.{◌≡◌, ◌↔◌, IfOk, IsOk, IsTrue, OnErr, OnOk, option_copied};
+ghost use Rattle.cg_inverse.specs.Meaning.{change_of, AsksForNone, FitsIn, HasRoomIn, HasRoomToMake, LeavesNoCpus, MayGoBack};
 ghost use Rattle.cg_model.specs.Key.{put};
 
-use cg_boxed::{BoxedCpus, BoxedSettings};
+use cg_boxed::{BoxedCpus, BoxedSettings, CompactSettings};
 use cg_name::Path;
-use cg_text::{Controllers, Limit, Settings};
+use cg_text::{Controllers, Limit};
 use cg_tree::{NewValue, Tree};
-use std::alloc::Global;
+use std::alloc::{AllocError, Global};
 use std::default::MadeWith;
 
 /// One key of a tree, with what it held before a command and what the command left.
@@ -139,54 +139,78 @@ impl MadeWith<Global> for Change {
 }
 
 impl Change {
-    /// Puts the key back to its value before. Takes no memory.
-    pub fn put_before(&self, tree: &mut Tree)
-        requires { HasRoomIn tree.old (change_of self.now) }
-        ensures tree { tree.new.tree ≡ put (change_of self.now).key (change_of self.now).before tree.old.tree }
+    /// Puts the key back to its value before. Takes no memory: what the tree is to keep is moved out of the change.
+    pub fn put_before(self, tree: &mut Tree)
+        requires { HasRoomIn tree.old (change_of self) }
+        ensures tree { tree.new.tree ≡ put (change_of self).key (change_of self).before tree.old.tree }
         ensures entries { tree.new.entries ≡ tree.old.entries }
     {
         match self {
-            Change::Group { path, before, .. } => tree.put_group(path, unboxed(before)),
-            Change::Place { pid, before, .. } => tree.put_place(*pid, before),
-            Change::Control { path, before, .. } => tree.put_value(
+            Change::Group {
                 path,
-                &NewValue::Control(*before),
-            ),
-            Change::Freeze { path, before, .. } => tree.put_value(path, &NewValue::Freeze(*before)),
-            Change::Cpus { path, before, .. } => tree.put_value(
+                before,
+                left: _,
+            } => tree.put_group(&path, unboxed(before)),
+            Change::Place {
+                pid,
+                before,
+                left: _,
+            } => tree.put_place(pid, &before),
+            Change::Control {
                 path,
-                &NewValue::Cpus(before.get()),
-            ),
-            Change::MaxDescendants { path, before, .. } => {
-                tree.put_value(path, &NewValue::MaxDescendants(*before));
-            }
-            Change::MaxDepth { path, before, .. } => {
-                tree.put_value(path, &NewValue::MaxDepth(*before));
-            }
-            Change::Online { before, .. } => tree.put_online(before.get()),
+                before,
+                left: _,
+            } => tree.put_value(&path, NewValue::Control(before)),
+            Change::Freeze {
+                path,
+                before,
+                left: _,
+            } => tree.put_value(&path, NewValue::Freeze(before)),
+            Change::Cpus {
+                path,
+                before,
+                left: _,
+            } => tree.put_value(&path, NewValue::Cpus(before)),
+            Change::MaxDescendants {
+                path,
+                before,
+                left: _,
+            } => tree.put_value(&path, NewValue::MaxDescendants(before)),
+            Change::MaxDepth {
+                path,
+                before,
+                left: _,
+            } => tree.put_value(&path, NewValue::MaxDepth(before)),
+            Change::Online { before, left: _ } => tree.put_online(before.get()),
         }
     }
 
-    /// Puts the value left at the key. Takes no memory.
-    pub fn put_left(&self, tree: &mut Tree)
+    /// Puts the value left at the key. An error, where there is no memory for the CPUs that are left, leaves the tree as it was;
+    /// where none are left, it takes none.
+    pub fn put_left(&self, alloc: Global, tree: &mut Tree) -> Result<(), AllocError>
         requires { HasRoomToMake tree.old (change_of self.now) }
-        ensures tree { tree.new.tree ≡ put (change_of self.now).key (change_of self.now).left tree.old.tree }
-        ensures entries { tree.new.entries ≡ tree.old.entries }
+        ensures tree { OnOk result (tree.new.tree ≡ put (change_of self.now).key (change_of self.now).left tree.old.tree) }
+        ensures entries { OnOk result (tree.new.entries ≡ tree.old.entries) }
+        ensures err { OnErr result (tree.new ≡ tree.old) }
+        ensures without_cpus { LeavesNoCpus (change_of self.now) → IsOk result }
     {
         match self {
-            Change::Group { path, left, .. } => tree.put_group(path, unboxed(left)),
+            Change::Group { path, left, .. } => tree.put_group(path, copied(left, alloc)?),
             Change::Place { pid, left, .. } => tree.put_place(*pid, left),
-            Change::Control { path, left, .. } => tree.put_value(path, &NewValue::Control(*left)),
-            Change::Freeze { path, left, .. } => tree.put_value(path, &NewValue::Freeze(*left)),
-            Change::Cpus { path, left, .. } => tree.put_value(path, &NewValue::Cpus(left.get())),
+            Change::Control { path, left, .. } => tree.put_value(path, NewValue::Control(*left)),
+            Change::Freeze { path, left, .. } => tree.put_value(path, NewValue::Freeze(*left)),
+            Change::Cpus { path, left, .. } => {
+                tree.put_value(path, NewValue::Cpus(left.copy(alloc)?));
+            }
             Change::MaxDescendants { path, left, .. } => {
-                tree.put_value(path, &NewValue::MaxDescendants(*left));
+                tree.put_value(path, NewValue::MaxDescendants(*left));
             }
             Change::MaxDepth { path, left, .. } => {
-                tree.put_value(path, &NewValue::MaxDepth(*left));
+                tree.put_value(path, NewValue::MaxDepth(*left));
             }
             Change::Online { left, .. } => tree.put_online(left.get()),
         }
+        Ok(())
     }
 
     /// Whether the key holds the value that the command left. Takes no memory.
@@ -194,26 +218,26 @@ impl Change {
         ensures { IsTrue result ↔ FitsIn tree.now.tree (change_of self.now) }
     {
         match self {
-            Change::Group { path, left, .. } => tree.settings(path) == unboxed(left),
+            Change::Group { path, left, .. } => is_left(tree.settings(path), left),
             Change::Place { pid, left, .. } => tree.is_at(*pid, left),
             Change::Control { path, left, .. } => match tree.settings(path) {
-                Some(settings) => settings.control == *left,
+                Some(settings) => settings.control() == *left,
                 None => false,
             },
             Change::Freeze { path, left, .. } => match tree.settings(path) {
-                Some(settings) => settings.freeze == *left,
+                Some(settings) => settings.freeze() == *left,
                 None => false,
             },
             Change::Cpus { path, left, .. } => match tree.settings(path) {
-                Some(settings) => settings.cpus == left.get(),
+                Some(settings) => *settings.cpus() == *left,
                 None => false,
             },
             Change::MaxDescendants { path, left, .. } => match tree.settings(path) {
-                Some(settings) => settings.max_descendants == *left,
+                Some(settings) => settings.max_descendants() == *left,
                 None => false,
             },
             Change::MaxDepth { path, left, .. } => match tree.settings(path) {
-                Some(settings) => settings.max_depth == *left,
+                Some(settings) => settings.max_depth() == *left,
                 None => false,
             },
             Change::Online { left, .. } => tree.online() == left.get(),
@@ -239,12 +263,39 @@ impl Change {
     }
 }
 
-// The settings of a group, where there are any.
-fn unboxed(settings: &Option<BoxedSettings>) -> Option<Settings>
-    ensures { result ≡ settings.now }
+// The settings of a group, where there are any, out of their box.
+fn unboxed(settings: Option<BoxedSettings>) -> Option<CompactSettings>
+    ensures { result ≡ settings }
 {
     match settings {
-        Some(settings) => Some(settings.get()),
+        Some(settings) => Some(settings.into_settings()),
         None => None,
+    }
+}
+
+// The same of settings that stay in their box.
+fn copied(
+    settings: &Option<BoxedSettings>,
+    alloc: Global,
+) -> Result<Option<CompactSettings>, AllocError>
+    ensures value { IfOk result (λ s. s ≡ settings.now) }
+    ensures without_cpus { AsksForNone settings.now → IsOk result }
+{
+    match settings {
+        Some(settings) => Ok(Some(settings.copy(alloc)?)),
+        None => Ok(None),
+    }
+}
+
+// Whether these are the settings that were left, where there are any.
+fn is_left(settings: Option<&CompactSettings>, left: &Option<BoxedSettings>) -> bool
+    ensures { IsTrue result ↔ (option_copied settings.entry ≡ left.now) }
+{
+    match settings {
+        Some(settings) => match left {
+            Some(left) => left.is(settings),
+            None => false,
+        },
+        None => left.is_none(),
     }
 }

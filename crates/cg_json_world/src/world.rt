@@ -5,9 +5,9 @@ ghost use Rattle.cg_json_world.specs.WorldValue.{content_fields, group_value, gr
 ghost use Rattle.cg_maps.specs.FiniteMap.{entries};
 
 use crate::values::{write_controllers, write_cpus, write_limit, write_path};
+use cg_boxed::CompactSettings;
 use cg_json::{write_comma, write_flag, write_name, write_number};
 use cg_name::PathRef;
-use cg_text::Settings;
 use cg_tree::Tree;
 use std::alloc::AllocError;
 
@@ -67,7 +67,7 @@ fn append_groups(tree: &Tree, out: &mut Vec<u8>) -> Result<(), AllocError>
     out.push(b'[')?;
     let mut is_behind = false;
     for (path, settings) in tree.present_groups(*out.allocator())? {
-        append_group(is_behind, &path, &settings, out)?;
+        append_group(is_behind, &path, settings, out)?;
         is_behind = true;
     }
     out.push(b']')?;
@@ -78,7 +78,7 @@ fn append_groups(tree: &Tree, out: &mut Vec<u8>) -> Result<(), AllocError>
 fn append_group(
     is_behind: bool,
     path: &PathRef<'_>,
-    settings: &Settings,
+    settings: &CompactSettings,
     out: &mut Vec<u8>,
 ) -> Result<(), AllocError>
     ensures { OnOk result (out.new.items ≡ out.old.items ++ (comma_behind is_behind ++ json_text (group_value (path.now, settings.now)))) }
@@ -91,26 +91,26 @@ fn append_group(
 }
 
 // Appends the last fields of a group, its settings, and the closing brace.
-fn append_settings(settings: &Settings, out: &mut Vec<u8>) -> Result<(), AllocError>
+fn append_settings(settings: &CompactSettings, out: &mut Vec<u8>) -> Result<(), AllocError>
     ensures { OnOk result (out.new.items ≡ out.old.items ++ fields_text true (fields_of (settings_fields settings.now))) }
 {
     write_name(true, "control", out)?;
-    write_controllers(&settings.control, out)?;
+    write_controllers(&settings.control(), out)?;
     write_name(true, "freeze", out)?;
-    write_flag(settings.freeze, out)?;
+    write_flag(settings.freeze(), out)?;
     write_name(true, "cpus", out)?;
-    write_cpus(&settings.cpus, out)?;
+    write_cpus(&settings.cpus().get(), out)?;
     append_limits(settings, out)
 }
 
 // Appends the last fields of a group, its limits, and the closing brace.
-fn append_limits(settings: &Settings, out: &mut Vec<u8>) -> Result<(), AllocError>
+fn append_limits(settings: &CompactSettings, out: &mut Vec<u8>) -> Result<(), AllocError>
     ensures { OnOk result (out.new.items ≡ out.old.items ++ fields_text true (fields_of (limit_fields settings.now))) }
 {
     write_name(true, "max_descendants", out)?;
-    write_limit(settings.max_descendants, out)?;
+    write_limit(settings.max_descendants(), out)?;
     write_name(true, "max_depth", out)?;
-    write_limit(settings.max_depth, out)?;
+    write_limit(settings.max_depth(), out)?;
     out.push(b'}')?;
     Ok(())
 }

@@ -155,7 +155,7 @@ fn push_limited(depths: &mut Vec<u32>, above: Ancestors<'_>) -> Result<(), Alloc
 {
     for group in above {
         if is_limited(&group) {
-            depths.push(group.depth)?;
+            depths.push(group.depth())?;
         }
     }
     Ok(())
@@ -181,8 +181,8 @@ fn of_migration(alloc: Global, pid: u32, path: &Path, tree: &Tree) -> Result<Foo
 fn is_limited(group: &Ancestor) -> bool
     ensures { result ≡ is_limited group.now.settings }
 {
-    match &group.settings {
-        Some(settings) => match settings.max_descendants {
+    match group.settings() {
+        Some(settings) => match settings.max_descendants() {
             Limit::Max => false,
             Limit::UpTo(_) => true,
         },

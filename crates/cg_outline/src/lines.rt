@@ -11,10 +11,11 @@ use crate::facts::{
     append_names, append_processes,
 };
 use crate::objects::append_line;
+use cg_boxed::CompactSettings;
 use cg_derive::{effective, frozen, populated};
 use cg_json::Form;
 use cg_name::{Path, PathRef};
-use cg_text::{Controllers, Settings};
+use cg_text::Controllers;
 use cg_tree::Tree;
 use std::alloc::{AllocError, Global};
 
@@ -25,7 +26,7 @@ pub fn outline(alloc: Global, tree: &Tree, depth: u32, form: Form) -> Result<Vec
 {
     let mut out = Vec::new(alloc);
     for (path, settings) in tree.present_groups(alloc)? {
-        append_shown(tree, &path, &settings, depth, form, &mut out)?;
+        append_shown(tree, &path, settings, depth, form, &mut out)?;
     }
     Ok(out)
 }
@@ -34,7 +35,7 @@ pub fn outline(alloc: Global, tree: &Tree, depth: u32, form: Form) -> Result<Vec
 fn append_shown(
     tree: &Tree,
     path: &PathRef<'_>,
-    settings: &Settings,
+    settings: &CompactSettings,
     depth: u32,
     form: Form,
     out: &mut Vec<u8>,
@@ -54,7 +55,7 @@ fn append_shown(
 fn append_group(
     tree: &Tree,
     path: &PathRef<'_>,
-    settings: &Settings,
+    settings: &CompactSettings,
     depth: u32,
     out: &mut Vec<u8>,
 ) -> Result<(), AllocError>
@@ -72,7 +73,7 @@ fn append_group(
 fn append_facts(
     tree: &Tree,
     path: &Path,
-    settings: &Settings,
+    settings: &CompactSettings,
     depth: u32,
     out: &mut Vec<u8>,
 ) -> Result<(), AllocError>
@@ -117,20 +118,20 @@ fn controllers_at(tree: &Tree, path: &Path) -> Controllers
 fn append_asked(
     tree: &Tree,
     path: &Path,
-    settings: &Settings,
+    settings: &CompactSettings,
     out: &mut Vec<u8>,
 ) -> Result<(), AllocError>
     ensures { OnOk result (out.new.items ≡ out.old.items ++ asked_text tree.now.tree path.now settings.now) }
 {
-    append_names(b"control", &settings.control, out)?;
-    append_cpus(&settings.cpus, out)?;
+    append_names(b"control", &settings.control(), out)?;
+    append_cpus(&settings.cpus().get(), out)?;
     append_effective(effective(tree, path), out)?;
     append_descendants(
         tree.descendants(path, path.depth()),
-        settings.max_descendants,
+        settings.max_descendants(),
         out,
     )?;
-    append_depth(settings.max_depth, out)
+    append_depth(settings.max_depth(), out)
 }
 
 // Appends whether the group is frozen, and its processes.

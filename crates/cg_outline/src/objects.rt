@@ -1,9 +1,11 @@
 //! What JSON tells of a group.
-ghost use Rattle.std.specs.Prelude.{◌≡◌, ◌++◌, OnOk, true};
-ghost use Rattle.cg_json.specs.Text.{fields_of, fields_text, json_text};
+ghost use Rattle.std.specs.Prelude.{◌≡◌, ◌++◌, OnOk, codes, true};
+ghost use Rattle.cg_json.specs.Text.{fields_of, fields_text, json_text, name_text, number};
 ghost use Rattle.cg_json_world.specs.Values.{controllers_value};
+ghost use Rattle.cg_model.specs.Derived.{descendants};
 ghost use Rattle.cg_outline.specs.GroupValue.{control_fields, controller_fields, controllers_of, cpus_fields, effective_value, group_line, group_value, left_out, limit_fields, pids_value, process_fields, state_fields};
 
+use cg_boxed::CompactSettings;
 use cg_cpus::CpuSet;
 use cg_derive::{available, effective, frozen, populated};
 use cg_json::{
@@ -11,7 +13,7 @@ use cg_json::{
 };
 use cg_json_world::{write_controllers, write_cpus, write_limit, write_path};
 use cg_name::{Path, PathRef};
-use cg_text::{Controllers, Settings};
+use cg_text::Controllers;
 use cg_tree::Tree;
 use std::alloc::AllocError;
 
@@ -22,7 +24,7 @@ use std::alloc::AllocError;
 pub(crate) fn append_line(
     tree: &Tree,
     path: &PathRef<'_>,
-    settings: &Settings,
+    settings: &CompactSettings,
     depth: u32,
     out: &mut Vec<u8>,
 ) -> Result<(), AllocError>
@@ -37,7 +39,7 @@ pub(crate) fn append_line(
 fn append_value(
     tree: &Tree,
     path: &PathRef<'_>,
-    settings: &Settings,
+    settings: &CompactSettings,
     depth: u32,
     out: &mut Vec<u8>,
 ) -> Result<(), AllocError>
@@ -56,7 +58,7 @@ fn append_value(
 fn append_controllers(
     tree: &Tree,
     path: &Path,
-    settings: &Settings,
+    settings: &CompactSettings,
     depth: u32,
     out: &mut Vec<u8>,
 ) -> Result<(), AllocError>
@@ -71,14 +73,14 @@ fn append_controllers(
 fn append_control(
     tree: &Tree,
     path: &Path,
-    settings: &Settings,
+    settings: &CompactSettings,
     depth: u32,
     out: &mut Vec<u8>,
 ) -> Result<(), AllocError>
     ensures { OnOk result (out.new.items ≡ out.old.items ++ fields_text true (fields_of (control_fields depth tree.now.tree (path.now, settings.now)))) }
 {
     write_name(true, "control", out)?;
-    write_controllers(&settings.control, out)?;
+    write_controllers(&settings.control(), out)?;
     append_cpus(tree, path, settings, depth, out)
 }
 
@@ -86,14 +88,14 @@ fn append_control(
 fn append_cpus(
     tree: &Tree,
     path: &Path,
-    settings: &Settings,
+    settings: &CompactSettings,
     depth: u32,
     out: &mut Vec<u8>,
 ) -> Result<(), AllocError>
     ensures { OnOk result (out.new.items ≡ out.old.items ++ fields_text true (fields_of (cpus_fields depth tree.now.tree (path.now, settings.now)))) }
 {
     write_name(true, "cpus", out)?;
-    write_cpus(&settings.cpus, out)?;
+    write_cpus(&settings.cpus().get(), out)?;
     write_name(true, "effective", out)?;
     append_effective(effective(tree, path), out)?;
     append_limits(tree, path, settings, depth, out)
@@ -103,18 +105,17 @@ fn append_cpus(
 fn append_limits(
     tree: &Tree,
     path: &Path,
-    settings: &Settings,
+    settings: &CompactSettings,
     depth: u32,
     out: &mut Vec<u8>,
 ) -> Result<(), AllocError>
     ensures { OnOk result (out.new.items ≡ out.old.items ++ fields_text true (fields_of (limit_fields depth tree.now.tree (path.now, settings.now)))) }
 {
-    write_name(true, "descendants", out)?;
-    write_number(tree.descendants(path, path.depth()), out)?;
+    append_descendants(tree, path, out)?;
     write_name(true, "max_descendants", out)?;
-    write_limit(settings.max_descendants, out)?;
+    write_limit(settings.max_descendants(), out)?;
     write_name(true, "max_depth", out)?;
-    write_limit(settings.max_depth, out)?;
+    write_limit(settings.max_depth(), out)?;
     append_state(tree, path, settings, depth, out)
 }
 
@@ -122,14 +123,14 @@ fn append_limits(
 fn append_state(
     tree: &Tree,
     path: &Path,
-    settings: &Settings,
+    settings: &CompactSettings,
     depth: u32,
     out: &mut Vec<u8>,
 ) -> Result<(), AllocError>
     ensures { OnOk result (out.new.items ≡ out.old.items ++ fields_text true (fields_of (state_fields depth tree.now.tree (path.now, settings.now)))) }
 {
     write_name(true, "freeze", out)?;
-    write_flag(settings.freeze, out)?;
+    write_flag(settings.freeze(), out)?;
     write_name(true, "frozen", out)?;
     write_flag_or_null(frozen(tree, path), out)?;
     write_name(true, "populated", out)?;
@@ -156,6 +157,14 @@ fn append_processes(
 }
 
 // What follows appends values.
+
+// The number of the groups below the group, with the name of its field.
+fn append_descendants(tree: &Tree, path: &Path, out: &mut Vec<u8>) -> Result<(), AllocError>
+    ensures { OnOk result (out.new.items ≡ out.old.items ++ (name_text true (codes "descendants") ++ json_text (number (descendants tree.now.tree path.now)))) }
+{
+    write_name(true, "descendants", out)?;
+    write_number(tree.descendants(path, path.depth()), out)
+}
 
 // The controllers that the group has.
 fn append_available(tree: &Tree, path: &Path, out: &mut Vec<u8>) -> Result<(), AllocError>

@@ -1,25 +1,54 @@
 //! The way from a path up to the root, one group after another.
-ghost use Rattle.std.specs.Prelude.{◌≡◌, ◌∷◌, [], MatchOption, length, suc};
+ghost use Rattle.std.specs.Prelude.{◌≡◌, ◌∷◌, [], MatchOption, length, option_copied, suc};
 ghost use Rattle.std.specs.Iterator.{item_count, YieldsFirstBy};
 ghost use Rattle.cg_tree.specs.Ancestors.{ancestors, ancestors_above};
 ghost use Rattle.cg_tree.specs.Upward.{going_up, IsBelow, IsDeepest};
 
 use crate::entry::Entry;
 use crate::tree::Tree;
+use cg_boxed::CompactSettings;
 use cg_name::Path;
 use cg_path_tree::{NodeKey, PathTree};
-use cg_text::Settings;
 use std::marker::Model;
 
 /// What a tree has at the first names of a path.
-#[derive(Clone, Copy)]
-pub struct Ancestor {
+#[derive(Drop)]
+pub struct Ancestor<'a> {
+    depth: u32,
+    settings: Option<&'a CompactSettings>,
+    descendants: u64,
+}
+
+impl<'a> Model for Ancestor<'a> {
+    ghost use Rattle.std.specs.Prelude.{option_copied};
+    ghost use Rattle.cg_tree.specs.Ancestors.{AncestorValue};
+
+    ghost Value = { AncestorValue };
+
+    ghost view = { λ a. record { depth = a.depth; settings = option_copied a.settings; descendants = a.descendants } };
+}
+
+impl<'a> Ancestor<'a> {
     /// How many names these are, from 0 to 64.
-    pub depth: u32,
+    pub fn depth(&self) -> u32
+        ensures { result ≡ self.now.depth }
+    {
+        self.depth
+    }
+
     /// The settings of the group there, if there is one.
-    pub settings: Option<Settings>,
+    pub fn settings(&self) -> Option<&'a CompactSettings>
+        ensures { option_copied result ≡ self.now.settings }
+    {
+        self.settings
+    }
+
     /// How many groups are below.
-    pub descendants: u64,
+    pub fn descendants(&self) -> u64
+        ensures { result ≡ self.now.descendants }
+    {
+        self.descendants
+    }
 }
 
 /// What a tree has at a path, or at its parent's, and from there up to the root. To go on takes a step to a parent, and no
@@ -35,10 +64,10 @@ pub struct Ancestors<'a> {
 
 impl<'a> Model for Ancestors<'a> {
     ghost use Rattle.std.specs.Prelude.{List};
-    ghost use Rattle.cg_tree.specs.declared.ancestors.Ancestor.{Ancestor};
+    ghost use Rattle.cg_tree.specs.Ancestors.{AncestorValue};
     ghost use Rattle.cg_tree.specs.Upward.{going_up, IsBelow};
 
-    ghost Value = { List Ancestor };
+    ghost Value = { List AncestorValue };
 
     ghost view = { λ a. going_up a.nodes.now a.at a.left };
 
@@ -74,19 +103,23 @@ impl Tree {
 }
 
 impl<'a> Iterator for Ancestors<'a> {
-    type Item = Ancestor;
+    type Item = Ancestor<'a>;
 
     ghost next_gives = { YieldsFirstBy (λ a. a) (λ rest. rest) };
 
     ghost remaining = { item_count (λ rest. rest) };
 
-    fn next(&mut self) -> Option<Ancestor> {
+    fn next(&mut self) -> Option<Ancestor<'a>> {
         next_up(self.nodes, &mut self.at, &mut self.left)
     }
 }
 
 // What is told of the next path up.
-fn next_up(nodes: &PathTree<Entry>, at: &mut Option<NodeKey>, left: &mut u32) -> Option<Ancestor>
+fn next_up<'a>(
+    nodes: &'a PathTree<Entry>,
+    at: &mut Option<NodeKey>,
+    left: &mut u32,
+) -> Option<Ancestor<'a>>
     requires { IsBelow nodes.now at.old left.old }
     ensures below { IsBelow nodes.now at.new left.new }
     ensures value { MatchOption result ((going_up nodes.now at.old left.old ≡ []) × (going_up nodes.now at.new left.new ≡ [])) (λ a. going_up nodes.now at.old left.old ≡ a ∷ going_up nodes.now at.new left.new) }
@@ -100,7 +133,7 @@ fn next_up(nodes: &PathTree<Entry>, at: &mut Option<NodeKey>, left: &mut u32) ->
             let entry = nodes.get(key);
             return Some(Ancestor {
                 depth,
-                settings: entry.settings,
+                settings: entry.settings.as_ref(),
                 descendants: entry.below as u64,
             });
         }

@@ -12,23 +12,24 @@ ghost use Rattle.cg_tree.specs.Passing.{stepped, CanPass};
 use crate::entry::{Count, Entry, counted};
 use crate::new_value::NewValue;
 use crate::passing::{Passing, control_of};
+use cg_boxed::CompactSettings;
 use cg_name::Path;
 use cg_path_tree::{NodeKey, PathTree};
-use cg_text::{Controllers, Settings};
+use cg_text::Controllers;
 use std::alloc::{AllocError, Global};
 
 // Writes the settings of a node.
-fn write_settings(nodes: &mut PathTree<Entry>, key: NodeKey, settings: &Option<Settings>)
+fn write_settings(nodes: &mut PathTree<Entry>, key: NodeKey, settings: Option<CompactSettings>)
     requires { IsKey nodes.old.keys key }
-    ensures { (e : Entry) → entry_at nodes.old key ≡ Some e → nodes.new ≡ with_value nodes.old (path_at nodes.old key) (record e { settings = settings.now }) }
+    ensures { (e : Entry) → entry_at nodes.old key ≡ Some e → nodes.new ≡ with_value nodes.old (path_at nodes.old key) (record e { settings = settings }) }
 {
-    nodes.get_mut(key).settings = *settings;
+    nodes.get_mut(key).settings = settings;
 }
 
 // Writes the value of one setting of a node, where there are settings.
-fn write_value(nodes: &mut PathTree<Entry>, key: NodeKey, value: &NewValue)
+fn write_value(nodes: &mut PathTree<Entry>, key: NodeKey, value: NewValue)
     requires { IsKey nodes.old.keys key }
-    ensures { (e : Entry) → entry_at nodes.old key ≡ Some e → nodes.new ≡ with_value nodes.old (path_at nodes.old key) (record e { settings = with_new value.now e.settings }) }
+    ensures { (e : Entry) → entry_at nodes.old key ≡ Some e → nodes.new ≡ with_value nodes.old (path_at nodes.old key) (record e { settings = with_new value e.settings }) }
 {
     if let Some(settings) = &mut nodes.get_mut(key).settings {
         value.assign(settings);
@@ -120,11 +121,11 @@ fn pass_at_parent(
 }
 
 // Puts the settings at the node: where a group comes or goes, it is counted above.
-fn put_group(nodes: &mut PathTree<Entry>, key: NodeKey, settings: &Option<Settings>)
+fn put_group(nodes: &mut PathTree<Entry>, key: NodeKey, settings: Option<CompactSettings>)
     requires key { IsKey nodes.old.keys key }
     requires counted { AreCountedBelow nodes.old.values }
     ensures keys { nodes.new.keys ≡ nodes.old.keys }
-    ensures groups { groups_in nodes.new.values ≡ set_at (groups_in nodes.old.values) (path_at nodes.old key) (Some settings.now) }
+    ensures groups { groups_in nodes.new.values ≡ set_at (groups_in nodes.old.values) (path_at nodes.old key) (Some settings) }
     ensures counted { AreCountedBelow nodes.new.values }
     ensures passing { passing_in nodes.new.values ≡ passing_in nodes.old.values }
     ensures held { held_in nodes.new.values ≡ held_in nodes.old.values }
@@ -143,17 +144,17 @@ fn put_group(nodes: &mut PathTree<Entry>, key: NodeKey, settings: &Option<Settin
 
 // Puts the settings at the node: where a group comes or goes, it is counted above, and where what it passes on changes, at its
 // parent.
-pub(crate) fn put(nodes: &mut PathTree<Entry>, key: NodeKey, settings: &Option<Settings>)
+pub(crate) fn put(nodes: &mut PathTree<Entry>, key: NodeKey, settings: Option<CompactSettings>)
     requires key { IsKey nodes.old.keys key }
     requires counted { AreCounted nodes.old.values }
     ensures keys { nodes.new.keys ≡ nodes.old.keys }
-    ensures groups { groups_in nodes.new.values ≡ set_at (groups_in nodes.old.values) (path_at nodes.old key) (Some settings.now) }
+    ensures groups { groups_in nodes.new.values ≡ set_at (groups_in nodes.old.values) (path_at nodes.old key) (Some settings) }
     ensures counted { AreCounted nodes.new.values }
     ensures held { held_in nodes.new.values ≡ held_in nodes.old.values }
 {
     nodes.laws();
     let before = control_of(&nodes.get(key).settings);
-    let after = control_of(settings);
+    let after = control_of(&settings);
     put_group(nodes, key, settings);
     nodes.laws();
     // As in `put_group`.
@@ -165,12 +166,12 @@ pub(crate) fn put(nodes: &mut PathTree<Entry>, key: NodeKey, settings: &Option<S
 
 // Puts the value of one setting of the node, where that is a group's, and says whether it is: where what the group passes on
 // changes, it is counted at its parent.
-pub(crate) fn put_value(nodes: &mut PathTree<Entry>, key: NodeKey, value: &NewValue) -> bool
+pub(crate) fn put_value(nodes: &mut PathTree<Entry>, key: NodeKey, value: NewValue) -> bool
     requires key { IsKey nodes.old.keys key }
     requires counted { AreCounted nodes.old.values }
     ensures found { result ≡ is_some (option_flatten (get (groups_in nodes.old.values) (path_at nodes.old key))) }
     ensures keys { nodes.new.keys ≡ nodes.old.keys }
-    ensures groups { groups_in nodes.new.values ≡ set_at (groups_in nodes.old.values) (path_at nodes.old key) (option_map (with_new value.now) (get (groups_in nodes.old.values) (path_at nodes.old key))) }
+    ensures groups { groups_in nodes.new.values ≡ set_at (groups_in nodes.old.values) (path_at nodes.old key) (option_map (with_new value) (get (groups_in nodes.old.values) (path_at nodes.old key))) }
     ensures counted { AreCounted nodes.new.values }
     ensures held { held_in nodes.new.values ≡ held_in nodes.old.values }
 {
@@ -178,15 +179,14 @@ pub(crate) fn put_value(nodes: &mut PathTree<Entry>, key: NodeKey, value: &NewVa
     let Some(settings) = &nodes.get(key).settings else {
         return false;
     };
-    let before = settings.control;
+    let before = settings.control();
+    let after = value.control(settings);
     write_value(nodes, key, value);
-    if let NewValue::Control(after) = value {
-        nodes.laws();
-        // As in `put_group`.
-        let _ = nodes.len();
-        if before != *after {
-            pass_at_parent(nodes, key, &before, after);
-        }
+    nodes.laws();
+    // As in `put_group`.
+    let _ = nodes.len();
+    if before != after {
+        pass_at_parent(nodes, key, &before, &after);
     }
     true
 }

@@ -3,13 +3,13 @@ ghost use Rattle.std.specs.Prelude.{◌≡◌};
 ghost use Rattle.cg_tree.specs.Entries.{counted, CanCount};
 
 use crate::passing::Passing;
-use cg_text::Settings;
+use cg_boxed::CompactSettings;
 
 // The settings of a group, how many groups are below and what those right below pass on, and how many processes are in it and
 // below.
 pub(crate) struct Entry {
     // The settings of the group, and `None` where the path is dead.
-    pub(crate) settings: Option<Settings>,
+    pub(crate) settings: Option<CompactSettings>,
     // How many groups are below the path.
     pub(crate) below: usize,
     // How many of them are right below it.

@@ -20,10 +20,11 @@ use crate::entry::Entry;
 use crate::listed::{Listed, asking_for_cpus};
 use crate::looking::{entry, parent_entry, prefix_entry};
 use crate::new_value::NewValue;
+use cg_boxed::CompactSettings;
 use cg_name::{Path, PathRef};
 use cg_path_tree::{NodeKey, PathTree};
 use cg_places::Places;
-use cg_text::{Controllers, Settings};
+use cg_text::Controllers;
 use std::alloc::{AllocError, Global};
 use std::marker::Model;
 
@@ -69,14 +70,14 @@ impl Groups {
     }
 
     // What the map has at the path.
-    pub(crate) fn get(&self, path: &Path) -> Option<&Option<Settings>>
+    pub(crate) fn get(&self, path: &Path) -> Option<&Option<CompactSettings>>
         ensures { option_copied result ≡ get self.now.groups path.now }
     {
         Some(&entry(&self.nodes, path)?.settings)
     }
 
     // What the map has at the path one name shorter; none for the root's.
-    pub(crate) fn get_parent(&self, path: &Path) -> Option<&Option<Settings>>
+    pub(crate) fn get_parent(&self, path: &Path) -> Option<&Option<CompactSettings>>
         ensures root { is_root path.now ≡ true → option_copied result ≡ None }
         ensures value { is_root path.now ≡ false → option_copied result ≡ get self.now.groups (parent_path path.now) }
     {
@@ -107,11 +108,11 @@ impl Groups {
         &mut self,
         alloc: Global,
         path: &Path,
-        settings: &Option<Settings>,
+        settings: Option<CompactSettings>,
     ) -> Result<(), AllocError>
         requires absent { get self.old.groups path.now ≡ None }
         requires parent { is_root path.now ≡ false → IsSome (get self.old.groups (parent_path path.now)) }
-        ensures ok { OnOk result (self.new.groups ≡ set_at self.old.groups path.now (Some settings.now)) }
+        ensures ok { OnOk result (self.new.groups ≡ set_at self.old.groups path.now (Some settings)) }
         ensures places { self.new.places ≡ self.old.places }
         ensures err { OnErr result (self.new ≡ self.old) }
     {
@@ -122,13 +123,17 @@ impl Groups {
             self.nodes.remove(key);
             return Err(AllocError);
         };
+        // A dead entry is counted nowhere.
+        if settings.is_none() {
+            return Ok(());
+        }
         put(&mut self.nodes, key, settings);
         Ok(())
     }
 
     // Puts the settings into the entry at the path, if there is one.
-    pub(crate) fn replace(&mut self, path: &Path, settings: &Option<Settings>)
-        ensures there { IsSome (get self.old.groups path.now) → self.new.groups ≡ set_at self.old.groups path.now (Some settings.now) }
+    pub(crate) fn replace(&mut self, path: &Path, settings: Option<CompactSettings>)
+        ensures there { IsSome (get self.old.groups path.now) → self.new.groups ≡ set_at self.old.groups path.now (Some settings) }
         ensures absent { get self.old.groups path.now ≡ None → self.new.groups ≡ self.old.groups }
         ensures places { self.new.places ≡ self.old.places }
     {
@@ -139,9 +144,9 @@ impl Groups {
     }
 
     // Puts the value of one setting of the group at the path, if there is a group, and says whether there is.
-    pub(crate) fn change(&mut self, path: &Path, value: &NewValue) -> bool
+    pub(crate) fn change(&mut self, path: &Path, value: NewValue) -> bool
         ensures found { result ≡ is_some (option_flatten (get self.old.groups path.now)) }
-        ensures groups { self.new.groups ≡ set_at self.old.groups path.now (option_map (with_new value.now) (get self.old.groups path.now)) }
+        ensures groups { self.new.groups ≡ set_at self.old.groups path.now (option_map (with_new value) (get self.old.groups path.now)) }
         ensures places { self.new.places ≡ self.old.places }
     {
         self.nodes.laws();

@@ -4,9 +4,9 @@ ghost use Rattle.std.specs.Iterator.{item_count, YieldsFirstBy};
 ghost use Rattle.cg_tree.specs.Listing.{asks, asks_at, listed, AreKeys};
 
 use crate::entry::Entry;
+use cg_boxed::CompactSettings;
 use cg_name::PathRef;
 use cg_path_tree::{NodeKey, PathTree};
-use cg_text::Settings;
 use std::alloc::{AllocError, Global};
 use std::marker::Model;
 
@@ -48,13 +48,13 @@ impl<'a> Listed<'a> {
 }
 
 impl<'a> Iterator for Listed<'a> {
-    type Item = (PathRef<'a>, Settings);
+    type Item = (PathRef<'a>, &'a CompactSettings);
 
-    ghost next_gives = { YieldsFirstBy (λ g. g) (λ gs. gs) };
+    ghost next_gives = { YieldsFirstBy (λ g. (g.0, g.1.now)) (λ gs. gs) };
 
     ghost remaining = { item_count (λ gs. gs) };
 
-    fn next(&mut self) -> Option<(PathRef<'a>, Settings)> {
+    fn next(&mut self) -> Option<(PathRef<'a>, &'a CompactSettings)> {
         next_group(self.nodes, &self.keys, &mut self.passed)
     }
 }
@@ -64,14 +64,14 @@ fn next_group<'a>(
     nodes: &'a PathTree<Entry>,
     keys: &[NodeKey],
     passed: &mut usize,
-) -> Option<(PathRef<'a>, Settings)>
+) -> Option<(PathRef<'a>, &'a CompactSettings)>
     requires { AreKeys nodes.now keys.now }
-    ensures { MatchOption result ((listed nodes.now (drop passed.old keys.now) ≡ []) × (listed nodes.now (drop passed.new keys.now) ≡ [])) (λ g. listed nodes.now (drop passed.old keys.now) ≡ g ∷ listed nodes.now (drop passed.new keys.now)) }
+    ensures { MatchOption result ((listed nodes.now (drop passed.old keys.now) ≡ []) × (listed nodes.now (drop passed.new keys.now) ≡ [])) (λ g. listed nodes.now (drop passed.old keys.now) ≡ (g.0, g.1.now) ∷ listed nodes.now (drop passed.new keys.now)) }
 {
     nodes.laws();
     while let Some(key) = key_at(keys, *passed) {
         *passed += 1;
-        if let Some(settings) = nodes.get(key).settings {
+        if let Some(settings) = &nodes.get(key).settings {
             return Some((nodes.path(key), settings));
         }
     }
@@ -105,11 +105,11 @@ pub(crate) fn asking_for_cpus(
 }
 
 // Whether they are those of a group that asks for CPUs.
-fn asks_for_cpus(settings: &Option<Settings>) -> bool
+fn asks_for_cpus(settings: &Option<CompactSettings>) -> bool
     ensures { result ≡ asks settings.now }
 {
     match settings {
-        Some(settings) => !settings.cpus.is_empty(),
+        Some(settings) => !settings.cpus().is_empty(),
         None => false,
     }
 }

@@ -1,10 +1,11 @@
 //! One setting of a group, and the value that it is to have.
-ghost use Rattle.std.specs.Prelude.{◌≡◌};
+ghost use Rattle.std.specs.Prelude.{◌≡◌, Some};
 ghost use Rattle.cg_model.specs.Key.{with_setting};
-ghost use Rattle.cg_tree.specs.NewValue.{field_of, is_limit, is_limited, value_of, HasCpusUpTo};
+ghost use Rattle.cg_tree.specs.NewValue.{field_of, is_limit, is_limited, value_of, with_new, HasCpusUpTo};
+ghost use Rattle.cg_tree.specs.Passing.{control_of};
 
-use cg_cpus::CpuSet;
-use cg_text::{Controllers, Limit, Settings};
+use cg_boxed::{BoxedCpus, CompactSettings};
+use cg_text::{Controllers, Limit};
 
 /// Which setting of a group, and the value that it is to have.
 #[derive(Drop)]
@@ -14,7 +15,7 @@ pub enum NewValue {
     /// `cgroup.freeze`: the group's own value.
     Freeze(bool),
     /// `cpuset.cpus`: the CPUs that are asked for.
-    Cpus(CpuSet),
+    Cpus(BoxedCpus),
     /// `cgroup.max.descendants`.
     MaxDescendants(Limit),
     /// `cgroup.max.depth`.
@@ -23,15 +24,25 @@ pub enum NewValue {
 
 impl NewValue {
     // Puts it in the place of the setting's value.
-    pub(crate) fn assign(&self, settings: &mut Settings)
-        ensures { settings.new ≡ with_setting (field_of self.now) (value_of self.now) settings.old }
+    pub(crate) fn assign(self, settings: &mut CompactSettings)
+        ensures { settings.new ≡ with_setting (field_of self) (value_of self) settings.old }
     {
         match self {
-            NewValue::Control(value) => settings.control = *value,
-            NewValue::Freeze(value) => settings.freeze = *value,
-            NewValue::Cpus(value) => settings.cpus = *value,
-            NewValue::MaxDescendants(value) => settings.max_descendants = *value,
-            NewValue::MaxDepth(value) => settings.max_depth = *value,
+            NewValue::Control(value) => settings.set_control(value),
+            NewValue::Freeze(value) => settings.set_freeze(value),
+            NewValue::Cpus(value) => settings.set_cpus(value),
+            NewValue::MaxDescendants(value) => settings.set_max_descendants(value),
+            NewValue::MaxDepth(value) => settings.set_max_depth(value),
+        }
+    }
+
+    // The controllers that a group of the settings passes on with this value.
+    pub(crate) fn control(&self, settings: &CompactSettings) -> Controllers
+        ensures { result ≡ control_of (with_new self.now (Some settings.now)) }
+    {
+        match self {
+            NewValue::Control(value) => *value,
+            _ => settings.control(),
         }
     }
 

@@ -4,7 +4,8 @@ ghost use Rattle.cg_text.specs.Controllers.{such_that};
 ghost use Rattle.cg_tree.specs.Passing.{control_of, step, stepped, tally, times, CanPass, CanStep};
 
 use crate::entry::counted;
-use cg_text::{Controllers, Settings};
+use cg_boxed::CompactSettings;
+use cg_text::Controllers;
 
 // For each controller, how many of these groups pass it on.
 #[derive(Clone, Copy)]
@@ -82,11 +83,11 @@ fn stepped(count: usize, before: bool, after: bool) -> usize
 }
 
 // The controllers that a group of these settings passes on; none where there is no group.
-pub(crate) fn control_of(settings: &Option<Settings>) -> Controllers
+pub(crate) fn control_of(settings: &Option<CompactSettings>) -> Controllers
     ensures { result ≡ control_of settings.now }
 {
     match settings {
-        Some(settings) => settings.control,
+        Some(settings) => settings.control(),
         None => Controllers::empty(),
     }
 }

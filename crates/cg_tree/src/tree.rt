@@ -1,5 +1,5 @@
 //! Groups and processes, and which paths have an entry.
-ghost use Rattle.std.specs.Prelude.{◌≡◌, ◌↔◌, IsTrue, is_some, false, true, Some, IfOk, IfSome, IsOk, IsSome, OnOk, OnErr, slice_get};
+ghost use Rattle.std.specs.Prelude.{◌≡◌, ◌↔◌, IsTrue, is_some, false, true, Some, IfOk, IfSome, IsOk, IsSome, OnOk, OnErr, slice_get, option_copied};
 ghost use Rattle.cg_maps.specs.FiniteMap.{domain, entries, keys, set_at};
 ghost use Rattle.cg_model.specs.Sound.{Sound};
 ghost use Rattle.cg_model.specs.Key.{replaced};
@@ -17,9 +17,10 @@ use crate::new_value::NewValue;
 use crate::pids::Pids;
 use crate::placed::Placed;
 use crate::worlds::{add_groups, add_places, add_processes, pids_of, with_entries};
+use cg_boxed::CompactSettings;
 use cg_cpus::CpuSet;
 use cg_name::Path;
-use cg_text::{Controllers, Settings};
+use cg_text::Controllers;
 use cg_world::{PlainTree, World};
 use std::alloc::{AllocError, Global};
 use std::marker::Model;
@@ -137,18 +138,18 @@ impl Tree {
     }
 
     /// The settings of the group at the path, if there is one.
-    pub fn settings(&self, path: &Path) -> Option<Settings>
-        ensures { result ≡ group self.now.tree path.now }
+    pub fn settings(&self, path: &Path) -> Option<&CompactSettings>
+        ensures { option_copied result ≡ group self.now.tree path.now }
     {
-        *self.groups.get(path)?
+        self.groups.get(path)?.as_ref()
     }
 
     /// The settings of the parent of the path, if there is such a group: none for the root, which has no parent. One look-up, which
     /// takes no memory.
-    pub fn parent_settings(&self, path: &Path) -> Option<Settings>
-        ensures { result ≡ parent_group self.now.tree path.now }
+    pub fn parent_settings(&self, path: &Path) -> Option<&CompactSettings>
+        ensures { option_copied result ≡ parent_group self.now.tree path.now }
     {
-        *self.groups.get_parent(path)?
+        self.groups.get_parent(path)?.as_ref()
     }
 
     /// Whether the process is in the group at the path itself; no where no process has this PID.
@@ -235,7 +236,7 @@ impl Tree {
         ensures has_room { has_entry self.old path.now ≡ true → IsOk result }
     {
         if !self.groups.contains(path) {
-            self.groups.insert(alloc, path, &None)?;
+            self.groups.insert(alloc, path, None)?;
         }
         Ok(())
     }
@@ -253,7 +254,7 @@ impl Tree {
 
     /// Puts a group with the settings at the path, which has an entry, or takes the group there away. The entry stays. Takes no
     /// memory.
-    pub fn put_group(&mut self, path: &Path, settings: Option<Settings>)
+    pub fn put_group(&mut self, path: &Path, settings: Option<CompactSettings>)
         requires { IsSome settings → has_entry self.old path.now ≡ true }
         ensures tree { self.new.tree ≡ record self.old.tree { groups = set_at self.old.tree.groups path.now settings } }
         ensures entries { self.new.entries ≡ self.old.entries }
@@ -262,19 +263,20 @@ impl Tree {
         let _ = path.names();
         tell_cpus(&settings);
         self.may_limit |= has_limit(&settings);
-        self.groups.replace(path, &settings);
+        self.groups.replace(path, settings);
     }
 
     /// Puts the value of one setting of the group at the path, if there is one. Takes no memory.
-    pub fn put_value(&mut self, path: &Path, value: &NewValue)
-        ensures tree { self.new.tree ≡ record self.old.tree { groups = set_at self.old.tree.groups path.now (with_new value.now (group self.old.tree path.now)) } }
+    pub fn put_value(&mut self, path: &Path, value: NewValue)
+        ensures tree { self.new.tree ≡ record self.old.tree { groups = set_at self.old.tree.groups path.now (with_new value (group self.old.tree path.now)) } }
         ensures entries { self.new.entries ≡ self.old.entries }
     {
         // As above.
         let _ = path.names();
         value.tell_cpus();
+        let is_limit = value.is_limit();
         let found = self.groups.change(path, value);
-        self.may_limit |= found & value.is_limit();
+        self.may_limit |= found & is_limit;
     }
 
     /// Puts the process into the group at the path, which has an entry, if there is a process with this PID. Takes no memory.
@@ -300,10 +302,10 @@ impl Tree {
 }
 
 // Settings that are there tell what holds of their CPUs.
-fn tell_cpus(settings: &Option<Settings>)
+fn tell_cpus(settings: &Option<CompactSettings>)
     ensures { IfSome settings.now (λ s. AreCpusUpTo 1023 s.cpus) }
 {
     if let Some(settings) = settings {
-        let _ = settings.cpus.contains(0);
+        let _ = settings.cpus().contains(0);
     }
 }

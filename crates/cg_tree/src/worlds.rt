@@ -27,7 +27,7 @@ pub(crate) fn with_entries(
     let mut made = Groups::new(alloc);
     // A parent comes before its children.
     for (path, settings) in listed {
-        made.insert(alloc, path, &Some(settings.get()))?;
+        made.insert(alloc, path, Some(settings.copy(alloc)?))?;
     }
     Ok(made)
 }
@@ -42,8 +42,7 @@ pub(crate) fn add_groups(
     ensures { OnOk result (tree.new ≡ record tree.old { groups = present groups.now.groups }) }
 {
     for (path, settings) in groups.present_groups(alloc)? {
-        let settings = CompactSettings::new(alloc, &settings)?;
-        tree.set_group(path.to_path(alloc)?, settings)?;
+        tree.set_group(path.to_path(alloc)?, settings.copy(alloc)?)?;
     }
     Ok(())
 }

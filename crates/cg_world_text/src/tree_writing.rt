@@ -7,7 +7,6 @@ ghost use Rattle.cg_world_text.specs.World.{group_line, process_line, settings_f
 use crate::fitting::{cpus_fit, settings_fit};
 use crate::version::Version;
 use crate::writing::{WriteWorld, append_end, append_group, append_head, append_process};
-use cg_boxed::CompactSettings;
 use cg_name::or_truncate;
 use cg_tree::Tree;
 use std::alloc::{AllocError, Global};
@@ -40,7 +39,7 @@ fn groups_fit(tree: &Tree, alloc: Global) -> Result<bool, AllocError>
     ensures { IfOk result (λ fit. fit ≡ list_all (λ e. settings_fit_one e.1) (entries tree.now.tree.groups)) }
 {
     for (_path, settings) in tree.present_groups(alloc)? {
-        if !settings_fit(&CompactSettings::new(alloc, &settings)?) {
+        if !settings_fit(settings) {
             return Ok(false);
         }
     }
@@ -65,14 +64,8 @@ fn append_groups(version: Version, tree: &Tree, out: &mut Vec<u8>) -> Result<(),
     ensures ok { OnOk result (out.new.items ≡ out.old.items ++ flat_map (group_line version) (entries tree.now.tree.groups)) }
     ensures kept { OnErr result (take (length out.old.items) out.new.items ≡ out.old.items) }
 {
-    let alloc = *out.allocator();
-    for (path, settings) in tree.present_groups(alloc)? {
-        append_group(
-            version,
-            &path,
-            &CompactSettings::new(alloc, &settings)?,
-            out,
-        )?;
+    for (path, settings) in tree.present_groups(*out.allocator())? {
+        append_group(version, &path, settings, out)?;
     }
     Ok(())
 }

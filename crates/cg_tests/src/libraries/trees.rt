@@ -1,8 +1,9 @@
 //! The tree that commands change: made of a world, given back as one, and edited.
 use crate::opening::{LARGER, tree};
+use cg_boxed::{BoxedCpus, CompactSettings};
 use cg_cpus::CpuSet;
 use cg_name::{Path, Refusal};
-use cg_text::{Settings, write_procs};
+use cg_text::write_procs;
 use cg_tree::{NewValue, Tree};
 use cg_world_text::WriteWorld;
 use std::alloc::{AllocError, Global};
@@ -27,7 +28,7 @@ fn make_group(alloc: Global, tree: &mut Tree, word: &str) -> Result<(), Refusal>
         return Err(Refusal::NoGroup);
     }
     tree.make_room(alloc, &path)?;
-    tree.put_group(&path, Some(Settings::fresh()));
+    tree.put_group(&path, Some(CompactSettings::fresh()));
     Ok(())
 }
 
@@ -44,8 +45,8 @@ fn move_process(alloc: Global, tree: &mut Tree, pid: u32, word: &str) -> Result<
 // Has the group at the path that a word spells ask for the first CPU.
 fn ask_for_a_cpu(alloc: Global, tree: &mut Tree, word: &str) -> Result<(), Refusal> {
     let path = Path::read(alloc, word)?;
-    let value = CpuSet::read("0")?;
-    tree.put_value(&path, &NewValue::Cpus(value));
+    let value = BoxedCpus::new(alloc, CpuSet::read("0")?)?;
+    tree.put_value(&path, NewValue::Cpus(value));
     Ok(())
 }
 

@@ -1,5 +1,5 @@
 -- By each group on the way.
-use Rattle.std.proofs.Common.{ap, ◌∙◌}
+use Rattle.std.proofs.Common.{◌∙◌}
 use Rattle.cg_derive.specs.Upward.{narrowed_upward}
 use Rattle.cg_derive.proofs.Way.{narrowed_on_way}
 use Rattle.cg_derive.proofs.values.effective_cpus.Goals as goal

@@ -33,7 +33,7 @@ returns-then-depth-clause-value c =
     let long = sym (c.depth.ensures _ at) ∙ c.if-depth.true in
     let own = own_told nodes c.laws.ensures.one_path c.in-Some.key key c.parent.result c.parent.ensures.root c.parent.ensures.value c.get-entry.result.now d long (c.get-entry.ensures _ at) in
     let rest = rest_told nodes c.laws.ensures.one_path c.in-Some.key key c.parent.result c.parent.ensures.root c.parent.ensures.value d long in
-    ap (going_up nodes c.args.at.now) more ∙ ap (λ w. going_up nodes w (suc d)) c.in-Some.is ∙ (λ i. own i ∷ rest i)
+    ap (going_up nodes c.args.at.now) more ∙ ap (λ w. going_up nodes w (suc d)) c.in-Some.is ∙ (λ i. own i ∷ rest i) ∙ (λ i. record { depth = d; settings = sym c.as_ref.ensures.value i; descendants = c.get-entry.result.now.below } ∷ going_up nodes c.parent.result d)
 
 absent : (c : goal.Joined-at) → (l : NodeKey) → c.args.at.now ≡ Some l → length (path_at c.args.nodes.now l) ≢ c.in_ok-depth.depth
 absent c = elim c.match-at.branch [

@@ -24,11 +24,11 @@ count_at_parent-requires-clause-room c q x parent found =
     let e = c.get.result.now in
     let there : entry_at c.args.nodes.now c.args.key ≡ Some e = c.get.ensures (path_at c.args.nodes.now c.args.key) key in
     let wrote = c.write_settings.ensures e there in
-    let new : is_some c.args.settings.now ≡ c.is_some-comes.result = sym c.is_some-comes.ensures in
+    let new : is_some c.args.settings ≡ c.is_some-comes.result = sym c.is_some-comes.ensures in
     let old : is_some e.settings ≡ not c.is_some-comes.result = sym c.is_some-was.ensures ∙ differ c.is_some-comes.result c.is_some-was.result c.if-comes-was.true in
     let many : len c.args.nodes.now.values ≡ c.len.result = as_many c.args.nodes.now c.laws.ensures.both ∙ sym c.len.ensures in
     let fits : c.len.result < 2 ^ 64 = omega arith in
-    room_right_below c.args.nodes.now c.args.key e there c.args.settings.now c.requires.counted c.is_some-comes.result new old c.len.result many fits q x
+    room_right_below c.args.nodes.now c.args.key e there c.args.settings c.requires.counted c.is_some-comes.result new old c.len.result many fits q x
     (subst (λ n. is_parent q (path_at n c.args.key) ≡ true) wrote parent) (subst (λ n. get n.values q ≡ Some x) wrote found)
 
 pub count_above-requires-clause-key : goal.count_above-requires-clause-key
@@ -45,11 +45,11 @@ count_above-requires-clause-room c q x above found =
     let e = c.get.result.now in
     let there : entry_at c.args.nodes.now c.args.key ≡ Some e = c.get.ensures (path_at c.args.nodes.now c.args.key) key in
     let wrote = c.write_settings.ensures e there in
-    let new : is_some c.args.settings.now ≡ c.is_some-comes.result = sym c.is_some-comes.ensures in
+    let new : is_some c.args.settings ≡ c.is_some-comes.result = sym c.is_some-comes.ensures in
     let old : is_some e.settings ≡ not c.is_some-comes.result = sym c.is_some-was.ensures ∙ differ c.is_some-comes.result c.is_some-was.result c.if-comes-was.true in
     let many : len c.args.nodes.now.values ≡ c.len.result = as_many c.args.nodes.now c.laws.ensures.both ∙ sym c.len.ensures in
     let fits : c.len.result < 2 ^ 64 = omega arith in
-    room_below c.args.nodes.now c.args.key e there c.args.settings.now c.requires.counted c.is_some-comes.result new old c.count_at_parent.new.nodes (λ r. subst (λ n. get c.count_at_parent.new.nodes.values r ≡ option_map (with_right_below c.is_some-comes.result (is_parent r (path_at n c.args.key))) (get n.values r)) wrote (c.count_at_parent.ensures.values r)) c.len.result many fits q x
+    room_below c.args.nodes.now c.args.key e there c.args.settings c.requires.counted c.is_some-comes.result new old c.count_at_parent.new.nodes (λ r. subst (λ n. get c.count_at_parent.new.nodes.values r ≡ option_map (with_right_below c.is_some-comes.result (is_parent r (path_at n c.args.key))) (get n.values r)) wrote (c.count_at_parent.ensures.values r)) c.len.result many fits q x
     (subst (λ k. is_above q (path_of k c.args.key) ≡ true) (c.count_at_parent.ensures.keys ∙ ap (λ n. n.keys) wrote) above) found
 
 pub returns-then-comes-was-clause-keys : goal.returns-then-comes-was-clause-keys
@@ -66,9 +66,9 @@ returns-then-comes-was-clause-groups c =
     let e = c.get.result.now in
     let there : entry_at c.args.nodes.now c.args.key ≡ Some e = c.get.ensures (path_at c.args.nodes.now c.args.key) key in
     let wrote = c.write_settings.ensures e there in
-    let new : is_some c.args.settings.now ≡ c.is_some-comes.result = sym c.is_some-comes.ensures in
+    let new : is_some c.args.settings ≡ c.is_some-comes.result = sym c.is_some-comes.ensures in
     let old : is_some e.settings ≡ not c.is_some-comes.result = sym c.is_some-was.ensures ∙ differ c.is_some-comes.result c.is_some-was.result c.if-comes-was.true in
-    counted_groups c.args.nodes.now c.args.key e there c.args.settings.now c.requires.counted c.is_some-comes.result new old c.count_at_parent.new.nodes (λ r. subst (λ n. get c.count_at_parent.new.nodes.values r ≡ option_map (with_right_below c.is_some-comes.result (is_parent r (path_at n c.args.key))) (get n.values r)) wrote (c.count_at_parent.ensures.values r)) c.count_above.new.nodes
+    counted_groups c.args.nodes.now c.args.key e there c.args.settings c.requires.counted c.is_some-comes.result new old c.count_at_parent.new.nodes (λ r. subst (λ n. get c.count_at_parent.new.nodes.values r ≡ option_map (with_right_below c.is_some-comes.result (is_parent r (path_at n c.args.key))) (get n.values r)) wrote (c.count_at_parent.ensures.values r)) c.count_above.new.nodes
     (λ r. subst (λ k. get c.count_above.new.nodes.values r ≡ option_map (recounted Groups c.is_some-comes.result (is_above r (path_of k c.args.key))) (get c.count_at_parent.new.nodes.values r)) (c.count_at_parent.ensures.keys ∙ ap (λ n. n.keys) wrote) (c.count_above.ensures.values r))
 
 pub returns-then-comes-was-clause-counted : goal.returns-then-comes-was-clause-counted
@@ -77,9 +77,9 @@ returns-then-comes-was-clause-counted c =
     let e = c.get.result.now in
     let there : entry_at c.args.nodes.now c.args.key ≡ Some e = c.get.ensures (path_at c.args.nodes.now c.args.key) key in
     let wrote = c.write_settings.ensures e there in
-    let new : is_some c.args.settings.now ≡ c.is_some-comes.result = sym c.is_some-comes.ensures in
+    let new : is_some c.args.settings ≡ c.is_some-comes.result = sym c.is_some-comes.ensures in
     let old : is_some e.settings ≡ not c.is_some-comes.result = sym c.is_some-was.ensures ∙ differ c.is_some-comes.result c.is_some-was.result c.if-comes-was.true in
-    counted_anew c.args.nodes.now c.args.key e there c.args.settings.now c.requires.counted c.is_some-comes.result new old c.count_at_parent.new.nodes (λ r. subst (λ n. get c.count_at_parent.new.nodes.values r ≡ option_map (with_right_below c.is_some-comes.result (is_parent r (path_at n c.args.key))) (get n.values r)) wrote (c.count_at_parent.ensures.values r)) c.count_above.new.nodes
+    counted_anew c.args.nodes.now c.args.key e there c.args.settings c.requires.counted c.is_some-comes.result new old c.count_at_parent.new.nodes (λ r. subst (λ n. get c.count_at_parent.new.nodes.values r ≡ option_map (with_right_below c.is_some-comes.result (is_parent r (path_at n c.args.key))) (get n.values r)) wrote (c.count_at_parent.ensures.values r)) c.count_above.new.nodes
     (λ r. subst (λ k. get c.count_above.new.nodes.values r ≡ option_map (recounted Groups c.is_some-comes.result (is_above r (path_of k c.args.key))) (get c.count_at_parent.new.nodes.values r)) (c.count_at_parent.ensures.keys ∙ ap (λ n. n.keys) wrote) (c.count_above.ensures.values r))
 
 pub returns-else-comes-was-clause-keys : goal.returns-else-comes-was-clause-keys
@@ -96,7 +96,7 @@ returns-else-comes-was-clause-groups c =
     let e = c.get.result.now in
     let there : entry_at c.args.nodes.now c.args.key ≡ Some e = c.get.ensures (path_at c.args.nodes.now c.args.key) key in
     let wrote = c.write_settings.ensures e there in
-    ap (λ n. groups_in n.values) wrote ∙ written_groups c.args.nodes.now c.args.key e there c.args.settings.now c.requires.counted
+    ap (λ n. groups_in n.values) wrote ∙ written_groups c.args.nodes.now c.args.key e there c.args.settings c.requires.counted
 
 pub returns-else-comes-was-clause-counted : goal.returns-else-comes-was-clause-counted
 returns-else-comes-was-clause-counted c =
@@ -105,7 +105,7 @@ returns-else-comes-was-clause-counted c =
     let there : entry_at c.args.nodes.now c.args.key ≡ Some e = c.get.ensures (path_at c.args.nodes.now c.args.key) key in
     let wrote = c.write_settings.ensures e there in
     subst (λ n. AreCountedBelow n.values) (sym wrote)
-    (counted_alike c.args.nodes.now c.args.key e there c.args.settings.now c.requires.counted (sym c.is_some-comes.ensures ∙ agree c.is_some-comes.result c.is_some-was.result c.if-comes-was.false ∙ c.is_some-was.ensures))
+    (counted_alike c.args.nodes.now c.args.key e there c.args.settings c.requires.counted (sym c.is_some-comes.ensures ∙ agree c.is_some-comes.result c.is_some-was.result c.if-comes-was.false ∙ c.is_some-was.ensures))
 
 pub returns-then-comes-was-clause-held : goal.returns-then-comes-was-clause-held
 returns-then-comes-was-clause-held c =
@@ -116,7 +116,7 @@ returns-then-comes-was-clause-held c =
     same_seen processes_of c.count_above.new.nodes.values c.count_at_parent.new.nodes.values _ (λ q e. refl) c.count_above.ensures.values
     ∙ same_seen processes_of c.count_at_parent.new.nodes.values c.write_settings.new.nodes.values (λ q. with_right_below c.is_some-comes.result (is_parent q (path_at c.write_settings.new.nodes c.args.key))) (λ q e. refl) c.count_at_parent.ensures.values
     ∙ ap (λ n. held_in n.values) wrote
-    ∙ seen_in_place processes_of c.args.nodes.now.values (path_at c.args.nodes.now c.args.key) e there (record e { settings = c.args.settings.now }) refl
+    ∙ seen_in_place processes_of c.args.nodes.now.values (path_at c.args.nodes.now c.args.key) e there (record e { settings = c.args.settings }) refl
 
 pub returns-else-comes-was-clause-held : goal.returns-else-comes-was-clause-held
 returns-else-comes-was-clause-held c =
@@ -125,7 +125,7 @@ returns-else-comes-was-clause-held c =
     let there : entry_at c.args.nodes.now c.args.key ≡ Some e = c.get.ensures (path_at c.args.nodes.now c.args.key) key in
     let wrote = c.write_settings.ensures e there in
     ap (λ n. held_in n.values) wrote
-    ∙ seen_in_place processes_of c.args.nodes.now.values (path_at c.args.nodes.now c.args.key) e there (record e { settings = c.args.settings.now }) refl
+    ∙ seen_in_place processes_of c.args.nodes.now.values (path_at c.args.nodes.now c.args.key) e there (record e { settings = c.args.settings }) refl
 
 pub returns-then-comes-was-clause-passing : goal.returns-then-comes-was-clause-passing
 returns-then-comes-was-clause-passing c =
@@ -136,7 +136,7 @@ returns-then-comes-was-clause-passing c =
     same_seen passing_of c.count_above.new.nodes.values c.count_at_parent.new.nodes.values _ (λ q e. refl) c.count_above.ensures.values
     ∙ same_seen passing_of c.count_at_parent.new.nodes.values c.write_settings.new.nodes.values (λ q. with_right_below c.is_some-comes.result (is_parent q (path_at c.write_settings.new.nodes c.args.key))) (λ q e. refl) c.count_at_parent.ensures.values
     ∙ ap (λ n. passing_in n.values) wrote
-    ∙ seen_in_place passing_of c.args.nodes.now.values (path_at c.args.nodes.now c.args.key) e there (record e { settings = c.args.settings.now }) refl
+    ∙ seen_in_place passing_of c.args.nodes.now.values (path_at c.args.nodes.now c.args.key) e there (record e { settings = c.args.settings }) refl
 
 pub returns-else-comes-was-clause-passing : goal.returns-else-comes-was-clause-passing
 returns-else-comes-was-clause-passing c =
@@ -145,4 +145,4 @@ returns-else-comes-was-clause-passing c =
     let there : entry_at c.args.nodes.now c.args.key ≡ Some e = c.get.ensures (path_at c.args.nodes.now c.args.key) key in
     let wrote = c.write_settings.ensures e there in
     ap (λ n. passing_in n.values) wrote
-    ∙ seen_in_place passing_of c.args.nodes.now.values (path_at c.args.nodes.now c.args.key) e there (record e { settings = c.args.settings.now }) refl
+    ∙ seen_in_place passing_of c.args.nodes.now.values (path_at c.args.nodes.now c.args.key) e there (record e { settings = c.args.settings }) refl

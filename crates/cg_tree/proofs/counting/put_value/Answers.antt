@@ -11,7 +11,7 @@ use Rattle.cg_tree.specs.Passing.{control_of, CanPass}
 use Rattle.cg_tree.proofs.Climbing.{at_own_path}
 use Rattle.cg_tree.proofs.PassingOn.{same_sets}
 use Rattle.cg_tree.proofs.Putting.{as_many}
-use Rattle.cg_tree.proofs.Writing.{changed, counted_as_before, counted_passing, group_there, groups_changed, groups_passing, held_alike, held_passing, none_changed, room_at_parent, same_control}
+use Rattle.cg_tree.proofs.Writing.{changed, counted_as_before, counted_passing, group_there, groups_changed, groups_passing, held_alike, held_passing, none_changed, room_at_parent}
 use Rattle.cg_tree.proofs.counting.put_value.Goals as goal
 use Rattle.cg_tree.proofs.counting.put_value.Goals.{After-get, After-write_value, After-pass_at_parent}
 
@@ -23,21 +23,21 @@ there c = c.get.ensures (path_at c.args.nodes.now c.args.key) (at_own_path c.arg
 
 -- the nodes with the value
 abbrev made : After-write_value → Nodes Entry
-made c = changed c.args.nodes.now c.args.key c.get.result.now (there c) c.args.value.now c.requires.counted
+made c = changed c.args.nodes.now c.args.key c.get.result.now (there c) c.args.value c.requires.counted
 
 wrote : (c : After-write_value) → c.write_value.new.nodes ≡ made c
 wrote c = c.write_value.ensures c.get.result.now (there c)
 
 found : (c : After-write_value) → true ≡ is_some (option_flatten (get (groups_in c.args.nodes.now.values) (path_at c.args.nodes.now c.args.key)))
-found c = ap is_some (sym c.in-Some.is) ∙ group_there c.args.nodes.now c.args.key c.get.result.now (there c) c.args.value.now c.requires.counted
+found c = ap is_some (sym c.in-Some.is) ∙ group_there c.args.nodes.now c.args.key c.get.result.now (there c) c.args.value c.requires.counted
 
 pub returns-in_default-clause-found : goal.returns-in_default-clause-found
 returns-in_default-clause-found c =
-    ap is_some (sym c.in_default.is) ∙ group_there c.args.nodes.now c.args.key c.get.result.now (first_there (goal.at.returns-in_default-clause-found c).After-get) c.args.value.now c.requires.counted
+    ap is_some (sym c.in_default.is) ∙ group_there c.args.nodes.now c.args.key c.get.result.now (first_there (goal.at.returns-in_default-clause-found c).After-get) c.args.value c.requires.counted
 
 pub returns-in_default-clause-groups : goal.returns-in_default-clause-groups
 returns-in_default-clause-groups c =
-    none_changed c.args.nodes.now c.args.key c.get.result.now (first_there (goal.at.returns-in_default-clause-groups c).After-get) c.args.value.now c.requires.counted c.in_default.is
+    none_changed c.args.nodes.now c.args.key c.get.result.now (first_there (goal.at.returns-in_default-clause-groups c).After-get) c.args.value c.requires.counted c.in_default.is
 
 pub pass_at_parent-requires-clause-key : goal.pass_at_parent-requires-clause-key
 pass_at_parent-requires-clause-key c =
@@ -46,19 +46,19 @@ pass_at_parent-requires-clause-key c =
 pub pass_at_parent-requires-clause-room : goal.pass_at_parent-requires-clause-room
 pass_at_parent-requires-clause-room c q x right held =
     let w = wrote (goal.at.pass_at_parent-requires-clause-room c).After-write_value in
-    let many : len c.write_value.new.nodes.values ≡ c.len.result = as_many c.write_value.new.nodes c.laws-in-Control.ensures.both ∙ sym c.len.ensures in
+    let many : len c.write_value.new.nodes.values ≡ c.len.result = as_many c.write_value.new.nodes c.laws-2.ensures.both ∙ sym c.len.ensures in
     let fits : c.len.result < 2 ^ 64 = omega arith in
-    let room = room_at_parent c.args.nodes.now c.args.key c.get.result.now (there (goal.at.pass_at_parent-requires-clause-room c).After-write_value) c.args.value.now c.requires.counted c.len.result (ap (λ n. len n.values) (sym w) ∙ many) fits q x
+    let room = room_at_parent c.args.nodes.now c.args.key c.get.result.now (there (goal.at.pass_at_parent-requires-clause-room c).After-write_value) c.args.value c.requires.counted c.len.result (ap (λ n. len n.values) (sym w) ∙ many) fits q x
     (subst (λ n. is_parent q (path_at n c.args.key) ≡ true) w right) (subst (λ n. get n.values q ≡ Some x) w held) in
-    subst (λ v. CanPass c.in-Some.settings.control v x.passing) (λ i. control_of (with_new (c.in-Control.is i) (c.in-Some.is i)))
-    (subst (λ u. CanPass (control_of u) (control_of (with_new c.args.value.now c.get.result.now.settings)) x.passing) c.in-Some.is room)
+    subst (λ u. CanPass u c.control-after.result x.passing) (ap control_of c.in-Some.is ∙ sym c.control-before.ensures)
+    (subst (λ v. CanPass (control_of c.get.result.now.settings) v x.passing) (ap (λ u. control_of (with_new c.args.value u)) c.in-Some.is ∙ sym c.control-after.ensures) room)
 
 -- what is counted at the parent
-counted_at : (c : After-pass_at_parent) (w : c.write_value.new.nodes ≡ changed c.args.nodes.now c.args.key c.get.result.now (c.get.ensures (path_at c.args.nodes.now c.args.key) (at_own_path c.args.nodes.now c.args.key c.laws.ensures.one_path c.requires.key)) c.args.value.now c.requires.counted) (q : Path)
-    → get c.pass_at_parent.new.nodes.values q ≡ option_map (with_passing (control_of c.get.result.now.settings) (control_of (with_new c.args.value.now c.get.result.now.settings)) (is_parent q (path_at c.args.nodes.now c.args.key))) (get (changed c.args.nodes.now c.args.key c.get.result.now (c.get.ensures (path_at c.args.nodes.now c.args.key) (at_own_path c.args.nodes.now c.args.key c.laws.ensures.one_path c.requires.key)) c.args.value.now c.requires.counted).values q)
+counted_at : (c : After-pass_at_parent) (w : c.write_value.new.nodes ≡ changed c.args.nodes.now c.args.key c.get.result.now (c.get.ensures (path_at c.args.nodes.now c.args.key) (at_own_path c.args.nodes.now c.args.key c.laws.ensures.one_path c.requires.key)) c.args.value c.requires.counted) (q : Path)
+    → get c.pass_at_parent.new.nodes.values q ≡ option_map (with_passing (control_of c.get.result.now.settings) (control_of (with_new c.args.value c.get.result.now.settings)) (is_parent q (path_at c.args.nodes.now c.args.key))) (get (changed c.args.nodes.now c.args.key c.get.result.now (c.get.ensures (path_at c.args.nodes.now c.args.key) (at_own_path c.args.nodes.now c.args.key c.laws.ensures.one_path c.requires.key)) c.args.value c.requires.counted).values q)
 counted_at c w q =
     c.pass_at_parent.ensures.values q
-    ∙ (λ i. option_map (with_passing (control_of (sym c.in-Some.is i)) (control_of (with_new (sym c.in-Control.is i) (sym c.in-Some.is i))) (is_parent q (path_at (w i) c.args.key))) (get (w i).values q))
+    ∙ (λ i. option_map (with_passing ((c.control-before.ensures ∙ ap control_of (sym c.in-Some.is)) i) ((c.control-after.ensures ∙ ap (λ u. control_of (with_new c.args.value u)) (sym c.in-Some.is)) i) (is_parent q (path_at (w i) c.args.key))) (get (w i).values q))
 
 pub returns-then-ne-clause-found : goal.returns-then-ne-clause-found
 returns-then-ne-clause-found c = found (goal.at.returns-then-ne-clause-found c).After-write_value
@@ -69,17 +69,17 @@ returns-then-ne-clause-keys c = c.pass_at_parent.ensures.keys ∙ ap (λ n. n.ke
 pub returns-then-ne-clause-groups : goal.returns-then-ne-clause-groups
 returns-then-ne-clause-groups c =
     let at = (goal.at.returns-then-ne-clause-groups c).After-write_value in
-    groups_passing c.args.nodes.now c.args.key c.get.result.now (there at) c.args.value.now c.requires.counted c.pass_at_parent.new.nodes (counted_at (goal.at.returns-then-ne-clause-groups c).After-pass_at_parent (wrote at))
+    groups_passing c.args.nodes.now c.args.key c.get.result.now (there at) c.args.value c.requires.counted c.pass_at_parent.new.nodes (counted_at (goal.at.returns-then-ne-clause-groups c).After-pass_at_parent (wrote at))
 
 pub returns-then-ne-clause-counted : goal.returns-then-ne-clause-counted
 returns-then-ne-clause-counted c =
     let at = (goal.at.returns-then-ne-clause-counted c).After-write_value in
-    counted_passing c.args.nodes.now c.args.key c.get.result.now (there at) c.args.value.now c.requires.counted c.pass_at_parent.new.nodes (counted_at (goal.at.returns-then-ne-clause-counted c).After-pass_at_parent (wrote at))
+    counted_passing c.args.nodes.now c.args.key c.get.result.now (there at) c.args.value c.requires.counted c.pass_at_parent.new.nodes (counted_at (goal.at.returns-then-ne-clause-counted c).After-pass_at_parent (wrote at))
 
 pub returns-then-ne-clause-held : goal.returns-then-ne-clause-held
 returns-then-ne-clause-held c =
     let at = (goal.at.returns-then-ne-clause-held c).After-write_value in
-    held_passing c.args.nodes.now c.args.key c.get.result.now (there at) c.args.value.now c.requires.counted c.pass_at_parent.new.nodes (counted_at (goal.at.returns-then-ne-clause-held c).After-pass_at_parent (wrote at))
+    held_passing c.args.nodes.now c.args.key c.get.result.now (there at) c.args.value c.requires.counted c.pass_at_parent.new.nodes (counted_at (goal.at.returns-then-ne-clause-held c).After-pass_at_parent (wrote at))
 
 pub returns-else-ne-clause-found : goal.returns-else-ne-clause-found
 returns-else-ne-clause-found c = found (goal.at.returns-else-ne-clause-found c).After-write_value
@@ -90,30 +90,20 @@ returns-else-ne-clause-keys c = ap (λ n. n.keys) (wrote (goal.at.returns-else-n
 pub returns-else-ne-clause-groups : goal.returns-else-ne-clause-groups
 returns-else-ne-clause-groups c =
     let at = (goal.at.returns-else-ne-clause-groups c).After-write_value in
-    ap (λ n. groups_in n.values) (wrote at) ∙ groups_changed c.args.nodes.now c.args.key c.get.result.now (there at) c.args.value.now c.requires.counted
+    ap (λ n. groups_in n.values) (wrote at) ∙ groups_changed c.args.nodes.now c.args.key c.get.result.now (there at) c.args.value c.requires.counted
 
 pub returns-else-ne-clause-counted : goal.returns-else-ne-clause-counted
 returns-else-ne-clause-counted c =
     let at = (goal.at.returns-else-ne-clause-counted c).After-write_value in
-    let alike : control_of c.get.result.now.settings ≡ control_of (with_new c.args.value.now c.get.result.now.settings) =
+    let alike : control_of c.get.result.now.settings ≡ control_of (with_new c.args.value c.get.result.now.settings) =
     ap control_of c.in-Some.is
-    ∙ same_sets c.in-Some.settings.control c.in-Control.after (sym c.ne.ensures ∙ c.if-ne.false)
-    ∙ (λ i. control_of (with_new (sym c.in-Control.is i) (sym c.in-Some.is i))) in
-    subst (λ n. AreCounted n.values) (sym (wrote at)) (counted_as_before c.args.nodes.now c.args.key c.get.result.now (there at) c.args.value.now c.requires.counted alike)
+    ∙ sym c.control-before.ensures
+    ∙ same_sets c.control-before.result c.control-after.result (sym c.ne.ensures ∙ c.if-ne.false)
+    ∙ c.control-after.ensures
+    ∙ ap (λ u. control_of (with_new c.args.value u)) (sym c.in-Some.is) in
+    subst (λ n. AreCounted n.values) (sym (wrote at)) (counted_as_before c.args.nodes.now c.args.key c.get.result.now (there at) c.args.value c.requires.counted alike)
 
 pub returns-else-ne-clause-held : goal.returns-else-ne-clause-held
 returns-else-ne-clause-held c =
     let at = (goal.at.returns-else-ne-clause-held c).After-write_value in
-    ap (λ n. held_in n.values) (wrote at) ∙ held_alike c.args.nodes.now c.args.key c.get.result.now (there at) c.args.value.now c.requires.counted
-
-pub returns-in_default-value : goal.returns-in_default-value
-returns-in_default-value c =
-    let at = (goal.at.returns-in_default-value c).After-write_value in
-    record {
-      found = found at;
-      keys = ap (λ n. n.keys) (wrote at);
-      groups = ap (λ n. groups_in n.values) (wrote at) ∙ groups_changed c.args.nodes.now c.args.key c.get.result.now (there at) c.args.value.now c.requires.counted;
-      counted = subst (λ n. AreCounted n.values) (sym (wrote at))
-          (counted_as_before c.args.nodes.now c.args.key c.get.result.now (there at) c.args.value.now c.requires.counted (same_control c.args.value.now c.get.result.now.settings c.in_default-value.not-Control));
-      held = ap (λ n. held_in n.values) (wrote at) ∙ held_alike c.args.nodes.now c.args.key c.get.result.now (there at) c.args.value.now c.requires.counted;
-    }
+    ap (λ n. held_in n.values) (wrote at) ∙ held_alike c.args.nodes.now c.args.key c.get.result.now (there at) c.args.value c.requires.counted

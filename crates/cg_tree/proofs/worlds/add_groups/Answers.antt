@@ -14,7 +14,7 @@ loop-path-init c =
 pub loop-path-preserved : goal.loop-path-preserved
 loop-path-preserved c =
     ap (λ T. with_groups T (puts T.groups c.next.new.self)) c.in_ok-set_group.ensures.ok
-    ∙ (λ i. with_groups c.loop-path.tree (puts (set_at c.loop-path.tree.groups (c.in_ok-to_path.ensures i) (Some (c.in_ok-settings.ensures.value i))) c.next.new.self))
+    ∙ (λ i. with_groups c.loop-path.tree (puts (set_at c.loop-path.tree.groups (c.in_ok-to_path.ensures i) (Some (c.in_ok-copy.ensures.value i))) c.next.new.self))
     ∙ ap (λ es. with_groups c.loop-path.tree (puts c.loop-path.tree.groups es)) (sym c.in-Some.ensures.steps)
     ∙ c.loop-path.invariant
 

@@ -23,7 +23,7 @@ insert-requires-clause-parent c = parent_made (subst (IsPartOf c.args.listed.now
 pub loop-path-preserved : goal.loop-path-preserved
 loop-path-preserved c = record {
   part =
-      one_more (subst (IsPartOf c.args.listed.now.entries c.loop-path.made.groups) (rest_more deref_pair _ _ _ _ c.in-Some.is c.next.ensures.steps) c.loop-path.invariant.part) c.insert.new.self.groups (c.in_ok-insert.ensures.ok ∙ ap (λ s. set_at c.loop-path.made.groups c.in-Some.path.now (Some (Some s))) c.get.ensures);
+      one_more (subst (IsPartOf c.args.listed.now.entries c.loop-path.made.groups) (rest_more deref_pair _ _ _ _ c.in-Some.is c.next.ensures.steps) c.loop-path.invariant.part) c.insert.new.self.groups (c.in_ok-insert.ensures.ok ∙ ap (λ s. set_at c.loop-path.made.groups c.in-Some.path.now (Some (Some s))) c.in_ok-copy.ensures.value);
   places = c.insert.ensures.places ∙ c.loop-path.invariant.places;
 }
 

@@ -19,14 +19,14 @@ one_more made new path copied_path settings copied left h p s =
 
 pub loop-path-preserved : goal.loop-path-preserved
 loop-path-preserved c =
-    one_more c.loop-path.made c.insert-in-loop-path.new.self c.in-Some.path.now c.in_ok-copy.field-0 c.in-Some.settings.now c.in_ok-copy-2.field-0 c.next.new.self c.in_ok-insert.ensures.updates c.in_ok-copy.ensures.value c.in_ok-copy-2.ensures
+    one_more c.loop-path.made c.insert-in-loop-path.new.self c.in-Some.path.now c.in_ok-copy.field-0 c.in-Some.settings.now c.in_ok-copy-2.field-0 c.next.new.self c.in_ok-insert.ensures.updates c.in_ok-copy.ensures.value c.in_ok-copy-2.ensures.value
     ∙ ap (puts (from_entries path_cmp c.loop-path.made.entries)) (sym (rest_more deref_pair _ _ _ _ c.in-Some.is c.next.ensures.steps))
     ∙ c.loop-path.invariant
 
 -- the settings that were replaced, where there were any, go in one way more
 pub loop-path-preserved-in_ok-insert : goal.loop-path-preserved-in_ok-insert
 loop-path-preserved-in_ok-insert c =
-    one_more c.loop-path.made c.insert-in-loop-path.new.self c.in-Some.path.now c.in_ok-copy.field-0 c.in-Some.settings.now c.in_ok-copy-2.field-0 c.next.new.self c.in_ok-insert.ensures.updates c.in_ok-copy.ensures.value c.in_ok-copy-2.ensures
+    one_more c.loop-path.made c.insert-in-loop-path.new.self c.in-Some.path.now c.in_ok-copy.field-0 c.in-Some.settings.now c.in_ok-copy-2.field-0 c.next.new.self c.in_ok-insert.ensures.updates c.in_ok-copy.ensures.value c.in_ok-copy-2.ensures.value
     ∙ ap (puts (from_entries path_cmp c.loop-path.made.entries)) (sym (rest_more deref_pair _ _ _ _ c.in-Some.is c.next.ensures.steps))
     ∙ c.loop-path.invariant
 

@@ -27,9 +27,7 @@ returns-in-Freeze-clause-tree c = c.put_value-in-Freeze.ensures.tree ∙ ap (λ 
 
 pub returns-in-Cpus-clause-tree : goal.returns-in-Cpus-clause-tree
 returns-in-Cpus-clause-tree c =
-    c.put_value-in-Cpus.ensures.tree
-    ∙ ap (λ v. put (keys.Part c.in-Cpus.path keys.Cpus) (Some v) c.args.tree.now.tree) c.get.ensures
-    ∙ ap (λ x. with_before x c.args.tree.now.tree) (sym c.in-Cpus.is)
+    c.put_value-in-Cpus.ensures.tree ∙ ap (λ x. with_before x c.args.tree.now.tree) (sym c.in-Cpus.is)
 
 pub returns-in-MaxDescendants-clause-tree : goal.returns-in-MaxDescendants-clause-tree
 returns-in-MaxDescendants-clause-tree c = c.put_value-in-MaxDescendants.ensures.tree ∙ ap (λ x. with_before x c.args.tree.now.tree) (sym c.in-MaxDescendants.is)
@@ -39,4 +37,4 @@ returns-in-MaxDepth-clause-tree c = c.put_value-in-MaxDepth.ensures.tree ∙ ap 
 
 pub returns-in-Online-clause-tree : goal.returns-in-Online-clause-tree
 returns-in-Online-clause-tree c =
-    c.put_online.ensures.tree ∙ ap (λ v. put keys.Online (Some v) c.args.tree.now.tree) c.get-in-Online.ensures ∙ ap (λ x. with_before x c.args.tree.now.tree) (sym c.in-Online.is)
+    c.put_online.ensures.tree ∙ ap (λ v. put keys.Online (Some v) c.args.tree.now.tree) c.get.ensures ∙ ap (λ x. with_before x c.args.tree.now.tree) (sym c.in-Online.is)

@@ -1,20 +1,21 @@
 -- Each variant is one write.
 use Rattle.std.proofs.Common.{Some, sym, ap, subst, ◌∙◌}
-use Rattle.cg_inverse.specs.Meaning.{change_of, HasRoomToMake}
+use Rattle.std.proofs.lemmas.Bool.{false≢true}
+use Rattle.cg_inverse.specs.Meaning.{change_of, HasRoomToMake, LeavesNoCpus}
 use Rattle.cg_inverse.proofs.Going.{group_room, with_left}
 use Rattle.cg_inverse.proofs.change.Change.put_left.Goals as goal
 use Rattle.cg_model.specs.Key as keys
 use Rattle.cg_model.specs.Key.{put}
 
 pub put_group-requires : goal.put_group-requires
-put_group-requires c = group_room c.args.tree.now c.in-Group.path c.unboxed.result c.in-Group.left (subst (λ x. HasRoomToMake c.args.tree.now (change_of x)) c.in-Group.is c.requires) c.unboxed.ensures
+put_group-requires c = group_room c.args.tree.now c.in-Group.path c.in_ok-copied-in-Group.field-0 c.in-Group.left (subst (λ x. HasRoomToMake c.args.tree.now (change_of x)) c.in-Group.is c.requires) c.in_ok-copied-in-Group.ensures.value
 
 pub put_place-requires : goal.put_place-requires
 put_place-requires c = subst (λ x. HasRoomToMake c.args.tree.now (change_of x)) c.in-Place.is c.requires
 
-pub returns-in-Group-clause-tree : goal.returns-in-Group-clause-tree
-returns-in-Group-clause-tree c =
-    c.put_group.ensures.tree ∙ ap (λ s. put (keys.Group c.in-Group.path) s c.args.tree.now.tree) c.unboxed.ensures ∙ ap (λ x. with_left x c.args.tree.now.tree) (sym c.in-Group.is)
+pub returns-in_ok-copied-in-Group-clause-tree : goal.returns-in_ok-copied-in-Group-clause-tree
+returns-in_ok-copied-in-Group-clause-tree c =
+    c.put_group.ensures.tree ∙ ap (λ s. put (keys.Group c.in-Group.path) s c.args.tree.now.tree) c.in_ok-copied-in-Group.ensures.value ∙ ap (λ x. with_left x c.args.tree.now.tree) (sym c.in-Group.is)
 
 pub returns-in-Place-clause-tree : goal.returns-in-Place-clause-tree
 returns-in-Place-clause-tree c = c.put_place.ensures.tree ∙ ap (λ x. with_left x c.args.tree.now.tree) (sym c.in-Place.is)
@@ -25,10 +26,10 @@ returns-in-Control-clause-tree c = c.put_value.ensures.tree ∙ ap (λ x. with_l
 pub returns-in-Freeze-clause-tree : goal.returns-in-Freeze-clause-tree
 returns-in-Freeze-clause-tree c = c.put_value-in-Freeze.ensures.tree ∙ ap (λ x. with_left x c.args.tree.now.tree) (sym c.in-Freeze.is)
 
-pub returns-in-Cpus-clause-tree : goal.returns-in-Cpus-clause-tree
-returns-in-Cpus-clause-tree c =
+pub returns-in_ok-copy-in-Cpus-clause-tree : goal.returns-in_ok-copy-in-Cpus-clause-tree
+returns-in_ok-copy-in-Cpus-clause-tree c =
     c.put_value-in-Cpus.ensures.tree
-    ∙ ap (λ v. put (keys.Part c.in-Cpus.path keys.Cpus) (Some v) c.args.tree.now.tree) c.get.ensures
+    ∙ ap (λ v. put (keys.Part c.in-Cpus.path keys.Cpus) (Some v) c.args.tree.now.tree) c.in_ok-copy-in-Cpus.ensures.value
     ∙ ap (λ x. with_left x c.args.tree.now.tree) (sym c.in-Cpus.is)
 
 pub returns-in-MaxDescendants-clause-tree : goal.returns-in-MaxDescendants-clause-tree
@@ -39,4 +40,14 @@ returns-in-MaxDepth-clause-tree c = c.put_value-in-MaxDepth.ensures.tree ∙ ap 
 
 pub returns-in-Online-clause-tree : goal.returns-in-Online-clause-tree
 returns-in-Online-clause-tree c =
-    c.put_online.ensures.tree ∙ ap (λ v. put keys.Online (Some v) c.args.tree.now.tree) c.get-in-Online.ensures ∙ ap (λ x. with_left x c.args.tree.now.tree) (sym c.in-Online.is)
+    c.put_online.ensures.tree ∙ ap (λ v. put keys.Online (Some v) c.args.tree.now.tree) c.get.ensures ∙ ap (λ x. with_left x c.args.tree.now.tree) (sym c.in-Online.is)
+
+-- an error says that there are CPUs
+
+pub returns-in_err-copied-in-Group-clause-without_cpus : goal.returns-in_err-copied-in-Group-clause-without_cpus
+returns-in_err-copied-in-Group-clause-without_cpus c = λ none.
+    absurd (false≢true (c.in_err-copied-in-Group.ensures.without_cpus (subst (λ x. LeavesNoCpus (change_of x)) c.in-Group.is none)))
+
+pub returns-in_err-copy-in-Cpus-clause-without_cpus : goal.returns-in_err-copy-in-Cpus-clause-without_cpus
+returns-in_err-copy-in-Cpus-clause-without_cpus c = λ none.
+    absurd (false≢true (c.in_err-copy-in-Cpus.ensures.empty (subst (λ x. LeavesNoCpus (change_of x)) c.in-Cpus.is none)))

@@ -23,7 +23,7 @@ returns-in_default-clause-found c = ap (λ w. is_some (option_flatten w)) (sym (
 pub returns-in_default-clause-groups : goal.returns-in_default-clause-groups
 returns-in_default-clause-groups c =
     let none = no_entry (goal.at.returns-in_default-clause-groups c).After-find c.in_default.ensures in
-    sym (ap (λ w. set_at c.args.self.now.groups c.args.path.now (option_map (with_new c.args.value.now) w)) none
+    sym (ap (λ w. set_at c.args.self.now.groups c.args.path.now (option_map (with_new c.args.value) w)) none
     ∙ ap (set_at c.args.self.now.groups c.args.path.now) (sym none)
     ∙ set_same path_cmp_total path_cmp_exact c.args.self.now.groups c.args.path.now)
 
@@ -48,4 +48,4 @@ returns-clause-groups c =
     let own : Some c.in-Some.key ≡ get c.self.inside.nodes.keys c.args.path.now = c.in-Some.ensures in
     let place = at_path c.self.inside.nodes c.in-Some.key c.args.path.now c.laws.ensures.one_path (sym own) in
     let view = ap (λ (v : Contents). v.groups) c.self.view_is in
-    c.put_value.ensures.groups ∙ (λ i. set_at (view i) (place i) (option_map (with_new c.args.value.now) (get (view i) (place i))))
+    c.put_value.ensures.groups ∙ (λ i. set_at (view i) (place i) (option_map (with_new c.args.value) (get (view i) (place i))))

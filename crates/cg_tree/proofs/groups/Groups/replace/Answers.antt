@@ -21,7 +21,7 @@ pub returns-in-Some-clause-there : goal.returns-in-Some-clause-there
 returns-in-Some-clause-there c some =
     let own : Some c.in-Some.key ≡ get c.self.inside.nodes.keys c.args.path.now = c.in-Some.ensures in
     let place = at_path c.self.inside.nodes c.in-Some.key c.args.path.now c.laws.ensures.one_path (sym own) in
-    c.put.ensures.groups ∙ (λ i. set_at ((ap (λ (v : Contents). v.groups) c.self.view_is) i) (place i) (Some c.args.settings.now))
+    c.put.ensures.groups ∙ (λ i. set_at ((ap (λ (v : Contents). v.groups) c.self.view_is) i) (place i) (Some c.args.settings))
 
 pub returns-in-Some-clause-absent : goal.returns-in-Some-clause-absent
 returns-in-Some-clause-absent c none =

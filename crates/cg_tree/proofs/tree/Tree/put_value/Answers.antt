@@ -14,8 +14,8 @@ use Rattle.cg_tree.proofs.tree.Tree.put_value.Goals as goal
 use Rattle.cg_tree.proofs.tree.Tree.put_value.Goals.{After-change-found}
 
 same_room : (c : After-change-found)
-    → room_of (with_map c.self.inside c.args.path.now c.change-found.new.self c.change-found.ensures.places) ≡ with_group (room_of c.self.inside) c.args.path.now (with_new c.args.value.now (group (room_of c.self.inside).tree c.args.path.now))
-same_room c = value_written c.self.inside c.args.path.now c.change-found.new.self c.change-found.ensures.places c.args.value.now c.change-found.ensures.groups
+    → room_of (with_map c.self.inside c.args.path.now c.change-found.new.self c.change-found.ensures.places) ≡ with_group (room_of c.self.inside) c.args.path.now (with_new c.args.value (group (room_of c.self.inside).tree c.args.path.now))
+same_room c = value_written c.self.inside c.args.path.now c.change-found.new.self c.change-found.ensures.places c.args.value c.change-found.ensures.groups
 
 pub invariant_of-self : goal.invariant_of-self
 invariant_of-self c =
@@ -25,21 +25,21 @@ invariant_of-self c =
     record {
       rooted =
           subst IsRooted (sym same)
-          (group_put (room_of c.self.inside) c.args.path.now (with_new c.args.value.now before) c.self.invariant.rooted c.names.ensures.valid
-          (cpus_in_range c.args.value.now before c.tell_cpus.ensures (λ s is. (c.self.invariant.rooted.valid.groups c.args.path.now s is).1))
-          (λ some. c.self.invariant.rooted.groups c.args.path.now (was_there c.args.value.now before some)));
+          (group_put (room_of c.self.inside) c.args.path.now (with_new c.args.value before) c.self.invariant.rooted c.names.ensures.valid
+          (cpus_in_range c.args.value before c.tell_cpus.ensures (λ s is. (c.self.invariant.rooted.valid.groups c.args.path.now s is).1))
+          (λ some. c.self.invariant.rooted.groups c.args.path.now (was_there c.args.value before some)));
       pids = c.self.invariant.pids ∙ ap keys (sym c.change-found.ensures.places);
       unlimited = λ no.
           subst AreUnlimited (sym (ap (λ t. t.tree.groups) same))
-          (unlimited_put (present c.self.inside.groups.groups) c.args.path.now (with_new c.args.value.now before) (c.self.invariant.unlimited (first_false c.self.inside.may_limit _ no))
-          (still_unlimited c.args.value.now before (λ some. sym c.is_limit.ensures ∙ sym (ap (λ b. b && c.is_limit.result) (found ∙ some)) ∙ second_false c.self.inside.may_limit _ no)
+          (unlimited_put (present c.self.inside.groups.groups) c.args.path.now (with_new c.args.value before) (c.self.invariant.unlimited (first_false c.self.inside.may_limit _ no))
+          (still_unlimited c.args.value before (λ some. sym c.is_limit-is_limit.ensures ∙ sym (ap (λ b. b && c.is_limit-is_limit.result) (found ∙ some)) ∙ second_false c.self.inside.may_limit _ no)
           (c.self.invariant.unlimited (first_false c.self.inside.may_limit _ no) c.args.path.now)));
     }
 
 pub returns-clause-tree : goal.returns-clause-tree
 returns-clause-tree c =
     ap (λ t. t.tree) (same_room (goal.at.returns-clause-tree c).After-change-found)
-    ∙ ap (λ t. (with_group t c.args.path.now (with_new c.args.value.now (group t.tree c.args.path.now))).tree) c.self.view_is
+    ∙ ap (λ t. (with_group t c.args.path.now (with_new c.args.value (group t.tree c.args.path.now))).tree) c.self.view_is
 
 pub returns-clause-entries : goal.returns-clause-entries
 returns-clause-entries c = ap (λ t. t.entries) (same_room (goal.at.returns-clause-entries c).After-change-found) ∙ ap (λ t. t.entries) c.self.view_is
