@@ -110,6 +110,7 @@ impl Player {
 
     /// The session of this name, which gets the next number where it is new: none where it is one too many. An error, where there is
     /// no memory, leaves all as it was.
+    #[inline(always)]
     pub fn session(&mut self, name: SessionName) -> Result<Option<SessionId>, AllocError>
         ensures number { IfOk result (λ s. option_map (λ k. k.0) s ≡ session_number self.old.names name) }
         ensures names { IfOk result (λ s. MatchOption s (self.new ≡ self.old) (λ _. self.new ≡ record self.old { names = with_name self.old.names name })) }
@@ -137,6 +138,7 @@ impl Player {
 
     /// Answers the request of the session with this name: no answer where that is one too many. An error, where there is no memory,
     /// leaves all as it was.
+    #[inline(always)]
     pub fn ask(
         &mut self,
         alloc: Global,
@@ -160,6 +162,7 @@ impl Player {
     }
 
     /// Answers the request of the session with this number. An error, where there is no memory, leaves all as it was.
+    #[inline(always)]
     pub fn step(
         &mut self,
         alloc: Global,
@@ -247,6 +250,7 @@ impl Player {
     }
 
     // Answers a session's request.
+    #[inline(always)]
     fn tell(
         &mut self,
         alloc: Global,

@@ -18,6 +18,7 @@ use std::alloc::{AllocError, Global};
 
 /// Which session asks for what by this line: `None` where the line is blank or a comment. `Syntax` where it
 /// isn't a line of the grammar, too long, or not UTF-8.
+#[inline(always)]
 pub fn read_line(alloc: Global, line: &[u8]) -> Result<Option<(SessionName, Request)>, Refusal>
     ensures value { IfOk result (λ call. SpellsLine line.now (option_map (λ c. (c.0, request_of c.1)) call)) }
     ensures syntax { IsErrOf result Refusal.Syntax → (call : Option (List ℕ × model.Request cgroups)) → SpellsLine line.now call → ⊥ }
@@ -31,6 +32,7 @@ pub fn read_line(alloc: Global, line: &[u8]) -> Result<Option<(SessionName, Requ
 }
 
 // The session and the request that the words of a line spell.
+#[inline(always)]
 fn read_call(alloc: Global, words: &[&str]) -> Result<(SessionName, Request), Refusal>
     ensures value { IfOk result (λ c. SpellsCall (map (λ w. w.now) words.now) c.0 (request_of c.1)) }
     ensures syntax { IsErrOf result Refusal.Syntax → (n : List ℕ) (r : model.Request cgroups) → SpellsCall (map (λ w. w.now) words.now) n r → ⊥ }
@@ -45,6 +47,7 @@ fn read_call(alloc: Global, words: &[&str]) -> Result<(SessionName, Request), Re
 }
 
 // The request that the words behind a session's name spell.
+#[inline(always)]
 pub(crate) fn read_request(alloc: Global, words: &[&str]) -> Result<Request, Refusal>
     ensures value { IfOk result (λ r. SpellsRequest (map (λ w. w.now) words.now) (request_of r)) }
     ensures syntax { IsErrOf result Refusal.Syntax → (r : model.Request cgroups) → SpellsRequest (map (λ w. w.now) words.now) r → ⊥ }
