@@ -1,5 +1,5 @@
 -- What is packed, and what is unpacked from it.
-use Rattle.std.proofs.Common.{◌≡◌, ℕ, ◌+◌, ◌<◌, ◌≤◌, ◌==◌, Bool, true, false, cond, List, [], ◌∷◌, ◌++◌, Some, None, Result, Ok, Err, IsOk, OnOk, length, take, drop, get_or, refl, sym, ap, subst, ◌∙◌, arith, add-one, zero, suc, length-append, take-append-drop, drop-cons, append_assoc, length-take, ◌&&◌}
+use Rattle.std.proofs.Common.{◌≡◌, ℕ, ◌+◌, ◌<◌, ◌≤◌, ◌==◌, Bool, true, false, cond, List, [], ◌∷◌, ◌++◌, Some, None, length, take, drop, get_or, refl, sym, ap, subst, ◌∙◌, arith, add-one, zero, suc, length-append, take-append-drop, drop-cons, append_assoc, length-take, ◌&&◌}
 use Rattle.std.specs.List.{AllByRecursion, count_by, slice_get}
 use Rattle.std.specs.Cmp.Lexicographic.{texts_ties, bytes_decides}
 use Rattle.std.proofs.lemmas.List.{take_all, append_cancel_left}
@@ -259,8 +259,3 @@ next_name b bs h =
     let path : IsPath (first_name bs ∷ names_in bs) = subst IsPath first h.path in
     let others : IsPath (names_in bs) = record { names = path.names.1; depth = omega (arith, path.depth) } in
     (first ∙ ap (λ p. first_name bs ∷ p) (sym (names_behind bs)), record { start = start_behind bs; path = subst IsPath (sym (names_behind bs)) others })
-
--- what was asked to succeed has done so
-pub ok_gives : {T E P : Type 0} (r : Result T E) → IsOk r → OnOk r P → P
-ok_gives (Ok x) e h = h
-ok_gives (Err y) e h = absurd (false≢true e)

@@ -8,7 +8,7 @@ use Rattle.std.proofs.lemmas.List.{append-nil, take_all, take_more, take_more_se
 use Rattle.std.proofs.lemmas.List.Elements.{All-from_recursion}
 use Rattle.std.proofs.lemmas.List.Folds.{drop_split}
 use Rattle.std.proofs.lemmas.List.Splits.{slice_split_none, slice_split_at, length-slice_split}
-use Rattle.std.proofs.Math.ListN.{set, length-map}
+use Rattle.std.proofs.Math.ListN.{set}
 use Rattle.std.proofs.Math.Seq.{take-append_seam, drop-append_seam}
 use borrow.Author.Tests.{ne_eqb}
 use Rattle.cg_name.specs.Name.{IsName, IsNameByte}
@@ -176,12 +176,10 @@ kept_path (n ∷ p) low h = kept_names (n ∷ p) h
 kept_text : (text : List ℕ) → IsPath (pieces text) → 0 ∷ map marked text ≡ packed_text (pieces text)
 kept_text text h = sym (ap (map marked) (path_text-pieces text)) ∙ kept_path (pieces text) (omega (arith, length-slice_split (λ b. b == 47) text)) h.names
 
--- the text that is marked in its place is that of the path
-pub kept_packed : (text old new bytes : List ℕ) → IsPath (pieces text) → old ≡ 0 ∷ text → new ≡ map marked old → bytes ≡ take (length old) (new ++ drop (length new) old) → IsPacked bytes × (names_in bytes ≡ pieces text)
-kept_packed text old new bytes h eo en eb =
-    let long : length new ≡ length old = ap length en ∙ length-map old marked in
-    let e : bytes ≡ map marked (0 ∷ text) = eb ∙ ap (λ k. take k (new ++ drop (length new) old)) (sym long) ∙ take-append_seam new (drop (length new) old) ∙ en ∙ ap (map marked) eo in
-    let same : bytes ≡ packed_text (pieces text) = e ∙ kept_text text h in
+-- it is that of the path
+pub kept_packed : (text : List ℕ) → IsPath (pieces text) → IsPacked (0 ∷ map marked text) × (names_in (0 ∷ map marked text) ≡ pieces text)
+kept_packed text h =
+    let same = kept_text text h in
     let back : names_in (packed_text (pieces text)) ≡ pieces text = names_in-packed_text (pieces text) h in
     let packed : IsPacked (packed_text (pieces text)) = record { start = start-packed_text (pieces text); path = subst IsPath (sym back) h } in
     (subst IsPacked (sym same) packed, ap names_in same ∙ back)

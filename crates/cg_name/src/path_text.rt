@@ -1,0 +1,140 @@
+// The text of a path, in 16 bytes.
+ghost use Rattle.std.specs.Prelude.{◌≡◌, ◌∷◌, ◌++◌, [], IfOk, map};
+ghost use Rattle.cg_name.specs.Pieces.{marked};
+
+use crate::slashed::mark_names;
+use smallvec::SmallVec;
+use std::alloc::{AllocError, Global};
+use std::marker::Model;
+use std::sync::Arc;
+
+// The most bytes of a text that takes no allocation.
+const SHORT: usize = 14;
+
+// The text of a path. A copy of it takes no memory.
+#[derive(Drop)]
+pub(crate) struct PathText {
+    kept: Kept,
+}
+
+// It is handed on in one step.
+const _: () = prove!(size_of::<PathText>() == 16);
+
+#[derive(Drop)]
+enum Kept {
+    // How many bytes there are, and they, with others behind them.
+    Short(u8, [u8; SHORT]),
+    // Most such texts lie in the one allocation that the copies share.
+    Long(Arc<SmallVec<u8, 40>, Global>),
+}
+
+impl Model for PathText {
+    ghost use Rattle.std.specs.Prelude.{List, ℕ};
+
+    ghost Value = { List ℕ };
+
+    ghost use Rattle.cg_name.specs.PathText.{bytes_in, IsWithin};
+
+    ghost view = { λ t. bytes_in t.kept };
+
+    ghost invariant = { λ t. IsWithin t.kept };
+}
+
+impl PathText {
+    // The text with no bytes.
+    pub(crate) fn empty() -> PathText
+        ensures { result ≡ [] }
+    {
+        PathText {
+            kept: Kept::Short(0, [0; SHORT]),
+        }
+    }
+
+    // These bytes; an error where there is no memory for them.
+    pub(crate) fn from_slice(alloc: Global, bytes: &[u8]) -> Result<PathText, AllocError>
+        ensures { IfOk result (λ t. t ≡ bytes.now) }
+    {
+        let len = bytes.len();
+        if len > SHORT {
+            return PathText::shared(alloc, SmallVec::from_slice(alloc, bytes)?);
+        }
+        let mut short = [0u8; SHORT];
+        short[..len].copy_from_slice(bytes);
+        Ok(PathText {
+            kept: Kept::Short(len as u8, short),
+        })
+    }
+
+    // A zero byte and this text, with zero bytes for its slashes; an error where there is no memory for it.
+    pub(crate) fn from_names(alloc: Global, names: &[u8]) -> Result<PathText, AllocError>
+        ensures { IfOk result (λ t. t ≡ 0 ∷ map marked names.now) }
+    {
+        let len = names.len() + 1;
+        if len > SHORT {
+            let mut bytes = SmallVec::with_capacity(alloc, len)?;
+            bytes.push_reserved(0);
+            bytes.extend_from_slice(names)?;
+            mark_names(bytes.as_mut_slice());
+            return PathText::shared(alloc, bytes);
+        }
+        let mut short = [0u8; SHORT];
+        short[1..len].copy_from_slice(names);
+        // Those behind the text are marked too: a fixed number of bytes is done many at a time.
+        mark_names(&mut short);
+        Ok(PathText {
+            kept: Kept::Short(len as u8, short),
+        })
+    }
+
+    // This text, a zero byte and the name; an error where there is no memory for it.
+    pub(crate) fn with_name(&self, alloc: Global, name: &[u8]) -> Result<PathText, AllocError>
+        ensures { IfOk result (λ t. t ≡ self.now ++ 0 ∷ name.now) }
+    {
+        let text = self.as_slice();
+        let start = text.len() + 1;
+        let len = start + name.len();
+        if len > SHORT {
+            let mut bytes = SmallVec::with_capacity(alloc, len)?;
+            bytes.extend_from_slice(text)?;
+            bytes.push_reserved(0);
+            bytes.extend_from_slice(name)?;
+            return PathText::shared(alloc, bytes);
+        }
+        let mut short = [0u8; SHORT];
+        short[..text.len()].copy_from_slice(text);
+        short[start..len].copy_from_slice(name);
+        Ok(PathText {
+            kept: Kept::Short(len as u8, short),
+        })
+    }
+
+    // These bytes, to be shared by the copies; an error where there is no memory for them.
+    fn shared(alloc: Global, bytes: SmallVec<u8, 40>) -> Result<PathText, AllocError>
+        ensures { IfOk result (λ t. t ≡ bytes.items) }
+    {
+        Ok(PathText {
+            kept: Kept::Long(Arc::new(alloc, bytes)?),
+        })
+    }
+
+    // The bytes of the text.
+    pub(crate) fn as_slice(&self) -> &[u8]
+        ensures { result.now ≡ self.now }
+    {
+        match &self.kept {
+            Kept::Short(len, bytes) => &bytes[..usize::from(*len)],
+            Kept::Long(bytes) => bytes.as_slice(),
+        }
+    }
+
+    // The same text, which takes no memory; an error where it is shared by too many to count.
+    pub(crate) fn copy(&self) -> Result<PathText, AllocError>
+        ensures { IfOk result (λ t. t ≡ self.now) }
+    {
+        let kept = match &self.kept {
+            Kept::Short(len, bytes) => Kept::Short(*len, *bytes),
+            Kept::Long(bytes) => Kept::Long(bytes.clone()?),
+        };
+        Ok(PathText { kept })
+    }
+}
