@@ -7,6 +7,7 @@ use crate::cpus::BoxedCpus;
 use cg_text::{Controllers, Limit, Settings};
 use std::alloc::{AllocError, Global};
 use std::marker::Model;
+use std::mem::replace;
 
 /// What the interface files of one group hold. The CPUs that it asks for have memory of their own, where there are any.
 pub struct CompactSettings {
@@ -159,11 +160,12 @@ impl CompactSettings {
         self.freeze = value;
     }
 
-    /// Writes `cpuset.cpus`. Takes no memory.
-    pub fn set_cpus(&mut self, value: BoxedCpus)
-        ensures { self.new ≡ record self.old { cpus = value } }
+    /// Writes `cpuset.cpus`, and gives the CPUs that were asked for before. Takes no memory.
+    pub fn set_cpus(&mut self, value: BoxedCpus) -> BoxedCpus
+        ensures settings { self.new ≡ record self.old { cpus = value } }
+        ensures before { result ≡ self.old.cpus }
     {
-        self.cpus = value;
+        replace(&mut self.cpus, value)
     }
 
     /// Writes `cgroup.max.descendants`.

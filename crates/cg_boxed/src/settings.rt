@@ -1,10 +1,10 @@
 //! Settings of a group in memory of their own.
-ghost use Rattle.std.specs.Prelude.{◌≡◌, ◌↔◌, IfOk, IsOk, IsTrue, true};
+ghost use Rattle.std.specs.Prelude.{◌≡◌, ◌↔◌, IfErr, IfOk, IsOk, IsTrue, true};
 ghost use Rattle.cg_maps.specs.FiniteSet.{is_empty_set};
 ghost use Rattle.cg_text.specs.Settings.{fresh};
 
 use crate::compact::CompactSettings;
-use std::alloc::{AllocError, Global};
+use std::alloc::{AllocError, AllocFailed, Global};
 use std::marker::Model;
 
 /// What the interface files of one group hold. The settings of a new group take no memory of their own.
@@ -38,9 +38,13 @@ impl BoxedSettings {
         BoxedSettings { settings: None }
     }
 
-    /// These settings; an error where there is no memory for them.
-    pub fn new(alloc: Global, settings: CompactSettings) -> Result<BoxedSettings, AllocError>
-        ensures { IfOk result (λ b. b ≡ settings) }
+    /// These settings. Where there is no memory for them they are handed back.
+    pub fn new(
+        alloc: Global,
+        settings: CompactSettings,
+    ) -> Result<BoxedSettings, AllocFailed<CompactSettings>>
+        ensures ok { IfOk result (λ b. b ≡ settings) }
+        ensures value_returned { IfErr result (λ failed. failed.value ≡ settings) }
     {
         Ok(BoxedSettings {
             settings: Some(Box::new(alloc, settings)?),

@@ -1,26 +1,24 @@
--- One change, and the room that undoing it needs.
-use Rattle.std.proofs.Common.{◌≡◌, ℕ, true, List, [], ◌∷◌, Option, Some, None, is_some, refl, sym, ap, subst}
-use Rattle.cg_maps.specs.FiniteMap.{get}
+-- A group that is put back, and one that a process is moved into.
+use Rattle.std.proofs.Common.{◌≡◌, ℕ, true, Option, Some, None, is_some, refl, ap, ◌∙◌}
+use Rattle.cg_maps.specs.FiniteMap.{set_at}
+use Rattle.cg_maps.proofs.Maps.{set_same, set_set}
+use Rattle.cg_name.specs.Order.{path_cmp_total, path_cmp_exact}
 use Rattle.cg_name.specs.Path.{Path}
 use Rattle.cg_text.specs.declared.settings.Settings.{Settings}
-use Rattle.cg_inverse.specs.Meaning.{HasRoomIn}
-use Rattle.cg_model.specs.Change.{Change}
 use Rattle.cg_model.specs.Command.{IsAccepted, Migrate}
 use Rattle.cg_model.specs.Effect.{effect}
-use Rattle.cg_model.specs.Key.{Group}
-use Rattle.cg_model.specs.Room.{RoomFor, room_for}
 use Rattle.cg_model.specs.Tree.{Tree, group, place_of}
 use Rattle.cg_model.specs.Writes.{migrate_effect}
-use Rattle.cg_tree.specs.Room.{TreeWithRoom, has_entry, IsRooted}
+use Rattle.cg_tree.specs.Room.{TreeWithRoom}
 
--- a group that is there has its entry
-pub room_for_group : (t : TreeWithRoom) → IsRooted t → (p : Path) (v : Option Settings) → v ≡ group t.tree p → room_for (has_entry t) (Group p) v
-room_for_group t rooted p None h = tt
-room_for_group t rooted p (Some s) h = rooted.groups p (ap is_some (sym h))
-
--- room to undo a change, with the same entries
-pub room_left : (c : Change) (t u : TreeWithRoom) (cs : List Change) → cs ≡ c ∷ [] → u.entries ≡ t.entries → HasRoomIn t c → RoomFor (has_entry u) cs
-room_left c t u cs h same room = subst (RoomFor (has_entry u)) (sym h) (subst (λ E. room_for (λ p. is_some (get E p)) c.key c.before) (sym same) room, tt)
+-- a group that was taken away is put back
+pub put_back : (t u v : TreeWithRoom) (p : Path) (w : Option Settings) → w ≡ group t.tree p → u.tree ≡ record t.tree { groups = set_at t.tree.groups p None } → u.entries ≡ t.entries
+    → v.tree ≡ record u.tree { groups = set_at u.tree.groups p w } → v.entries ≡ u.entries → v ≡ t
+put_back t u v p w is gone same back still =
+    let groups : set_at (set_at t.tree.groups p None) p w ≡ t.tree.groups =
+    set_set path_cmp_total path_cmp_exact t.tree.groups p None w ∙ ap (set_at t.tree.groups p) is ∙ set_same path_cmp_total path_cmp_exact t.tree.groups p in
+    let whole : v.tree ≡ t.tree = back ∙ ap (λ (T : Tree). record T { groups = set_at T.groups p w }) gone ∙ ap (λ G. record t.tree { groups = G }) groups in
+    λ i. record { tree = whole i; entries = (still ∙ same) i }
 
 -- a process is moved into a group that is there
 accepted_into : (k : ℕ) (p : Path) (o : Option Path) (g : Option Settings) → IsAccepted (migrate_effect k p o g) → is_some g ≡ true

@@ -60,7 +60,7 @@ pub controlled_parts : (p : Path) (s t : Controllers) (es : List (Path × Settin
 controlled_parts p s t es = all_emptied_parts (cond (loses_cpuset s t) es []) (control_change p s t) (tt, tt)
 
 -- the set of no number is empty
-pub none_is_empty : is_empty_set no_members ≡ true
+none_is_empty : is_empty_set no_members ≡ true
 none_is_empty = (empty_has_none no_members).1 has-no_members
 
 emptied_leave : (b : Bool) (p : Path) (s : Settings) (cs : List Change) → LeaveNoCpus cs → LeaveNoCpus (cond b cs (change (Part p Cpus) (Some s.cpus) (Some empty) ∷ cs))

@@ -1,20 +1,15 @@
 //! What each accepted command changes, and the inverse of that.
-ghost use Rattle.std.specs.Prelude.{◌≡◌, ◌∷◌, [], IfOk, IsOk, OnErr, OnOk};
 ghost use Rattle.cg_command.specs.Applied.{IsCarriedOut};
-ghost use Rattle.cg_inverse.specs.Meaning.{change_of, HasRoomIn, HasRoomToMake, LeavesNoCpus};
 ghost use Rattle.cg_model.specs.Command as model;
 ghost use Rattle.cg_model.specs.Command.{IsAccepted};
 ghost use Rattle.cg_model.specs.Effect.{effect};
-ghost use Rattle.cg_model.specs.Key.{put};
-ghost use Rattle.cg_model.specs.Room.{RoomFor};
-ghost use Rattle.cg_tree.specs.Room.{has_entry};
 
 use crate::command::Outcome;
-use cg_boxed::{BoxedCpus, BoxedSettings};
+use cg_boxed::{BoxedCpus, BoxedSettings, CompactSettings};
 use cg_inverse::{Change, Inverse};
 use cg_name::Path;
 use cg_text::{FileName, Limit};
-use cg_tree::Tree;
+use cg_tree::{NewValue, Tree};
 use std::alloc::{AllocError, Global};
 
 // Makes the group at the path, with the settings of a new one.
@@ -32,9 +27,8 @@ pub(crate) fn create(
         before: None,
         left: Some(BoxedSettings::fresh()),
     };
-    tree.make_room(alloc, path)?;
-    // The settings of a new group take no memory, so that the room isn't left without the group.
-    Ok((Outcome::Done, change_one(alloc, change, tree)?))
+    tree.make_group(alloc, path, CompactSettings::fresh())?;
+    Ok((Outcome::Done, Inverse::of_one(alloc, change)))
 }
 
 // Takes the group at the path away. Its entry stays.
@@ -47,18 +41,27 @@ pub(crate) fn remove(
     requires { IsAccepted (effect (model.Remove path.now) tree.old.tree) }
     ensures { IsCarriedOut (model.Remove path.now) tree.old result tree.new }
 {
-    let Some(settings) = tree.settings(path) else {
+    // Each group has an entry.
+    tree.laws();
+    let own = path.copy(alloc)?;
+    let Some(settings) = tree.take_group(path) else {
         // The group of an accepted command is there.
         unreachable!()
     };
-    // Each group has an entry.
-    tree.laws();
+    let before = match BoxedSettings::new(alloc, settings) {
+        Ok(before) => before,
+        Err(failed) => {
+            // There is no memory for them: the group is put back.
+            tree.put_group(path, Some(failed.value));
+            return Err(AllocError);
+        }
+    };
     let change = Change::Group {
-        path: path.copy(alloc)?,
-        before: Some(BoxedSettings::new(alloc, settings.copy(alloc)?)?),
+        path: own,
+        before: Some(before),
         left: None,
     };
-    Ok((Outcome::Done, change_one(alloc, change, tree)?))
+    Ok((Outcome::Done, Inverse::of_one(alloc, change)))
 }
 
 // Moves the process into the group.
@@ -83,7 +86,8 @@ pub(crate) fn migrate(
         before,
         left: path.copy(alloc)?,
     };
-    Ok((Outcome::Done, change_one(alloc, change, tree)?))
+    tree.put_place(pid, path);
+    Ok((Outcome::Done, Inverse::of_one(alloc, change)))
 }
 
 // Writes `cgroup.freeze`.
@@ -97,32 +101,17 @@ pub(crate) fn freeze(
     requires { IsAccepted (effect (model.Freeze path.now value) tree.old.tree) }
     ensures { IsCarriedOut (model.Freeze path.now value) tree.old result tree.new }
 {
-    let Some(settings) = tree.settings(path) else {
+    let own = path.copy(alloc)?;
+    let Some(NewValue::Freeze(before)) = tree.swap_value(path, NewValue::Freeze(value)) else {
         // The group of an accepted command is there.
         unreachable!()
     };
     let change = Change::Freeze {
-        path: path.copy(alloc)?,
-        before: settings.freeze(),
+        path: own,
+        before,
         left: value,
     };
-    Ok((Outcome::Done, change_one(alloc, change, tree)?))
-}
-
-// Makes the change, for which and for undoing which the entries are there, and gives its inverse. An error, where there is no
-// memory for the CPUs that are left, leaves the tree as it was; where none are left, it takes none.
-fn change_one(alloc: Global, change: Change, tree: &mut Tree) -> Result<Inverse, AllocError>
-    requires made { HasRoomToMake tree.old (change_of change) }
-    requires undone { HasRoomIn tree.old (change_of change) }
-    ensures inverse { IfOk result (λ i. i ≡ change_of change ∷ []) }
-    ensures tree { OnOk result (tree.new.tree ≡ put (change_of change).key (change_of change).left tree.old.tree) }
-    ensures room { IfOk result (λ i. RoomFor (has_entry tree.new) i) }
-    ensures entries { OnOk result (tree.new.entries ≡ tree.old.entries) }
-    ensures err { OnErr result (tree.new ≡ tree.old) }
-    ensures without_cpus { LeavesNoCpus (change_of change) → IsOk result }
-{
-    change.put_left(alloc, tree)?;
-    Ok(Inverse::of_one(alloc, change))
+    Ok((Outcome::Done, Inverse::of_one(alloc, change)))
 }
 
 // Writes `cpuset.cpus`.
@@ -136,16 +125,19 @@ pub(crate) fn cpus(
     requires { IsAccepted (effect (model.Cpus path.now value.now) tree.old.tree) }
     ensures { IsCarriedOut (model.Cpus path.now value.now) tree.old result tree.new }
 {
-    let Some(settings) = tree.settings(path) else {
+    let own = path.copy(alloc)?;
+    let left = value.copy(alloc)?;
+    let value = NewValue::Cpus(value.copy(alloc)?);
+    let Some(NewValue::Cpus(before)) = tree.swap_value(path, value) else {
         // As above.
         unreachable!()
     };
     let change = Change::Cpus {
-        path: path.copy(alloc)?,
-        before: settings.cpus().copy(alloc)?,
-        left: value.copy(alloc)?,
+        path: own,
+        before,
+        left,
     };
-    Ok((Outcome::Done, change_one(alloc, change, tree)?))
+    Ok((Outcome::Done, Inverse::of_one(alloc, change)))
 }
 
 // Writes `cgroup.max.descendants`.
@@ -159,16 +151,18 @@ pub(crate) fn max_descendants(
     requires { IsAccepted (effect (model.MaxDescendants path.now limit) tree.old.tree) }
     ensures { IsCarriedOut (model.MaxDescendants path.now limit) tree.old result tree.new }
 {
-    let Some(settings) = tree.settings(path) else {
+    let own = path.copy(alloc)?;
+    let value = NewValue::MaxDescendants(limit);
+    let Some(NewValue::MaxDescendants(before)) = tree.swap_value(path, value) else {
         // As above.
         unreachable!()
     };
     let change = Change::MaxDescendants {
-        path: path.copy(alloc)?,
-        before: settings.max_descendants(),
+        path: own,
+        before,
         left: limit,
     };
-    Ok((Outcome::Done, change_one(alloc, change, tree)?))
+    Ok((Outcome::Done, Inverse::of_one(alloc, change)))
 }
 
 // Writes `cgroup.max.depth`.
@@ -182,16 +176,18 @@ pub(crate) fn max_depth(
     requires { IsAccepted (effect (model.MaxDepth path.now limit) tree.old.tree) }
     ensures { IsCarriedOut (model.MaxDepth path.now limit) tree.old result tree.new }
 {
-    let Some(settings) = tree.settings(path) else {
+    let own = path.copy(alloc)?;
+    let value = NewValue::MaxDepth(limit);
+    let Some(NewValue::MaxDepth(before)) = tree.swap_value(path, value) else {
         // As above.
         unreachable!()
     };
     let change = Change::MaxDepth {
-        path: path.copy(alloc)?,
-        before: settings.max_depth(),
+        path: own,
+        before,
         left: limit,
     };
-    Ok((Outcome::Done, change_one(alloc, change, tree)?))
+    Ok((Outcome::Done, Inverse::of_one(alloc, change)))
 }
 
 // Sets which CPUs are online.
@@ -207,7 +203,8 @@ pub(crate) fn online(
         before: BoxedCpus::new(alloc, tree.online())?,
         left: value.copy(alloc)?,
     };
-    Ok((Outcome::Done, change_one(alloc, change, tree)?))
+    tree.put_online(value.get());
+    Ok((Outcome::Done, Inverse::of_one(alloc, change)))
 }
 
 // Tells the text of the file.

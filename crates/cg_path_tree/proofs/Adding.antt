@@ -131,11 +131,17 @@ module _ {V Z : Type 0} (es fs : List (String Z × NodeKey)) (nodes : slab.Slab 
     added : IsAdded
     added = is_added parent refl
 
-    pub linked-added : IsLinked fs later
-    linked-added = record {
+    longer : length fs ≡ length es + 1
+    longer =
+        sym (length-by_paths (λ s. string_bytes s) fs) ∙ ap length entered ∙ length-append (paths_of es) ((p, k) ∷ [])
+        ∙ ap (λ n. n + 1) (length-by_paths (λ s. string_bytes s) es)
+
+    pub linked-added : length es < 4294967295 → IsLinked fs later
+    linked-added few = record {
       packed = packed;
       tree = subst (λ xs. IsTree (children_in xs) xs (node_in later)) (sym entered) added.tree;
       kin = subst (λ xs. AreKin xs (kin_in later)) (sym entered) added.kin;
+      few = omega (arith, longer);
     }
 
     pub keys-added : from_entries path_cmp (paths_of fs) ≡ set_at g.keys p (Some k)
@@ -177,6 +183,7 @@ module _ {V Z : Type 0} (es fs : List (String Z × NodeKey)) (nodes later : slab
         packed = l.packed;
         tree = subst (λ f. IsTree (children_in (paths_of es)) (paths_of es) f) (sym all_alike) l.tree;
         kin = subst (λ (f : NodeKey → Option (NodeView V)). AreKin (paths_of es) (λ i. option_map kin_of (f i))) (sym all_alike) l.kin;
+        few = l.few;
       } in
       subst (λ xs. IsLinked xs later) (sym same) kept
 

@@ -63,7 +63,7 @@ module _ {V Z : Type 0} (es : List (String Z × NodeKey)) (nodes : slab.Slab (No
     pub linked-written : IsLinked es later
     linked-written =
         let same : kin_in later ≡ kin_in nodes = λ j i. kin_kept i j in
-        record { packed = l.packed; tree = tree_written; kin = subst (AreKin (paths_of es)) (sym same) l.kin }
+        record { packed = l.packed; tree = tree_written; kin = subst (AreKin (paths_of es)) (sym same) l.kin; few = l.few }
 
     found_again : (q : Path) → find path_cmp q (paths_of es) ≡ cond (eq_by_cmp path_cmp q p) (Some k) (find path_cmp q (paths_of es))
     found_again q = elim (tell q p) [

@@ -1,5 +1,5 @@
 -- What a tree is seen as when a node is taken out.
-use Rattle.std.proofs.Common.{◌≡◌, ◌≢◌, ℕ, ◌+◌, ◌<◌, Bool, true, false, cond, List, [], ◌∷◌, length, get_or, Option, None, Some, IsSome, is_some, option_map, String, string_bytes, refl, sym, ap, subst, ◌∙◌, arith, true≢false, add-zero, inl, inr}
+use Rattle.std.proofs.Common.{◌≡◌, ◌≢◌, ℕ, suc, ◌+◌, ◌<◌, Bool, true, false, cond, List, [], ◌∷◌, length, get_or, Option, None, Some, IsSome, is_some, option_map, String, string_bytes, refl, sym, ap, subst, ◌∙◌, arith, true≢false, add-zero, inl, inr}
 use Rattle.std.specs.List.{slice_get, count_by, swap_remove}
 use Rattle.std.specs.Ordering.{eq_by_cmp}
 use Rattle.std.specs.FinMap.Entries.{find}
@@ -327,8 +327,14 @@ module _ {V Z : Type 0} (es : List (String Z × NodeKey)) (nodes : slab.Slab (No
                   | inr a ↦ (j, a.2)
                 ]) l.packed
 
+            still_few : length fs < 4294967296
+            still_few =
+                let shorter : length es ≡ suc (length fs) = subst (λ xs. length es ≡ suc (length xs)) (sym left) loses.len in
+                let few : length es < 4294967296 = l.few in
+                omega arith
+
             pub linked-removed : IsLinked fs later
-            linked-removed = record { packed = still_packed; tree = removed.tree; kin = removed.kin }
+            linked-removed = record { packed = still_packed; tree = removed.tree; kin = removed.kin; few = still_few }
 
             found : (q : Path) → find path_cmp q (paths_of fs) ≡ cond (eq_by_cmp path_cmp q p) None (find path_cmp q (paths_of es))
             found = find-lose (paths_of es) (paths_of fs) n.entry p k losing_fs its_entry l.tree.once

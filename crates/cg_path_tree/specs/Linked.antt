@@ -107,11 +107,12 @@ module _ {V : Type 0} where
     pub once : (i j : ℕ) (e f : Path × NodeKey) → slice_get es i ≡ Some e → slice_get es j ≡ Some f → e.0 ≡ f.0 → i ≡ j
     pub node_of : (j : ℕ) (e : Path × NodeKey) → slice_get es j ≡ Some e → (n : NodeView V) × (node e.1 ≡ Some n) × IsNodeAt count es j e.0 n
 
-  -- the index has the texts of paths, and the nodes are those of its entries
+  -- the index has the texts of paths, and the nodes are those of its entries, so many that each has a number of 32 bits
   pub record IsLinked {Z : Type 0} (es : List (String Z × NodeKey)) (nodes : slab.Slab (Node V)) : Type 0 where
     pub packed : HavePaths es
     pub tree : IsTree (children_in (paths_of es)) (paths_of es) (node_in nodes)
     pub kin : AreKin (paths_of es) (kin_in nodes)
+    pub few : length es < 4294967296
 
   -- what is seen of the index and the nodes
   abbrev pub seen : {Z : Type 0} → List (String Z × NodeKey) → slab.Slab (Node V) → Nodes V

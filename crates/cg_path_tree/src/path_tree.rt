@@ -71,9 +71,10 @@ impl<V: Drop> PathTree<V> {
         let _ = &self.index;
     }
 
-    /// How many nodes there are.
+    /// How many nodes there are: fewer than 2^32.
     pub fn len(&self) -> usize
-        ensures { result ≡ len self.now.keys }
+        ensures value { result ≡ len self.now.keys }
+        ensures few { result < 4294967296 }
     {
         self.index.len()
     }

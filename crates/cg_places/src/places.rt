@@ -162,9 +162,10 @@ impl Places {
         Ok(all)
     }
 
-    /// How many processes there are.
+    /// How many processes there are: fewer than 2^32 - 1.
     pub fn len(&self) -> usize
-        ensures { result ≡ len self.now.places }
+        ensures value { result ≡ len self.now.places }
+        ensures few { result < 4294967295 }
     {
         self.processes.len()
     }

@@ -164,7 +164,7 @@ recounts false true true false n k e f h = omega arith
 recounts false true false new n k e f h = absurd (true≢false (sym f))
 recounts comes false old new n k e f h = omega arith
 
-pub room_to_count : (comes : Bool) (old new : Bool) (n k most : ℕ) → new ≡ comes → old ≡ not comes → k + cond old 1 0 ≡ n + cond new 1 0 → k ≤ most → most < 2 ^ 64 → CanCount comes n
+pub room_to_count : (comes : Bool) (old new : Bool) (n k most : ℕ) → new ≡ comes → old ≡ not comes → k + cond old 1 0 ≡ n + cond new 1 0 → k ≤ most → most < 2 ^ 32 → CanCount comes n
 room_to_count true true new n k most e f h low fits = absurd (true≢false f)
 room_to_count true false true n k most e f h low fits = omega arith
 room_to_count true false false n k most e f h low fits = absurd (true≢false (sym e))
@@ -180,7 +180,7 @@ steps true false n k h = omega (arith, h)
 steps false true n k h = omega (arith, h)
 steps false false n k h = omega (arith, h)
 
-pub room_to_step : (before after : Bool) (n k most : ℕ) → k + cond before 1 0 ≡ n + cond after 1 0 → k ≤ most → most < 2 ^ 64 → CanStep before after n
+pub room_to_step : (before after : Bool) (n k most : ℕ) → k + cond before 1 0 ≡ n + cond after 1 0 → k ≤ most → most < 2 ^ 32 → CanStep before after n
 room_to_step true true n k most h low fits = tt
 room_to_step true false n k most h low fits = omega (arith, h)
 room_to_step false true n k most h low fits = omega (arith, h, low, fits)

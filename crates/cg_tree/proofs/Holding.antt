@@ -89,7 +89,7 @@ module _ (places : FiniteMap nat_cmp Path) (pid : ℕ) (p : Path) (comes : Bool)
         ∙ ap (counted_if comes (is_prefix q p)) (counts q old.0 old.1)
         ∙ sym (recounts comes (is_prefix q p) (not comes) comes (process_count places q) (process_count behind q) refl refl (changes q))
 
-    pub room_for_it : (most : ℕ) → len behind ≡ most → most < 2 ^ 64 → (q : Path) (n : ℕ) → is_prefix q p ≡ true → get held q ≡ Some n → CanCount comes n
+    pub room_for_it : (most : ℕ) → len behind ≡ most → most < 2 ^ 32 → (q : Path) (n : ℕ) → is_prefix q p ≡ true → get held q ≡ Some n → CanCount comes n
     room_for_it most length fits q n above h =
         let few : process_count behind q ≤ most = subst (λ k. process_count behind q ≤ k) length (few_pass behind (λ k. is_in_subtree q (get behind k))) in
         subst (CanCount comes) (sym (counts q n h))
@@ -125,7 +125,7 @@ module _ (nodes : FiniteMap path_cmp NodeKey) (one_path : HaveOnePath nodes) (nu
           put_in nodes one_path numbers placed p key own new pid put
           ∙ sym (set_set nat_cmp_total nat_cmp-IsAntisymmetric (places_in nodes numbers) pid None (Some p))
 
-      pub room_where_it_comes : (most : ℕ) → most ≡ len new → most < 2 ^ 64 → (q : Path) (m : ℕ) → is_prefix q p ≡ true → get off q ≡ Some m → CanCount true m
+      pub room_where_it_comes : (most : ℕ) → most ≡ len new → most < 2 ^ 32 → (q : Path) (m : ℕ) → is_prefix q p ≡ true → get off q ≡ Some m → CanCount true m
       room_where_it_comes most many fits =
           room_for_it others pid p true gone off without most (ap len (sym comes_there) ∙ len-seen (path_numbered nodes) new ∙ sym many) fits
 

@@ -105,7 +105,7 @@ module _ (a b : Nodes Entry) (p : Path) (e : Entry) (there : get a.values p ≡ 
         let old = from_mapped passing_of (get a.values q) x.passing same in
         ap (λ n. times n c) (sym old.2) ∙ (counts q old.0 old.1).passing c
 
-    pub room_to_pass : (most : ℕ) → len b.values ≡ most → most < 2 ^ 64 → (q : Path) (x : Entry) → is_parent q p ≡ true → get b.values q ≡ Some x → CanPass (control_of e.settings) (control_of s) x.passing
+    pub room_to_pass : (most : ℕ) → len b.values ≡ most → most < 2 ^ 32 → (q : Path) (x : Entry) → is_parent q p ≡ true → get b.values q ≡ Some x → CanPass (control_of e.settings) (control_of s) x.passing
     room_to_pass most length fits q x right h c =
         let few : passing_count (groups_in b.values) q c ≤ most =
         subst (λ k. passing_count (groups_in b.values) q c ≤ k) (len-seen settings_of b.values ∙ length) (few_passing (groups_in b.values) (λ r. is_parent q r && has (control_of (get (present (groups_in b.values)) r)) c)) in

@@ -134,7 +134,7 @@ module _ (a : Nodes Entry) (key : NodeKey) (e : Entry) (there : entry_at a key �
 
   -- one comes or goes
   module _ (comes : Bool) (new : is_some s ≡ comes) (old : is_some e.settings ≡ not comes) where
-    room : (most : ℕ) → len a.values ≡ most → most < 2 ^ 64 → (t : Path → Bool) → t p ≡ true → (n : ℕ) → n ≡ group_count (groups_in a.values) t → CanCount comes n
+    room : (most : ℕ) → len a.values ≡ most → most < 2 ^ 32 → (t : Path → Bool) → t p ≡ true → (n : ℕ) → n ≡ group_count (groups_in a.values) t → CanCount comes n
     room most length fits t passes n is =
         let count : group_count (groups_in written.values) t + cond (is_some e.settings) 1 0 ≡ n + cond (is_some s) 1 0 =
         ap (λ b. group_count (groups_in written.values) t + cond (b && is_some e.settings) 1 0) (sym passes)
@@ -147,11 +147,11 @@ module _ (a : Nodes Entry) (key : NodeKey) (e : Entry) (there : entry_at a key �
         len-replaced : len written.values ≡ len a.values
         len-replaced = sym (len-domain written.values) ∙ ap len (domain-replaced path_cmp_total path_cmp_exact a.values p (record e { settings = s }) (ap is_some there)) ∙ len-domain a.values
 
-    pub room_right_below : (most : ℕ) → len a.values ≡ most → most < 2 ^ 64 → (q : Path) (x : Entry) → is_parent q p ≡ true → get written.values q ≡ Some x → CanCount comes x.right_below
+    pub room_right_below : (most : ℕ) → len a.values ≡ most → most < 2 ^ 32 → (q : Path) (x : Entry) → is_parent q p ≡ true → get written.values q ≡ Some x → CanCount comes x.right_below
     room_right_below most length fits q x passes h = room most length fits (is_parent q) passes x.right_below (counts_before q x h).right_below
 
     module _ (b : Nodes Entry) (right : (q : Path) → get b.values q ≡ option_map (with_right_below comes (is_parent q p)) (get written.values q)) where
-      pub room_below : (most : ℕ) → len a.values ≡ most → most < 2 ^ 64 → (q : Path) (x : Entry) → is_above q p ≡ true → get b.values q ≡ Some x → CanCount comes x.below
+      pub room_below : (most : ℕ) → len a.values ≡ most → most < 2 ^ 32 → (q : Path) (x : Entry) → is_above q p ≡ true → get b.values q ≡ Some x → CanCount comes x.below
       room_below most length fits q x passes h =
           let before = from_mapped (with_right_below comes (is_parent q p)) (get written.values q) x (sym (right q) ∙ h) in
           room most length fits (is_above q) passes x.below (ap (λ (y : Entry). y.below) (sym before.2) ∙ (counts_before q before.0 before.1).below)

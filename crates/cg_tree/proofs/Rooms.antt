@@ -14,7 +14,7 @@ use Rattle.cg_tree.specs.Inside.{room_of}
 use Rattle.cg_tree.specs.declared.new_value.NewValue.{NewValue}
 use Rattle.cg_tree.specs.NewValue.{with_new}
 use Rattle.cg_tree.specs.Present.{present}
-use Rattle.cg_tree.specs.Room.{TreeWithRoom, has_entry, may_have_entry, with_entry, without_dead, MaySweepIfDead}
+use Rattle.cg_tree.specs.Room.{TreeWithRoom, has_entry, may_have_entry, without_dead, MaySweepIfDead}
 use Rattle.cg_tree.proofs.Presence.{nothing, get-present, present-set, present_kept, is_some-domain, domain-set, domain-replaced}
 use Rattle.cg_tree.proofs.Climbing.{parent_is_above}
 use Rattle.cg_tree.proofs.Prefixes.{parent_along}
@@ -45,7 +45,7 @@ module _ (t : Inside) (p : Path) (g : Contents) (same : g.places ≡ t.groups.pl
   with_map = record t { groups = g }
 
   -- settings in the place of an entry
-  pub group_written : (s : Option Settings) → g.groups ≡ set_at t.groups.groups p (Some s) → is_some (get t.groups.groups p) ≡ true → room_of with_map ≡ with_group (room_of t) p s
+  group_written : (s : Option Settings) → g.groups ≡ set_at t.groups.groups p (Some s) → is_some (get t.groups.groups p) ≡ true → room_of with_map ≡ with_group (room_of t) p s
   group_written s e h =
       let groups : present g.groups ≡ set_at (present t.groups.groups) p s = ap present e ∙ present-set path_cmp_total path_cmp_exact t.groups.groups p (Some s) in
       let entries : domain g.groups ≡ domain t.groups.groups = ap domain e ∙ domain-replaced path_cmp_total path_cmp_exact t.groups.groups p s h in
@@ -65,10 +65,11 @@ module _ (t : Inside) (p : Path) (g : Contents) (same : g.places ≡ t.groups.pl
       ∙ set_same path_cmp_total path_cmp_exact (domain t.groups.groups) p in
       λ i. record { tree = record (room_of t).tree { groups = groups i; places = same i }; entries = entries i }
 
-  pub entry_made : g.groups ≡ set_at t.groups.groups p (Some None) → get t.groups.groups p ≡ None → room_of with_map ≡ with_entries (room_of t) (set_at (domain t.groups.groups) p (Some tt))
-  entry_made e h =
-      let groups : present g.groups ≡ present t.groups.groups = ap present e ∙ present_kept path_cmp_total path_cmp_exact t.groups.groups p (Some None) (ap option_flatten h) refl in
-      let entries : domain g.groups ≡ set_at (domain t.groups.groups) p (Some tt) = ap domain e ∙ domain-set path_cmp_total path_cmp_exact t.groups.groups p (Some None) in
+  -- a group in its entry, or in one that is made
+  pub group_made : (s : Settings) → g.groups ≡ set_at t.groups.groups p (Some (Some s)) → room_of with_map ≡ with_group (with_entries (room_of t) (set_at (domain t.groups.groups) p (Some tt))) p (Some s)
+  group_made s e =
+      let groups : present g.groups ≡ set_at (present t.groups.groups) p (Some s) = ap present e ∙ present-set path_cmp_total path_cmp_exact t.groups.groups p (Some (Some s)) in
+      let entries : domain g.groups ≡ set_at (domain t.groups.groups) p (Some tt) = ap domain e ∙ domain-set path_cmp_total path_cmp_exact t.groups.groups p (Some (Some s)) in
       λ i. record { tree = record (room_of t).tree { groups = groups i; places = same i }; entries = entries i }
 
   pub entry_removed : g.groups ≡ set_at t.groups.groups p None → group (room_of t).tree p ≡ None → room_of with_map ≡ with_entries (room_of t) (set_at (domain t.groups.groups) p None)
@@ -77,24 +78,27 @@ module _ (t : Inside) (p : Path) (g : Contents) (same : g.places ≡ t.groups.pl
       let entries : domain g.groups ≡ set_at (domain t.groups.groups) p None = ap domain e ∙ domain-set path_cmp_total path_cmp_exact t.groups.groups p None in
       λ i. record { tree = record (room_of t).tree { groups = groups i; places = same i }; entries = entries i }
 
--- an entry that is there is made to no effect
-pub entry_same : (u : TreeWithRoom) (p : Path) → has_entry u p ≡ true → with_entry (Some p) u.entries ≡ u.entries
-entry_same u p h = ap (set_at u.entries p) (sym (there (get u.entries p) h)) ∙ set_same path_cmp_total path_cmp_exact u.entries p
-  where
-    there : (w : Option (Unit {0})) → is_some w ≡ true → w ≡ Some tt
-    there None e = cc
-    there (Some x) e = refl
-
 -- the entry of no group goes
 pub dead_swept : (u : TreeWithRoom) (p : Path) → group u.tree p ≡ None → without_dead u p ≡ set_at u.entries p None
 dead_swept u p e = ap (λ s. cond (is_some s) u.entries (set_at u.entries p None)) e
 
 -- no settings where there is no entry are none
-pub nothing_written : (t : Inside) (p : Path) (s : Option Settings) → None ≡ get t.groups.groups p → (IsSome s → has_entry (room_of t) p ≡ true) → room_of t ≡ with_group (room_of t) p s
+nothing_written : (t : Inside) (p : Path) (s : Option Settings) → None ≡ get t.groups.groups p → (IsSome s → has_entry (room_of t) p ≡ true) → room_of t ≡ with_group (room_of t) p s
 nothing_written t p (Some s) e room = absurd (false≢true (ap is_some e ∙ entry_there t (room_of t) refl p ∙ room refl))
 nothing_written t p None e room =
     let none : None ≡ group (room_of t).tree p = settings_there t (room_of t) refl p None e in
     λ i. record { tree = record (room_of t).tree { groups = sym (ap (set_at (present t.groups.groups) p) none ∙ set_same path_cmp_total path_cmp_exact (present t.groups.groups) p) i }; entries = domain t.groups.groups }
+
+-- settings in the place of those at a path, where there is an entry
+pub group_replaced : (t : Inside) (p : Path) (g : Contents) (same : g.places ≡ t.groups.places) (s : Option Settings) → (IsSome (get t.groups.groups p) → g.groups ≡ set_at t.groups.groups p (Some s)) → (get t.groups.groups p ≡ None → g.groups ≡ t.groups.groups) → (IsSome s → has_entry (room_of t) p ≡ true)
+    → room_of (with_map t p g same) ≡ with_group (room_of t) p s
+group_replaced t p g same s there absent room = by (get t.groups.groups p) refl
+  where
+    by : (w : Option (Option Settings)) → get t.groups.groups p ≡ w → room_of (with_map t p g same) ≡ with_group (room_of t) p s
+    by None e =
+        ap (λ (h : Contents). room_of (record t { groups = h })) (λ i. record { groups = absent e i; places = same i })
+        ∙ nothing_written t p s (sym e) room
+    by (Some x) e = group_written t p g same s (there (ap is_some e)) (ap is_some e)
 
 -- the settings of the parent, which the root has not
 pub parent_there : (t : Inside) (u : TreeWithRoom) → room_of t ≡ u → (p : Path) (w : Option (Option Settings)) → (is_root p ≡ true → w ≡ None) → (is_root p ≡ false → w ≡ get t.groups.groups (parent_path p)) → option_flatten w ≡ parent_group u.tree p

@@ -45,8 +45,8 @@ module _ (a : Nodes Entry) (key : NodeKey) (e : Entry) (there : entry_at a key �
   had : get (groups_in a.values) p ≡ Some e.settings
   had = get-seen settings_of a.values p ∙ ap (option_map settings_of) there
 
-  pub group_there : is_some e.settings ≡ is_some (option_flatten (get (groups_in a.values) p))
-  group_there = ap (λ w. is_some (option_flatten w)) (sym had)
+  pub group_there : e.settings ≡ option_flatten (get (groups_in a.values) p)
+  group_there = ap option_flatten (sym had)
 
   -- where there is no group, nothing is written
   pub none_changed : e.settings ≡ None → groups_in a.values ≡ set_at (groups_in a.values) p (option_map (with_new n) (get (groups_in a.values) p))
@@ -80,7 +80,7 @@ module _ (a : Nodes Entry) (key : NodeKey) (e : Entry) (there : entry_at a key �
       all_counted a changed p e there s written counts passing_alike counted_below changed
       (λ q. not_passing (control_of e.settings) (control_of s) alike (is_parent q p) (get changed.values q))
 
-  pub room_at_parent : (most : ℕ) → len changed.values ≡ most → most < 2 ^ 64 → (q : Path) (x : Entry) → is_parent q p ≡ true → get changed.values q ≡ Some x → CanPass (control_of e.settings) (control_of s) x.passing
+  pub room_at_parent : (most : ℕ) → len changed.values ≡ most → most < 2 ^ 32 → (q : Path) (x : Entry) → is_parent q p ≡ true → get changed.values q ≡ Some x → CanPass (control_of e.settings) (control_of s) x.passing
   room_at_parent = room_to_pass a changed p e there s written counts passing_alike
 
   -- what it passes on is another set: counted at its parent

@@ -70,7 +70,7 @@ counted_if comes here n = cond here (counted comes n) n
 
 -- the count can be so changed
 abbrev pub CanCount : Bool → ℕ → Type 0
-CanCount true n = n + 1 < 2 ^ 64
+CanCount true n = n + 1 < 2 ^ 32
 CanCount false n = 0 < n
 
 -- the count of an entry that changes at each path above

@@ -23,6 +23,14 @@ value_of (Cpus v) = v
 value_of (MaxDescendants v) = v
 value_of (MaxDepth v) = v
 
+-- the value that the same setting has in these settings
+abbrev pub value_there : NewValue → Settings → NewValue
+value_there (Control v) s = Control s.control
+value_there (Freeze v) s = Freeze s.freeze
+value_there (Cpus v) s = Cpus s.cpus
+value_there (MaxDescendants v) s = MaxDescendants s.max_descendants
+value_there (MaxDepth v) s = MaxDepth s.max_depth
+
 -- the settings of a group that may be there, with that value
 abbrev pub with_new : NewValue → Option Settings → Option Settings
 with_new n w = part_replaced (field_of n) (Some (value_of n)) w

@@ -47,7 +47,7 @@ step false false n = n
 abbrev pub CanStep : Bool → Bool → ℕ → Type 0
 CanStep true true n = Unit {0}
 CanStep true false n = 0 < n
-CanStep false true n = n + 1 < 2 ^ 64
+CanStep false true n = n + 1 < 2 ^ 32
 CanStep false false n = Unit {0}
 
 -- the counts, as one of the groups passes on the second set in place of the first

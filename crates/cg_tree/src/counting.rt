@@ -6,7 +6,7 @@ ghost use Rattle.cg_name.specs.Path.{is_above, is_parent, is_prefix};
 ghost use Rattle.cg_path_tree.specs.Nodes.{with_value, HasParent, IsKey};
 ghost use Rattle.cg_tree.specs.declared.entry.Entry.{Entry};
 ghost use Rattle.cg_tree.specs.Entries.{count_of, counted, counted_if, entry_at, groups_in, held_in, passing_in, path_at, recounted, with_passing, with_right_below, AreCounted, AreCountedBelow, CanCount};
-ghost use Rattle.cg_tree.specs.NewValue.{with_new};
+ghost use Rattle.cg_tree.specs.NewValue.{value_there, with_new};
 ghost use Rattle.cg_tree.specs.Passing.{stepped, CanPass};
 
 use crate::entry::{Count, Entry, counted};
@@ -17,22 +17,26 @@ use cg_name::Path;
 use cg_path_tree::{NodeKey, PathTree};
 use cg_text::Controllers;
 use std::alloc::{AllocError, Global};
+use std::mem::swap;
 
-// Writes the settings of a node.
-fn write_settings(nodes: &mut PathTree<Entry>, key: NodeKey, settings: Option<CompactSettings>)
+// Trades the settings of a node for these.
+fn swap_settings(nodes: &mut PathTree<Entry>, key: NodeKey, settings: &mut Option<CompactSettings>)
     requires { IsKey nodes.old.keys key }
-    ensures { (e : Entry) → entry_at nodes.old key ≡ Some e → nodes.new ≡ with_value nodes.old (path_at nodes.old key) (record e { settings = settings }) }
+    ensures nodes { (e : Entry) → entry_at nodes.old key ≡ Some e → nodes.new ≡ with_value nodes.old (path_at nodes.old key) (record e { settings = settings.old }) }
+    ensures before { (e : Entry) → entry_at nodes.old key ≡ Some e → settings.new ≡ e.settings }
 {
-    nodes.get_mut(key).settings = settings;
+    swap(&mut nodes.get_mut(key).settings, settings);
 }
 
-// Writes the value of one setting of a node, where there are settings.
-fn write_value(nodes: &mut PathTree<Entry>, key: NodeKey, value: NewValue)
+// Writes the value of one setting of a node, where there are settings, and gives the value before.
+fn write_value(nodes: &mut PathTree<Entry>, key: NodeKey, value: NewValue) -> Option<NewValue>
     requires { IsKey nodes.old.keys key }
-    ensures { (e : Entry) → entry_at nodes.old key ≡ Some e → nodes.new ≡ with_value nodes.old (path_at nodes.old key) (record e { settings = with_new value e.settings }) }
+    ensures nodes { (e : Entry) → entry_at nodes.old key ≡ Some e → nodes.new ≡ with_value nodes.old (path_at nodes.old key) (record e { settings = with_new value e.settings }) }
+    ensures before { (e : Entry) → entry_at nodes.old key ≡ Some e → result ≡ option_map (value_there value) e.settings }
 {
-    if let Some(settings) = &mut nodes.get_mut(key).settings {
-        value.assign(settings);
+    match &mut nodes.get_mut(key).settings {
+        Some(settings) => Some(value.exchange(settings)),
+        None => None,
     }
 }
 
@@ -120,41 +124,43 @@ fn pass_at_parent(
     }
 }
 
-// Puts the settings at the node: where a group comes or goes, it is counted above.
-fn put_group(nodes: &mut PathTree<Entry>, key: NodeKey, settings: Option<CompactSettings>)
+// Puts the settings at the node, and leaves those before in their place: where a group comes or goes, it is counted above.
+fn put_group(nodes: &mut PathTree<Entry>, key: NodeKey, settings: &mut Option<CompactSettings>)
     requires key { IsKey nodes.old.keys key }
     requires counted { AreCountedBelow nodes.old.values }
     ensures keys { nodes.new.keys ≡ nodes.old.keys }
-    ensures groups { groups_in nodes.new.values ≡ set_at (groups_in nodes.old.values) (path_at nodes.old key) (Some settings) }
+    ensures groups { groups_in nodes.new.values ≡ set_at (groups_in nodes.old.values) (path_at nodes.old key) (Some settings.old) }
     ensures counted { AreCountedBelow nodes.new.values }
     ensures passing { passing_in nodes.new.values ≡ passing_in nodes.old.values }
     ensures held { held_in nodes.new.values ≡ held_in nodes.old.values }
+    ensures before { settings.new ≡ option_flatten (get (groups_in nodes.old.values) (path_at nodes.old key)) }
 {
-    // A tree can tell how many nodes it has, so that each count has room.
+    // A tree can tell how many nodes it has, fewer than 2^32, so that each count has room.
     let _ = nodes.len();
     nodes.laws();
     let comes = settings.is_some();
     let was = nodes.get(key).settings.is_some();
-    write_settings(nodes, key, settings);
+    swap_settings(nodes, key, settings);
     if comes != was {
         count_at_parent(nodes, key, comes);
         count_above(nodes, key, Count::Groups, comes);
     }
 }
 
-// Puts the settings at the node: where a group comes or goes, it is counted above, and where what it passes on changes, at its
-// parent.
-pub(crate) fn put(nodes: &mut PathTree<Entry>, key: NodeKey, settings: Option<CompactSettings>)
+// Puts the settings at the node, and leaves those before in their place: where a group comes or goes, it is counted above, and
+// where what it passes on changes, at its parent.
+pub(crate) fn put(nodes: &mut PathTree<Entry>, key: NodeKey, settings: &mut Option<CompactSettings>)
     requires key { IsKey nodes.old.keys key }
     requires counted { AreCounted nodes.old.values }
     ensures keys { nodes.new.keys ≡ nodes.old.keys }
-    ensures groups { groups_in nodes.new.values ≡ set_at (groups_in nodes.old.values) (path_at nodes.old key) (Some settings) }
+    ensures groups { groups_in nodes.new.values ≡ set_at (groups_in nodes.old.values) (path_at nodes.old key) (Some settings.old) }
     ensures counted { AreCounted nodes.new.values }
     ensures held { held_in nodes.new.values ≡ held_in nodes.old.values }
+    ensures before { settings.new ≡ option_flatten (get (groups_in nodes.old.values) (path_at nodes.old key)) }
 {
     nodes.laws();
     let before = control_of(&nodes.get(key).settings);
-    let after = control_of(&settings);
+    let after = control_of(settings);
     put_group(nodes, key, settings);
     nodes.laws();
     // As in `put_group`.
@@ -164,12 +170,16 @@ pub(crate) fn put(nodes: &mut PathTree<Entry>, key: NodeKey, settings: Option<Co
     }
 }
 
-// Puts the value of one setting of the node, where that is a group's, and says whether it is: where what the group passes on
-// changes, it is counted at its parent.
-pub(crate) fn put_value(nodes: &mut PathTree<Entry>, key: NodeKey, value: NewValue) -> bool
+// Puts the value of one setting of the node, where that is a group's, and gives the value before: where what the group passes
+// on changes, it is counted at its parent.
+pub(crate) fn put_value(
+    nodes: &mut PathTree<Entry>,
+    key: NodeKey,
+    value: NewValue,
+) -> Option<NewValue>
     requires key { IsKey nodes.old.keys key }
     requires counted { AreCounted nodes.old.values }
-    ensures found { result ≡ is_some (option_flatten (get (groups_in nodes.old.values) (path_at nodes.old key))) }
+    ensures before { result ≡ option_map (value_there value) (option_flatten (get (groups_in nodes.old.values) (path_at nodes.old key))) }
     ensures keys { nodes.new.keys ≡ nodes.old.keys }
     ensures groups { groups_in nodes.new.values ≡ set_at (groups_in nodes.old.values) (path_at nodes.old key) (option_map (with_new value) (get (groups_in nodes.old.values) (path_at nodes.old key))) }
     ensures counted { AreCounted nodes.new.values }
@@ -177,18 +187,18 @@ pub(crate) fn put_value(nodes: &mut PathTree<Entry>, key: NodeKey, value: NewVal
 {
     nodes.laws();
     let Some(settings) = &nodes.get(key).settings else {
-        return false;
+        return None;
     };
     let before = settings.control();
     let after = value.control(settings);
-    write_value(nodes, key, value);
+    let was = write_value(nodes, key, value);
     nodes.laws();
     // As in `put_group`.
     let _ = nodes.len();
     if before != after {
         pass_at_parent(nodes, key, &before, &after);
     }
-    true
+    was
 }
 
 // One process more or less in the group of a node: counted there and at each node above.

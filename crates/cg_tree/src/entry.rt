@@ -11,13 +11,13 @@ pub(crate) struct Entry {
     // The settings of the group, and `None` where the path is dead.
     pub(crate) settings: Option<CompactSettings>,
     // How many groups are below the path.
-    pub(crate) below: usize,
+    pub(crate) below: u32,
     // How many of them are right below it.
-    pub(crate) right_below: usize,
+    pub(crate) right_below: u32,
     // For each controller, how many of these pass it on.
     pub(crate) passing: Passing,
     // How many processes are in the groups at the path and below it.
-    pub(crate) processes: usize,
+    pub(crate) processes: u32,
 }
 
 // Which count of an entry changes at each path above.
@@ -43,7 +43,7 @@ impl Drop for Entry {
 }
 
 // The count with one more, where it comes, and else with one less.
-pub(crate) fn counted(count: usize, comes: bool) -> usize
+pub(crate) fn counted(count: u32, comes: bool) -> u32
     requires { CanCount comes count }
     ensures { result ≡ counted comes count }
 {

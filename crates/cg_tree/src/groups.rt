@@ -1,6 +1,6 @@
 // The groups of a tree and its dead paths, each found by one look-up, with how many groups and processes are below, and the
 // processes in them.
-ghost use Rattle.std.specs.Prelude.{◌≡◌, ◌≢◌, ◌≤◌, ◌<◌, ℕ, false, filter, is_some, length, option_copied, option_map, suc, true, take, IsSome, IfOk, OnErr, OnOk, Some, None};
+ghost use Rattle.std.specs.Prelude.{◌≡◌, ◌≢◌, ◌≤◌, ◌<◌, ℕ, false, filter, is_some, length, option_copied, option_map, suc, true, take, IsSome, IfOk, IsOk, OnErr, OnOk, Some, None};
 ghost use Rattle.std.specs.Option.{option_flatten};
 ghost use Rattle.cg_maps.specs.FiniteMap.{empty, entries, get, is_nonempty, keys, retain, set_at};
 ghost use Rattle.cg_model.specs.Control.{used_below};
@@ -11,7 +11,7 @@ ghost use Rattle.cg_path_tree.specs.Nodes.{number_of, parent_path};
 ghost use Rattle.cg_tree.specs.Ancestors.{ancestor_in, downward};
 ghost use Rattle.cg_tree.specs.Entries.{group_count};
 ghost use Rattle.cg_tree.specs.Listing.{asks_for_cpus};
-ghost use Rattle.cg_tree.specs.NewValue.{with_new};
+ghost use Rattle.cg_tree.specs.NewValue.{value_there, with_new};
 ghost use Rattle.cg_tree.specs.Present.{present};
 
 use crate::ancestors::{Ancestors, deepest, deepest_above};
@@ -102,17 +102,17 @@ impl Groups {
         self.nodes.find(path).is_some()
     }
 
-    // Makes an entry at a path that has none, the root's or one whose parent has an entry; an error where there is no
-    // memory for it, which leaves all as it was.
+    // Makes a group at a path that has no entry, the root's or one whose parent has an entry; an error where there is no
+    // memory for its entry, which leaves all as it was.
     pub(crate) fn insert(
         &mut self,
         alloc: Global,
         path: &Path,
-        settings: Option<CompactSettings>,
+        settings: CompactSettings,
     ) -> Result<(), AllocError>
         requires absent { get self.old.groups path.now ≡ None }
         requires parent { is_root path.now ≡ false → IsSome (get self.old.groups (parent_path path.now)) }
-        ensures ok { OnOk result (self.new.groups ≡ set_at self.old.groups path.now (Some settings)) }
+        ensures ok { OnOk result (self.new.groups ≡ set_at self.old.groups path.now (Some (Some settings))) }
         ensures places { self.new.places ≡ self.old.places }
         ensures err { OnErr result (self.new ≡ self.old) }
     {
@@ -123,19 +123,39 @@ impl Groups {
             self.nodes.remove(key);
             return Err(AllocError);
         };
-        // A dead entry is counted nowhere.
-        if settings.is_none() {
-            return Ok(());
-        }
-        put(&mut self.nodes, key, settings);
+        put(&mut self.nodes, key, &mut Some(settings));
         Ok(())
     }
 
-    // Puts the settings into the entry at the path, if there is one.
-    pub(crate) fn replace(&mut self, path: &Path, settings: Option<CompactSettings>)
-        ensures there { IsSome (get self.old.groups path.now) → self.new.groups ≡ set_at self.old.groups path.now (Some settings) }
+    // Makes a group at a path, the root's or one whose parent has an entry: in the entry that is there, or in a new one. An
+    // error, where there is no memory for that, leaves all as it was.
+    pub(crate) fn make_group(
+        &mut self,
+        alloc: Global,
+        path: &Path,
+        settings: CompactSettings,
+    ) -> Result<(), AllocError>
+        requires { is_root path.now ≡ false → IsSome (get self.old.groups (parent_path path.now)) }
+        ensures ok { OnOk result (self.new.groups ≡ set_at self.old.groups path.now (Some (Some settings))) }
+        ensures places { self.new.places ≡ self.old.places }
+        ensures err { OnErr result (self.new ≡ self.old) }
+        ensures there { IsSome (get self.old.groups path.now) → IsOk result }
+    {
+        self.nodes.laws();
+        let Some(key) = self.nodes.find(path) else {
+            return self.insert(alloc, path, settings);
+        };
+        put(&mut self.nodes, key, &mut Some(settings));
+        Ok(())
+    }
+
+    // Puts the settings into the entry at the path, if there is one, and leaves those before in their place.
+    pub(crate) fn replace(&mut self, path: &Path, settings: &mut Option<CompactSettings>)
+        ensures there { IsSome (get self.old.groups path.now) → self.new.groups ≡ set_at self.old.groups path.now (Some settings.old) }
         ensures absent { get self.old.groups path.now ≡ None → self.new.groups ≡ self.old.groups }
         ensures places { self.new.places ≡ self.old.places }
+        ensures before { IsSome (get self.old.groups path.now) → settings.new ≡ option_flatten (get self.old.groups path.now) }
+        ensures untouched { get self.old.groups path.now ≡ None → settings.new ≡ settings.old }
     {
         self.nodes.laws();
         if let Some(key) = self.nodes.find(path) {
@@ -143,15 +163,15 @@ impl Groups {
         }
     }
 
-    // Puts the value of one setting of the group at the path, if there is a group, and says whether there is.
-    pub(crate) fn change(&mut self, path: &Path, value: NewValue) -> bool
-        ensures found { result ≡ is_some (option_flatten (get self.old.groups path.now)) }
+    // Puts the value of one setting of the group at the path, if there is a group, and gives the value before.
+    pub(crate) fn change(&mut self, path: &Path, value: NewValue) -> Option<NewValue>
+        ensures before { result ≡ option_map (value_there value) (option_flatten (get self.old.groups path.now)) }
         ensures groups { self.new.groups ≡ set_at self.old.groups path.now (option_map (with_new value) (get self.old.groups path.now)) }
         ensures places { self.new.places ≡ self.old.places }
     {
         self.nodes.laws();
         let Some(key) = self.nodes.find(path) else {
-            return false;
+            return None;
         };
         put_value(&mut self.nodes, key, value)
     }
@@ -172,7 +192,7 @@ impl Groups {
     }
 
     // How many groups are below the path of the first `depth` names, or of all where there are fewer.
-    pub(crate) fn descendants(&self, path: &Path, depth: u32) -> usize
+    pub(crate) fn descendants(&self, path: &Path, depth: u32) -> u32
         ensures { result ≡ group_count self.now.groups (is_above (take depth path.now)) }
     {
         self.nodes.laws();
@@ -272,7 +292,7 @@ impl Groups {
             return Err(AllocError);
         };
         self.places.add(pid, key.number())?;
-        // They can tell how many they are, so that each count has room.
+        // They can tell how many they are, fewer than 2^32, so that each count has room.
         let _ = self.places.len();
         count_process(&mut self.nodes, key, true);
         Ok(())

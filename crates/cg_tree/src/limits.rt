@@ -11,7 +11,7 @@ use cg_text::Limit;
 use std::collections::BTreeMap;
 
 // Whether one of a group's limits isn't `max`.
-fn is_limited(max_descendants: Limit, max_depth: Limit) -> bool
+pub(crate) fn is_limited(max_descendants: Limit, max_depth: Limit) -> bool
     ensures descendants { result ≡ false → max_descendants ≡ Max }
     ensures depth { result ≡ false → max_depth ≡ Max }
 {

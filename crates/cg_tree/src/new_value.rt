@@ -1,7 +1,7 @@
 //! One setting of a group, and the value that it is to have.
 ghost use Rattle.std.specs.Prelude.{◌≡◌, Some};
 ghost use Rattle.cg_model.specs.Key.{with_setting};
-ghost use Rattle.cg_tree.specs.NewValue.{field_of, is_limit, is_limited, value_of, with_new, HasCpusUpTo};
+ghost use Rattle.cg_tree.specs.NewValue.{field_of, is_limit, is_limited, value_of, value_there, with_new, HasCpusUpTo};
 ghost use Rattle.cg_tree.specs.Passing.{control_of};
 
 use cg_boxed::{BoxedCpus, CompactSettings};
@@ -23,16 +23,33 @@ pub enum NewValue {
 }
 
 impl NewValue {
-    // Puts it in the place of the setting's value.
-    pub(crate) fn assign(self, settings: &mut CompactSettings)
-        ensures { settings.new ≡ with_setting (field_of self) (value_of self) settings.old }
+    // Puts it in the place of the setting's value, and gives that one.
+    pub(crate) fn exchange(self, settings: &mut CompactSettings) -> NewValue
+        ensures settings { settings.new ≡ with_setting (field_of self) (value_of self) settings.old }
+        ensures before { result ≡ value_there self settings.old }
     {
         match self {
-            NewValue::Control(value) => settings.set_control(value),
-            NewValue::Freeze(value) => settings.set_freeze(value),
-            NewValue::Cpus(value) => settings.set_cpus(value),
-            NewValue::MaxDescendants(value) => settings.set_max_descendants(value),
-            NewValue::MaxDepth(value) => settings.set_max_depth(value),
+            NewValue::Control(value) => {
+                let before = settings.control();
+                settings.set_control(value);
+                NewValue::Control(before)
+            }
+            NewValue::Freeze(value) => {
+                let before = settings.freeze();
+                settings.set_freeze(value);
+                NewValue::Freeze(before)
+            }
+            NewValue::Cpus(value) => NewValue::Cpus(settings.set_cpus(value)),
+            NewValue::MaxDescendants(value) => {
+                let before = settings.max_descendants();
+                settings.set_max_descendants(value);
+                NewValue::MaxDescendants(before)
+            }
+            NewValue::MaxDepth(value) => {
+                let before = settings.max_depth();
+                settings.set_max_depth(value);
+                NewValue::MaxDepth(before)
+            }
         }
     }
 

@@ -10,14 +10,14 @@ use cg_text::Controllers;
 // For each controller, how many of these groups pass it on.
 #[derive(Clone, Copy)]
 pub(crate) struct Passing {
-    cpuset: usize,
-    cpu: usize,
-    io: usize,
-    memory: usize,
-    hugetlb: usize,
-    pids: usize,
-    rdma: usize,
-    misc: usize,
+    cpuset: u32,
+    cpu: u32,
+    io: u32,
+    memory: u32,
+    hugetlb: u32,
+    pids: u32,
+    rdma: u32,
+    misc: u32,
 }
 
 impl Passing {
@@ -72,7 +72,7 @@ impl Passing {
 }
 
 // The count, by whether a group was counted before and is counted after.
-fn stepped(count: usize, before: bool, after: bool) -> usize
+fn stepped(count: u32, before: bool, after: bool) -> u32
     requires { CanStep before after count }
     ensures { result ≡ step before after count }
 {

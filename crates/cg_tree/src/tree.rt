@@ -1,18 +1,18 @@
 //! Groups and processes, and which paths have an entry.
-ghost use Rattle.std.specs.Prelude.{◌≡◌, ◌↔◌, IsTrue, is_some, false, true, Some, IfOk, IfSome, IsOk, IsSome, OnOk, OnErr, slice_get, option_copied};
+ghost use Rattle.std.specs.Prelude.{◌≡◌, ◌↔◌, IsTrue, is_some, false, true, Some, IfOk, IfSome, IsOk, IsSome, OnOk, OnErr, slice_get, option_copied, option_map, None};
 ghost use Rattle.cg_maps.specs.FiniteMap.{domain, entries, keys, set_at};
 ghost use Rattle.cg_model.specs.Sound.{Sound};
 ghost use Rattle.cg_model.specs.Key.{replaced};
 ghost use Rattle.cg_model.specs.Tree.{group, parent_group, place_of};
 ghost use Rattle.cg_model.specs.Derived.{is_in, is_in_subtree};
 ghost use Rattle.cg_tree.specs.Unlimited.{AreUnlimited};
-ghost use Rattle.cg_tree.specs.NewValue.{with_new};
+ghost use Rattle.cg_tree.specs.NewValue.{value_there, with_new};
 ghost use Rattle.cg_tree.specs.Present.{present};
 ghost use Rattle.cg_tree.specs.Room.{has_entry, may_have_entry, with_entry, without_dead, IsRooted, MaySweepIfDead};
 ghost use Rattle.cg_world.specs.Representable.{AreCpusUpTo};
 
 use crate::groups::Groups;
-use crate::limits::{has_limit, have_limit};
+use crate::limits::{has_limit, have_limit, is_limited};
 use crate::new_value::NewValue;
 use crate::pids::Pids;
 use crate::placed::Placed;
@@ -225,19 +225,26 @@ impl Tree {
         Placed::new(&self.groups, &self.pids)
     }
 
-    /// Makes the entry of the path, which is the root's or whose parent is a group, where there is none. An error, where there is no
-    /// memory for a new entry, leaves the tree as it was.
-    pub fn make_room(&mut self, alloc: Global, path: &Path) -> Result<(), AllocError>
+    /// Makes a group with the settings at the path, which is the root's or whose parent is a group. An error, where there is no
+    /// memory for a new entry, leaves the tree as it was; where the entry is there, it takes none.
+    pub fn make_group(
+        &mut self,
+        alloc: Global,
+        path: &Path,
+        settings: CompactSettings,
+    ) -> Result<(), AllocError>
         requires { may_have_entry self.old.tree path.now ≡ true }
-        ensures tree { self.new.tree ≡ self.old.tree }
+        ensures tree { OnOk result (self.new.tree ≡ record self.old.tree { groups = set_at self.old.tree.groups path.now (Some settings) }) }
         ensures entries { OnOk result (self.new.entries ≡ with_entry (Some path.now) self.old.entries) }
-        ensures room { OnOk result (has_entry self.new path.now ≡ true) }
         ensures err { OnErr result (self.new ≡ self.old) }
         ensures has_room { has_entry self.old path.now ≡ true → IsOk result }
     {
-        if !self.groups.contains(path) {
-            self.groups.insert(alloc, path, None)?;
-        }
+        // The path and the CPUs tell what holds of them.
+        let _ = path.names();
+        let _ = settings.cpus().contains(0);
+        let is_limited = is_limited(settings.max_descendants(), settings.max_depth());
+        self.groups.make_group(alloc, path, settings)?;
+        self.may_limit |= is_limited;
         Ok(())
     }
 
@@ -254,7 +261,7 @@ impl Tree {
 
     /// Puts a group with the settings at the path, which has an entry, or takes the group there away. The entry stays. Takes no
     /// memory.
-    pub fn put_group(&mut self, path: &Path, settings: Option<CompactSettings>)
+    pub fn put_group(&mut self, path: &Path, mut settings: Option<CompactSettings>)
         requires { IsSome settings → has_entry self.old path.now ≡ true }
         ensures tree { self.new.tree ≡ record self.old.tree { groups = set_at self.old.tree.groups path.now settings } }
         ensures entries { self.new.entries ≡ self.old.entries }
@@ -263,7 +270,20 @@ impl Tree {
         let _ = path.names();
         tell_cpus(&settings);
         self.may_limit |= has_limit(&settings);
-        self.groups.replace(path, settings);
+        self.groups.replace(path, &mut settings);
+    }
+
+    /// Takes the group at the path away, if there is one, and gives its settings. The entry stays.
+    pub fn take_group(&mut self, path: &Path) -> Option<CompactSettings>
+        ensures group { result ≡ group self.old.tree path.now }
+        ensures tree { self.new.tree ≡ record self.old.tree { groups = set_at self.old.tree.groups path.now None } }
+        ensures entries { self.new.entries ≡ self.old.entries }
+    {
+        // As above.
+        let _ = path.names();
+        let mut taken = None;
+        self.groups.replace(path, &mut taken);
+        taken
     }
 
     /// Puts the value of one setting of the group at the path, if there is one. Takes no memory.
@@ -271,12 +291,22 @@ impl Tree {
         ensures tree { self.new.tree ≡ record self.old.tree { groups = set_at self.old.tree.groups path.now (with_new value (group self.old.tree path.now)) } }
         ensures entries { self.new.entries ≡ self.old.entries }
     {
+        let _ = self.swap_value(path, value);
+    }
+
+    /// The same, and gives the value that the setting had. Takes no memory.
+    pub fn swap_value(&mut self, path: &Path, value: NewValue) -> Option<NewValue>
+        ensures before { result ≡ option_map (value_there value) (group self.old.tree path.now) }
+        ensures tree { self.new.tree ≡ record self.old.tree { groups = set_at self.old.tree.groups path.now (with_new value (group self.old.tree path.now)) } }
+        ensures entries { self.new.entries ≡ self.old.entries }
+    {
         // As above.
         let _ = path.names();
         value.tell_cpus();
         let is_limit = value.is_limit();
-        let found = self.groups.change(path, value);
-        self.may_limit |= found & is_limit;
+        let before = self.groups.change(path, value);
+        self.may_limit |= before.is_some() & is_limit;
+        before
     }
 
     /// Puts the process into the group at the path, which has an entry, if there is a process with this PID. Takes no memory.

@@ -27,7 +27,7 @@ pub(crate) fn with_entries(
     let mut made = Groups::new(alloc);
     // A parent comes before its children.
     for (path, settings) in listed {
-        made.insert(alloc, path, Some(settings.copy(alloc)?))?;
+        made.insert(alloc, path, settings.copy(alloc)?)?;
     }
     Ok(made)
 }

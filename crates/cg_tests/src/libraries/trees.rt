@@ -2,6 +2,7 @@
 use crate::opening::{LARGER, tree};
 use cg_boxed::{BoxedCpus, CompactSettings};
 use cg_cpus::CpuSet;
+use cg_inverse::Change;
 use cg_name::{Path, Refusal};
 use cg_text::write_procs;
 use cg_tree::{NewValue, Tree};
@@ -27,8 +28,7 @@ fn make_group(alloc: Global, tree: &mut Tree, word: &str) -> Result<(), Refusal>
     if tree.parent_settings(&path).is_none() {
         return Err(Refusal::NoGroup);
     }
-    tree.make_room(alloc, &path)?;
-    tree.put_group(&path, Some(CompactSettings::fresh()));
+    tree.make_group(alloc, &path, CompactSettings::fresh())?;
     Ok(())
 }
 
@@ -208,4 +208,21 @@ fn a_tree_is_edited(rt: HostRuntime) {
     let mut out = Vec::new(rt.alloc());
     assert!(rt; write_trees(rt.alloc(), &mut out) == Ok(()));
     assert!(rt; out.as_slice() == SHOWN.as_bytes());
+}
+
+// Has the root ask for a CPU by a change, and tells whether it does.
+fn makes_change(alloc: Global) -> Result<bool, Refusal> {
+    let mut tree = tree(alloc, LARGER)?;
+    let change = Change::Cpus {
+        path: Path::root(alloc),
+        before: BoxedCpus::empty(),
+        left: BoxedCpus::new(alloc, CpuSet::read("0")?)?,
+    };
+    change.put_left(alloc, &mut tree)?;
+    Ok(change.fits(&tree))
+}
+
+#[test]
+fn a_change_is_made(rt: HostRuntime) {
+    assert!(rt; makes_change(rt.alloc()) == Ok(true));
 }

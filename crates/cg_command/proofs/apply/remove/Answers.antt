@@ -1,9 +1,12 @@
--- The entry of a group that is taken away is there.
-use Rattle.std.proofs.Common.{Some, sym, ap, ◌∙◌}
-use Rattle.cg_model.specs.Tree.{group}
-use Rattle.cg_command.proofs.Changing.{room_for_group}
+-- Where there is no memory for its settings, the group is put back.
+use Rattle.std.proofs.Common.{Some, ap, ◌∙◌}
+use Rattle.cg_command.proofs.Changing.{put_back}
 use Rattle.cg_command.proofs.apply.remove.Goals as goal
 
-pub change_one-requires-clause-undone : goal.change_one-requires-clause-undone
-change_one-requires-clause-undone c =
-    room_for_group c.args.tree.now c.laws.ensures c.in_ok-copy.field-0 (Some c.in_ok-new.field-0) (ap Some (c.in_ok-new.ensures ∙ c.in_ok-copy-2.ensures.value) ∙ c.in-Some.ensures ∙ ap (group c.args.tree.now.tree) (sym c.in_ok-copy.ensures.value))
+pub returns-in-Err : goal.returns-in-Err
+returns-in-Err c = record {
+  ok = tt;
+  err =
+      put_back c.args.tree.now c.take_group.new.self c.put_group.new.self c.args.path.now (Some c.in-Err.failed.value) (ap Some c.in-Err.ensures.value_returned ∙ c.in-Some.ensures.group)
+      c.take_group.ensures.tree c.take_group.ensures.entries c.put_group.ensures.tree c.put_group.ensures.entries;
+}

@@ -21,26 +21,26 @@ same_place c = ap (λ k. path_of k c.args.key) c.put_group.ensures.keys
 
 pub pass_at_parent-requires-clause-room : goal.pass_at_parent-requires-clause-room
 pass_at_parent-requires-clause-room c q x right found =
-    let many : len c.put_group.new.nodes.values ≡ c.len.result = as_many c.put_group.new.nodes c.laws-2.ensures.both ∙ sym c.len.ensures in
-    let fits : c.len.result < 2 ^ 64 = omega arith in
-    let room = room_to_pass c.args.nodes.now c.put_group.new.nodes (path_at c.args.nodes.now c.args.key) c.get.result.now (there (goal.at.pass_at_parent-requires-clause-room c).After-put_group) c.args.settings c.put_group.ensures.groups c.requires.counted c.put_group.ensures.passing c.len.result many fits q x (subst (λ p. is_parent q p ≡ true) (same_place (goal.at.pass_at_parent-requires-clause-room c).After-put_group) right) found in
+    let many : len c.put_group.new.nodes.values ≡ c.len.result = as_many c.put_group.new.nodes c.laws-2.ensures.both ∙ sym c.len.ensures.value in
+    let fits : c.len.result < 2 ^ 32 = omega arith in
+    let room = room_to_pass c.args.nodes.now c.put_group.new.nodes (path_at c.args.nodes.now c.args.key) c.get.result.now (there (goal.at.pass_at_parent-requires-clause-room c).After-put_group) c.args.settings.now c.put_group.ensures.groups c.requires.counted c.put_group.ensures.passing c.len.result many fits q x (subst (λ p. is_parent q p ≡ true) (same_place (goal.at.pass_at_parent-requires-clause-room c).After-put_group) right) found in
     subst (λ u. CanPass u c.control_of-after.result x.passing) (sym c.control_of-before.ensures) (subst (λ v. CanPass (control_of c.get.result.now.settings) v x.passing) (sym c.control_of-after.ensures) room)
 
 -- what is counted at the parent
 counted_at : (c : After-pass_at_parent) (place : path_at c.put_group.new.nodes c.args.key ≡ path_at c.args.nodes.now c.args.key) (q : Path)
-    → get c.pass_at_parent.new.nodes.values q ≡ option_map (with_passing (control_of c.get.result.now.settings) (control_of c.args.settings) (is_parent q (path_at c.args.nodes.now c.args.key))) (get c.put_group.new.nodes.values q)
+    → get c.pass_at_parent.new.nodes.values q ≡ option_map (with_passing (control_of c.get.result.now.settings) (control_of c.args.settings.now) (is_parent q (path_at c.args.nodes.now c.args.key))) (get c.put_group.new.nodes.values q)
 counted_at c place q =
     c.pass_at_parent.ensures.values q
     ∙ (λ i. option_map (with_passing (c.control_of-before.ensures i) (c.control_of-after.ensures i) (is_parent q (place i))) (get c.put_group.new.nodes.values q))
 
 pub returns-then-ne-clause-groups : goal.returns-then-ne-clause-groups
 returns-then-ne-clause-groups c =
-    same_groups c.args.nodes.now c.put_group.new.nodes (path_at c.args.nodes.now c.args.key) c.get.result.now (there (goal.at.returns-then-ne-clause-groups c).After-put_group) c.args.settings c.put_group.ensures.groups c.requires.counted c.put_group.ensures.passing c.put_group.ensures.counted c.pass_at_parent.new.nodes (counted_at c (same_place (goal.at.returns-then-ne-clause-groups c).After-put_group))
+    same_groups c.args.nodes.now c.put_group.new.nodes (path_at c.args.nodes.now c.args.key) c.get.result.now (there (goal.at.returns-then-ne-clause-groups c).After-put_group) c.args.settings.now c.put_group.ensures.groups c.requires.counted c.put_group.ensures.passing c.put_group.ensures.counted c.pass_at_parent.new.nodes (counted_at c (same_place (goal.at.returns-then-ne-clause-groups c).After-put_group))
     ∙ c.put_group.ensures.groups
 
 pub returns-then-ne-clause-counted : goal.returns-then-ne-clause-counted
 returns-then-ne-clause-counted c =
-    all_counted c.args.nodes.now c.put_group.new.nodes (path_at c.args.nodes.now c.args.key) c.get.result.now (there (goal.at.returns-then-ne-clause-counted c).After-put_group) c.args.settings c.put_group.ensures.groups c.requires.counted c.put_group.ensures.passing c.put_group.ensures.counted c.pass_at_parent.new.nodes (counted_at c (same_place (goal.at.returns-then-ne-clause-counted c).After-put_group))
+    all_counted c.args.nodes.now c.put_group.new.nodes (path_at c.args.nodes.now c.args.key) c.get.result.now (there (goal.at.returns-then-ne-clause-counted c).After-put_group) c.args.settings.now c.put_group.ensures.groups c.requires.counted c.put_group.ensures.passing c.put_group.ensures.counted c.pass_at_parent.new.nodes (counted_at c (same_place (goal.at.returns-then-ne-clause-counted c).After-put_group))
 
 pub returns-then-ne-clause-held : goal.returns-then-ne-clause-held
 returns-then-ne-clause-held c =
@@ -49,7 +49,7 @@ returns-then-ne-clause-held c =
 
 pub returns-else-ne-clause-counted : goal.returns-else-ne-clause-counted
 returns-else-ne-clause-counted c =
-    let alike : control_of c.get.result.now.settings ≡ control_of c.args.settings =
+    let alike : control_of c.get.result.now.settings ≡ control_of c.args.settings.now =
     sym c.control_of-before.ensures ∙ same_sets c.control_of-before.result c.control_of-after.result (sym c.ne.ensures ∙ c.if-ne.false) ∙ c.control_of-after.ensures in
-    all_counted c.args.nodes.now c.put_group.new.nodes (path_at c.args.nodes.now c.args.key) c.get.result.now (there (goal.at.returns-else-ne-clause-counted c).After-put_group) c.args.settings c.put_group.ensures.groups c.requires.counted c.put_group.ensures.passing c.put_group.ensures.counted c.put_group.new.nodes
-    (λ q. not_passing (control_of c.get.result.now.settings) (control_of c.args.settings) alike (is_parent q (path_at c.args.nodes.now c.args.key)) (get c.put_group.new.nodes.values q))
+    all_counted c.args.nodes.now c.put_group.new.nodes (path_at c.args.nodes.now c.args.key) c.get.result.now (there (goal.at.returns-else-ne-clause-counted c).After-put_group) c.args.settings.now c.put_group.ensures.groups c.requires.counted c.put_group.ensures.passing c.put_group.ensures.counted c.put_group.new.nodes
+    (λ q. not_passing (control_of c.get.result.now.settings) (control_of c.args.settings.now) alike (is_parent q (path_at c.args.nodes.now c.args.key)) (get c.put_group.new.nodes.values q))

@@ -1,5 +1,5 @@
 -- A node goes in at a path that has none, and its parent lists it.
-use Rattle.std.proofs.Common.{◌≡◌, ◌≢◌, ℕ, List, Some, sym, ap, subst, ◌∙◌, refl}
+use Rattle.std.proofs.Common.{◌≡◌, ◌≢◌, ◌<◌, ℕ, List, Some, sym, ap, subst, ◌∙◌, refl}
 use Rattle.slab.specs.Slab as slab
 use Rattle.cg_path_tree.specs.declared.node.Node.{Node}
 use Rattle.cg_path_tree.specs.declared.node.NodeKey.{NodeKey}
@@ -72,6 +72,7 @@ invariant_of-self-2 g c =
     c.in-Ok-enter.ensures.entry c.depth.ensures.value c.new.ensures.items c.args.parent c.requires.root c.requires.parent c.unwrap_or.ensures
     c.in-Ok.ensures.place c.in-Ok.ensures.below
     c.add_child.new.nodes c.add_child.ensures.none c.add_child.ensures.some
+    (subst (λ n. n < 4294967295) c.in-Ok-enter.ensures.entry c.in-Ok-enter.ensures.below)
 
 pub returns-clause-keys : goal.returns-clause-keys
 returns-clause-keys g c =

@@ -43,8 +43,8 @@ count_process-requires-clause-room c q n above h =
     let a = (goal.at.count_process-requires-clause-room c).In_ok-add in
     let place = at_path c.self.inside.nodes c.in-Some.key c.args.path.now c.laws.ensures.one_path (sym c.in-Some.ensures) in
     let many : len (set_at (places_in c.self.inside.nodes.keys c.self.inside.places.places) c.args.pid (Some c.args.path.now)) ≡ c.len.result =
-    ap len (sym (placed_there a)) ∙ len-seen (path_numbered c.self.inside.nodes.keys) c.add.new.self.places ∙ sym c.len.ensures in
-    let fits : c.len.result < 2 ^ 64 = omega arith in
+    ap len (sym (placed_there a)) ∙ len-seen (path_numbered c.self.inside.nodes.keys) c.add.new.self.places ∙ sym c.len.ensures.value in
+    let fits : c.len.result < 2 ^ 32 = omega arith in
     room_for_it (places_in c.self.inside.nodes.keys c.self.inside.places.places) c.args.pid c.args.path.now true (was_absent a) (held_in c.self.inside.nodes.values) c.self.invariant.held c.len.result many fits q n
     (subst (λ p. is_prefix q p ≡ true) place above) h
 

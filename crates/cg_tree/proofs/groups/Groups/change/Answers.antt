@@ -6,7 +6,7 @@ use Rattle.cg_maps.proofs.Maps.{set_same}
 use Rattle.cg_name.specs.Order.{path_cmp_total, path_cmp_exact}
 use Rattle.cg_tree.specs.Contents.{places_in, Contents, AreAtNodes, AreHeld, HaveNumbers}
 use Rattle.cg_tree.specs.Entries.{held_in}
-use Rattle.cg_tree.specs.NewValue.{with_new}
+use Rattle.cg_tree.specs.NewValue.{value_there, with_new}
 use Rattle.cg_tree.proofs.Climbing.{at_path}
 use Rattle.cg_tree.proofs.Putting.{node_there}
 use Rattle.cg_tree.proofs.Rooms.{none_there}
@@ -17,8 +17,8 @@ use Rattle.cg_tree.proofs.groups.Groups.change.Goals.{After-find}
 no_entry : (c : After-find) → None ≡ get c.self.inside.nodes.keys c.args.path.now → get c.args.self.now.groups c.args.path.now ≡ None
 no_entry c own = none_there _ (sym (node_there c.self.inside.nodes c.laws.ensures.both c.args.self.now.groups (ap (λ (v : Contents). v.groups) c.self.view_is) c.args.path.now) ∙ ap is_some (sym own))
 
-pub returns-in_default-clause-found : goal.returns-in_default-clause-found
-returns-in_default-clause-found c = ap (λ w. is_some (option_flatten w)) (sym (no_entry (goal.at.returns-in_default-clause-found c).After-find c.in_default.ensures))
+pub returns-in_default-clause-before : goal.returns-in_default-clause-before
+returns-in_default-clause-before c = ap (λ w. option_map (value_there c.args.value) (option_flatten w)) (sym (no_entry (goal.at.returns-in_default-clause-before c).After-find c.in_default.ensures))
 
 pub returns-in_default-clause-groups : goal.returns-in_default-clause-groups
 returns-in_default-clause-groups c =
@@ -37,11 +37,11 @@ invariant_of-self c = record {
   numbers = subst (λ ks. HaveNumbers ks c.self.inside.places.groups) (sym c.put_value.ensures.keys) c.self.invariant.numbers;
 }
 
-pub returns-clause-found : goal.returns-clause-found
-returns-clause-found c =
+pub returns-clause-before : goal.returns-clause-before
+returns-clause-before c =
     let own : Some c.in-Some.key ≡ get c.self.inside.nodes.keys c.args.path.now = c.in-Some.ensures in
     let place = at_path c.self.inside.nodes c.in-Some.key c.args.path.now c.laws.ensures.one_path (sym own) in
-    c.put_value.ensures.found ∙ (λ i. is_some (option_flatten (get ((ap (λ (v : Contents). v.groups) c.self.view_is) i) (place i))))
+    c.put_value.ensures.before ∙ (λ i. option_map (value_there c.args.value) (option_flatten (get ((ap (λ (v : Contents). v.groups) c.self.view_is) i) (place i))))
 
 pub returns-clause-groups : goal.returns-clause-groups
 returns-clause-groups c =

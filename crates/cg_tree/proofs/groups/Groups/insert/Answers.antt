@@ -1,12 +1,11 @@
--- A dead entry is made, and then holds the settings, if there are any; or it is taken out again.
-use Rattle.std.proofs.Common.{◌≡◌, false, not, Option, Some, None, is_some, sym, ap, subst, refl, ◌∙◌, true≢false}
+-- A dead entry is made, and then holds the settings; or it is taken out again.
+use Rattle.std.proofs.Common.{◌≡◌, Some, None, sym, ap, subst, refl, ◌∙◌}
 use Rattle.std.specs.Option.{option_flatten}
 use Rattle.std.proofs.lemmas.Option.{none-some}
 use Rattle.cg_maps.specs.FiniteMap.{get, set_at}
 use Rattle.cg_maps.proofs.Maps.{get_here, set_same, set_set}
 use Rattle.cg_name.specs.Order.{path_cmp_total, path_cmp_exact}
 use Rattle.cg_name.specs.Path.{is_parent}
-use Rattle.cg_text.specs.declared.settings.Settings.{Settings}
 use Rattle.cg_tree.specs.Contents.{places_in, Contents, AreAtNodes, AreHeld, AreKept, HaveNumbers}
 use Rattle.cg_tree.specs.Entries.{groups_in, held_in, AreCounted}
 use Rattle.cg_tree.proofs.Climbing.{at_path}
@@ -14,7 +13,7 @@ use Rattle.cg_tree.proofs.Holding.{held_with, held_without, held_written, nobody
 use Rattle.cg_tree.proofs.Numbering.{made_here, more_numbers, numbers_with_more, places_kept, stay_with_more, still_placed}
 use Rattle.cg_tree.proofs.Putting.{counted_kept, groups_written, leaf_made, no_node, node_there}
 use Rattle.cg_tree.proofs.groups.Groups.insert.Goals as goal
-use Rattle.cg_tree.proofs.groups.Groups.insert.Goals.{After-drop-remove, After-is_none}
+use Rattle.cg_tree.proofs.groups.Groups.insert.Goals.{After-drop-remove, In-Ok}
 
 pub add_dead-requires-clause-absent : goal.add_dead-requires-clause-absent
 add_dead-requires-clause-absent c = no_node c.self.inside.nodes c.laws.ensures.both c.args.self.now.groups (ap (λ (v : Contents). v.groups) c.self.view_is) c.args.path.now c.requires.absent
@@ -93,14 +92,14 @@ returns-in_default-clause-err c =
 
 -- ---- it stays
 
-places_with_more : (c : After-is_none) → places_in c.add_dead.new.nodes.keys c.make_room.new.places.places ≡ places_in c.self.inside.nodes.keys c.self.inside.places.places
+places_with_more : (c : In-Ok) → places_in c.add_dead.new.nodes.keys c.make_room.new.places.places ≡ places_in c.self.inside.nodes.keys c.self.inside.places.places
 places_with_more c =
     let absent : get c.self.inside.nodes.keys c.args.path.now ≡ None = no_node c.self.inside.nodes c.laws.ensures.both c.args.self.now.groups (ap (λ (v : Contents). v.groups) c.self.view_is) c.args.path.now c.requires.absent in
     let stays = stay_with_more c.self.inside.nodes.keys c.add_dead.new.nodes.keys c.args.path.now c.in_ok-key.key absent c.in_ok-key.ensures.keys in
     ap (places_in c.add_dead.new.nodes.keys) c.make_room.ensures.places
     ∙ places_kept c.self.inside.nodes.keys c.add_dead.new.nodes.keys c.laws.ensures.one_path c.laws-2.ensures.one_path c.self.inside.places.places c.self.invariant.placed (λ q pid n h own. stays q _ own)
 
-kept_with_more : (c : After-is_none) → AreKept c.add_dead.new.nodes c.make_room.new.places
+kept_with_more : (c : In-Ok) → AreKept c.add_dead.new.nodes c.make_room.new.places
 kept_with_more c =
     let absent : get c.self.inside.nodes.keys c.args.path.now ≡ None = no_node c.self.inside.nodes c.laws.ensures.both c.args.self.now.groups (ap (λ (v : Contents). v.groups) c.self.view_is) c.args.path.now c.requires.absent in
     let stays = stay_with_more c.self.inside.nodes.keys c.add_dead.new.nodes.keys c.args.path.now c.in_ok-key.key absent c.in_ok-key.ensures.keys in
@@ -117,23 +116,8 @@ kept_with_more c =
       numbers = numbers_with_more c.self.inside.nodes.keys c.add_dead.new.nodes.keys c.args.path.now c.in_ok-key.key absent c.in_ok-key.ensures.keys c.self.inside.places.groups c.make_room.new.places.groups c.self.invariant.numbers c.make_room.ensures.more c.in-Ok.ensures.room;
     }
 
-made_dead : (c : After-is_none) → groups_in c.add_dead.new.nodes.values ≡ set_at c.args.self.now.groups c.args.path.now (Some None)
+made_dead : (c : In-Ok) → groups_in c.add_dead.new.nodes.values ≡ set_at c.args.self.now.groups c.args.path.now (Some None)
 made_dead c = c.in_ok-key.ensures.groups ∙ ap (λ (v : Contents). set_at v.groups c.args.path.now (Some None)) c.self.view_is
-
-pub invariant_of-self-then-is_none : goal.invariant_of-self-then-is_none
-invariant_of-self-then-is_none c = kept_with_more (goal.at.invariant_of-self-then-is_none c).After-is_none
-
-pub returns-then-is_none-clause-ok : goal.returns-then-is_none-clause-ok
-returns-then-is_none-clause-ok c =
-    made_dead (goal.at.returns-then-is_none-clause-ok c).After-is_none
-    ∙ ap (λ s. set_at c.args.self.now.groups c.args.path.now (Some s)) (by c.args.settings (c.is_none.ensures ∙ ap not c.if-is_none.true))
-  where
-    by : (o : Option Settings) → is_some o ≡ false → None ≡ o
-    by None e = refl
-    by (Some s) e = absurd (true≢false e)
-
-pub returns-then-is_none-clause-places : goal.returns-then-is_none-clause-places
-returns-then-is_none-clause-places c = places_with_more (goal.at.returns-then-is_none-clause-places c).After-is_none ∙ ap (λ (v : Contents). v.places) c.self.view_is
 
 -- ---- it holds the settings
 
@@ -145,7 +129,7 @@ put-requires-clause-key c =
 
 pub invariant_of-self-2 : goal.invariant_of-self-2
 invariant_of-self-2 c =
-    let kept = kept_with_more (goal.at.invariant_of-self-2 c).After-is_none in
+    let kept = kept_with_more (goal.at.invariant_of-self-2 c).In-Ok in
     record {
       counted = c.put.ensures.counted;
       held = subst (λ h. AreHeld h (places_in c.put.new.nodes.keys c.make_room.new.places.places)) (sym c.put.ensures.held) (subst (λ ks. AreHeld (held_in c.add_dead.new.nodes.values) (places_in ks c.make_room.new.places.places)) (sym c.put.ensures.keys) kept.held);
@@ -159,11 +143,11 @@ returns-clause-ok c =
     let made : get c.add_dead.new.nodes.keys c.args.path.now ≡ Some c.in_ok-key.key = made_here c.self.inside.nodes.keys c.add_dead.new.nodes.keys c.args.path.now c.in_ok-key.key absent c.in_ok-key.ensures.keys in
     let place = at_path c.add_dead.new.nodes c.in_ok-key.key c.args.path.now c.laws-2.ensures.one_path made in
     c.put.ensures.groups
-    ∙ (λ i. set_at (made_dead (goal.at.returns-clause-ok c).After-is_none i) (place i) (Some c.args.settings))
-    ∙ set_set path_cmp_total path_cmp_exact c.args.self.now.groups c.args.path.now (Some None) (Some c.args.settings)
+    ∙ (λ i. set_at (made_dead (goal.at.returns-clause-ok c).In-Ok i) (place i) (Some (Some c.args.settings)))
+    ∙ set_set path_cmp_total path_cmp_exact c.args.self.now.groups c.args.path.now (Some None) (Some (Some c.args.settings))
 
 pub returns-clause-places : goal.returns-clause-places
 returns-clause-places c =
     ap (λ ks. places_in ks c.make_room.new.places.places) c.put.ensures.keys
-    ∙ places_with_more (goal.at.returns-clause-places c).After-is_none
+    ∙ places_with_more (goal.at.returns-clause-places c).In-Ok
     ∙ ap (λ (v : Contents). v.places) c.self.view_is

@@ -33,8 +33,8 @@ count_process-requires-2-clause-room c q m above h =
     let place = ap (λ ks. path_of ks c.in-Some.key) c.count_process.ensures.keys ∙ at_path c.self.inside.nodes c.in-Some.key c.args.path.now c.laws.ensures.one_path (sym c.in-Some.ensures) in
     let put : c.put.new.self.places ≡ set_at c.self.inside.places.places c.args.pid (Some c.in-Some.key.0) =
     c.put.ensures.places (ap is_some (sym c.in-Some-group_of.ensures)) ∙ ap (λ n. set_at c.self.inside.places.places c.args.pid (Some n)) c.number.ensures in
-    let fits : c.len.result < 2 ^ 64 = omega arith in
-    room_where_it_comes c.self.inside.nodes.keys c.laws.ensures.one_path c.self.inside.places.places c.self.invariant.placed c.args.pid c.in-Some-group_of.group c.new.result c.new.ensures c.in-Some-group_of.ensures (held_in c.self.inside.nodes.values) c.self.invariant.held (held_in c.count_process.new.nodes.values) c.count_process.ensures.held c.args.path.now c.in-Some.key (sym c.in-Some.ensures) c.put.new.self.places put c.len.result c.len.ensures fits q m
+    let fits : c.len.result < 2 ^ 32 = omega arith in
+    room_where_it_comes c.self.inside.nodes.keys c.laws.ensures.one_path c.self.inside.places.places c.self.invariant.placed c.args.pid c.in-Some-group_of.group c.new.result c.new.ensures c.in-Some-group_of.ensures (held_in c.self.inside.nodes.values) c.self.invariant.held (held_in c.count_process.new.nodes.values) c.count_process.ensures.held c.args.path.now c.in-Some.key (sym c.in-Some.ensures) c.put.new.self.places put c.len.result c.len.ensures.value fits q m
     (subst (λ p. is_prefix q p ≡ true) place above) h
 
 pub invariant_of-self : goal.invariant_of-self

@@ -1,5 +1,6 @@
 -- There is a node where there is an entry.
 use Rattle.std.proofs.Common.{◌≡◌, Some, None, is_some, ap, sym, subst, ◌∙◌, true≢false}
+use Rattle.std.specs.Option.{option_flatten}
 use Rattle.cg_maps.specs.FiniteMap.{get, set_at}
 use Rattle.cg_tree.specs.Contents.{places_in, Contents, AreAtNodes, AreHeld, HaveNumbers}
 use Rattle.cg_tree.specs.Entries.{held_in}
@@ -21,7 +22,7 @@ pub returns-in-Some-clause-there : goal.returns-in-Some-clause-there
 returns-in-Some-clause-there c some =
     let own : Some c.in-Some.key ≡ get c.self.inside.nodes.keys c.args.path.now = c.in-Some.ensures in
     let place = at_path c.self.inside.nodes c.in-Some.key c.args.path.now c.laws.ensures.one_path (sym own) in
-    c.put.ensures.groups ∙ (λ i. set_at ((ap (λ (v : Contents). v.groups) c.self.view_is) i) (place i) (Some c.args.settings))
+    c.put.ensures.groups ∙ (λ i. set_at ((ap (λ (v : Contents). v.groups) c.self.view_is) i) (place i) (Some c.args.settings.now))
 
 pub returns-in-Some-clause-absent : goal.returns-in-Some-clause-absent
 returns-in-Some-clause-absent c none =
@@ -30,5 +31,21 @@ returns-in-Some-clause-absent c none =
 
 pub returns-in_default-clause-there : goal.returns-in_default-clause-there
 returns-in_default-clause-there c some =
+    let own : None ≡ get c.self.inside.nodes.keys c.args.path.now = c.in_default.ensures in
+    absurd (true≢false (sym some ∙ sym (node_there c.self.inside.nodes c.laws.ensures.both c.args.self.now.groups (ap (λ (v : Contents). v.groups) c.self.view_is) c.args.path.now) ∙ ap is_some (sym own)))
+
+pub returns-in-Some-clause-before : goal.returns-in-Some-clause-before
+returns-in-Some-clause-before c some =
+    let own : Some c.in-Some.key ≡ get c.self.inside.nodes.keys c.args.path.now = c.in-Some.ensures in
+    let place = at_path c.self.inside.nodes c.in-Some.key c.args.path.now c.laws.ensures.one_path (sym own) in
+    c.put.ensures.before ∙ (λ i. option_flatten (get ((ap (λ (v : Contents). v.groups) c.self.view_is) i) (place i)))
+
+pub returns-in-Some-clause-untouched : goal.returns-in-Some-clause-untouched
+returns-in-Some-clause-untouched c none =
+    let own : Some c.in-Some.key ≡ get c.self.inside.nodes.keys c.args.path.now = c.in-Some.ensures in
+    absurd (true≢false (ap is_some own ∙ node_there c.self.inside.nodes c.laws.ensures.both c.args.self.now.groups (ap (λ (v : Contents). v.groups) c.self.view_is) c.args.path.now ∙ ap is_some none))
+
+pub returns-in_default-clause-before : goal.returns-in_default-clause-before
+returns-in_default-clause-before c some =
     let own : None ≡ get c.self.inside.nodes.keys c.args.path.now = c.in_default.ensures in
     absurd (true≢false (sym some ∙ sym (node_there c.self.inside.nodes c.laws.ensures.both c.args.self.now.groups (ap (λ (v : Contents). v.groups) c.self.view_is) c.args.path.now) ∙ ap is_some (sym own)))
