@@ -1,5 +1,5 @@
 -- The first holder and the others, as one list that changes.
-use Rattle.std.proofs.Common.{◌≡◌, ◌≢◌, ℕ, ◌+◌, ◌<◌, ◌≤◌, ◌==◌, ◌++◌, nat_lt, true, false, cond, not, T, inl, inr, List, [], ◌∷◌, Some, None, unwrap_or, drop, slice_get, take, Ordering, Less, Equal, Greater, refl, sym, ap, subst, ◌∙◌, arith, true≢false}
+use Rattle.std.proofs.Common.{◌≡◌, ◌≢◌, ℕ, ◌+◌, ◌<◌, ◌≤◌, ◌==◌, ◌++◌, nat_lt, true, false, cond, not, T, inl, inr, List, [], ◌∷◌, Option, Some, None, option_map, unwrap_or, drop, slice_get, take, Ordering, Less, Equal, Greater, refl, sym, ap, subst, ◌∙◌, arith, true≢false}
 use Rattle.std.proofs.lemmas.Bool.{cases_eq, eq-eqb}
 use Rattle.std.proofs.lemmas.Bool.Decides.{nat_tests}
 use Rattle.std.proofs.lemmas.Option.{none-some, same_Some}
@@ -156,6 +156,13 @@ module _ (f n : ℕ) (es : List (ℕ × ℕ)) (h : AreHolders f n es) where
 
     pub none_second : n ≢ 0 → f ≡ t → slice_get es 0 ≡ None → IsLeastOther t (held_by C) None
     none_second some own none = none_found t C es (rest_left some own) (no_entry es none)
+
+    pub next_is_least : n ≢ 0 → f ≡ t → IsLeastOther t (held_by C) (option_map (λ (e : ℕ × ℕ). e.0) (slice_get es 0))
+    next_is_least some own = by (slice_get es 0) refl
+      where
+        by : (o : Option (ℕ × ℕ)) → slice_get es 0 ≡ o → IsLeastOther t (held_by C) (option_map (λ (e : ℕ × ℕ). e.0) o)
+        by None at = none_second some own at
+        by (Some e) at = second_is_least some own e at
 
     -- ---- one count written
 

@@ -10,10 +10,12 @@ mod Enough
 mod FirstClash
 mod Firsts
 mod HeldMaps
+mod HeldParts
 mod Keys
 mod Marks
 mod Missing
 mod OfKinds
+mod Others
 mod Parts
 mod Pids
 mod Places

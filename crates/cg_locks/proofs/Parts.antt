@@ -1,12 +1,12 @@
 -- Parts of what is held at a path, told apart, and one of them changed.
-use Rattle.std.proofs.Common.{◌≡◌, true, false, Some, refl, subst}
+use Rattle.std.proofs.Common.{◌≡◌, ◌==◌, true, false, Some, refl, subst}
 use Rattle.std.proofs.lemmas.Bool.{false≢true}
 use Rattle.std.proofs.lemmas.Option.{none-some, same_Some}
 use Rattle.cg_locks.specs.declared.held.Kind.{Kind}
 use Rattle.cg_locks.specs.declared.held.Kind.TheVariants as kinds
 use Rattle.cg_locks.specs.declared.held.Part.{Part}
 use Rattle.cg_locks.specs.declared.held.Part.TheVariants.{ChangedAt, ReadAt, StaysAt, CountedAt, ChangedBelow, ReadBelow, StaysBelow}
-use Rattle.cg_locks.specs.Held.{at_or_below, at_path, same_kind, same_part}
+use Rattle.cg_locks.specs.Held.{at_or_below, at_path, part_number, same_kind, same_part}
 
 pub same_part-itself : (r : Part) → same_part r r ≡ true
 same_part-itself ChangedAt = refl
@@ -26,6 +26,16 @@ same_part-is ChangedBelow ChangedBelow e = refl
 same_part-is ReadBelow ReadBelow e = refl
 same_part-is StaysBelow StaysBelow e = refl
 same_part-is r s e = absurd (false≢true e)
+
+pub same_numbers : (r s : Part) → (part_number r == part_number s) ≡ same_part r s
+same_numbers ChangedAt ChangedAt = refl
+same_numbers ReadAt ReadAt = refl
+same_numbers StaysAt StaysAt = refl
+same_numbers CountedAt CountedAt = refl
+same_numbers ChangedBelow ChangedBelow = refl
+same_numbers ReadBelow ReadBelow = refl
+same_numbers StaysBelow StaysBelow = refl
+same_numbers r s = refl
 
 -- ---- the parts of a kind
 

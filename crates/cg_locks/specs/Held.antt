@@ -4,14 +4,30 @@ use Rattle.std.specs.Coded.{Coded, code_by, coded×, coded_ℕ}
 use Rattle.cg_maps.specs.Code.{map_code}
 use Rattle.cg_model.specs.Code.{path_code}
 use Rattle.cg_name.specs.Path.{Path, same_path}
-use Rattle.cg_locks.specs.declared.held.Held.{Held}
 use Rattle.cg_locks.specs.declared.held.Kind.{Kind}
 use Rattle.cg_locks.specs.declared.held.Kind.TheVariants as kinds
 use Rattle.cg_locks.specs.declared.held.Part.{Part}
 use Rattle.cg_locks.specs.declared.held.Part.TheVariants.{ChangedAt, ReadAt, StaysAt, CountedAt, ChangedBelow, ReadBelow, StaysBelow}
 use Rattle.cg_locks.specs.Holders.{Counts, PathCounts, held_above, held_at, held_below, held_by, one, times_on}
 
-abbrev pub part_of : Part → Held → Counts
+-- the holders in each part
+pub record HeldParts : Type 0 where
+  pub changed : Counts
+  pub read : Counts
+  pub stays : Counts
+  pub descendants : Counts
+  pub changed_below : Counts
+  pub read_below : Counts
+  pub stays_below : Counts
+
+abbrev pub held_code : Coded HeldParts
+held_code =
+    let counts : Coded Counts = map_code coded_ℕ coded_ℕ in
+    code_by ((Counts × Counts) × ((Counts × Counts) × (Counts × (Counts × Counts)))) (coded× (coded× counts counts) (coded× (coded× counts counts) (coded× counts (coded× counts counts))))
+    (λ h. ((h.changed, h.read), ((h.stays, h.descendants), (h.changed_below, (h.read_below, h.stays_below)))))
+    (λ p. record { changed = p.0.0; read = p.0.1; stays = p.1.0.0; descendants = p.1.0.1; changed_below = p.1.1.0; read_below = p.1.1.1.0; stays_below = p.1.1.1.1 }) (λ _. refl)
+
+abbrev pub part_of : Part → HeldParts → Counts
 part_of ChangedAt h = h.changed
 part_of ReadAt h = h.read
 part_of StaysAt h = h.stays
@@ -19,6 +35,16 @@ part_of CountedAt h = h.descendants
 part_of ChangedBelow h = h.changed_below
 part_of ReadBelow h = h.read_below
 part_of StaysBelow h = h.stays_below
+
+-- parts by numbers
+abbrev pub part_number : Part → ℕ
+part_number ChangedAt = 0
+part_number ReadAt = 1
+part_number StaysAt = 2
+part_number CountedAt = 3
+part_number ChangedBelow = 4
+part_number ReadBelow = 5
+part_number StaysBelow = 6
 
 abbrev pub same_part : Part → Part → Bool
 same_part ChangedAt ChangedAt = true
@@ -52,18 +78,18 @@ at_or_below kinds.Stays = Some StaysBelow
 at_or_below kinds.Descendants = None
 
 -- in h' the transaction t holds one more in the part s
-abbrev pub IsHeldMore : Held → Part → ℕ → Held → Type 0
+abbrev pub IsHeldMore : HeldParts → Part → ℕ → HeldParts → Type 0
 IsHeldMore h s t h' = (r : Part) (u : ℕ) → held_by (part_of r h') u ≡ held_by (part_of r h) u + one (same_part r s && (u == t))
 
 -- how many holdings by u here clash with a mark of the kind here or below
-abbrev pub above_of : Kind → Held → ℕ → ℕ
+abbrev pub above_of : Kind → HeldParts → ℕ → ℕ
 above_of kinds.Changed h u = held_by h.changed u + held_by h.read u
 above_of kinds.Read h u = held_by h.changed u
 above_of kinds.Stays h u = held_by h.changed u + held_by h.read u
 above_of kinds.Descendants h u = 0
 
 -- and how many here or below with one here
-abbrev pub here_of : Kind → Held → ℕ → ℕ
+abbrev pub here_of : Kind → HeldParts → ℕ → ℕ
 here_of kinds.Changed h u = held_by h.read_below u + (held_by h.changed_below u + held_by h.stays_below u)
 here_of kinds.Read h u = held_by h.changed_below u + held_by h.stays_below u
 here_of kinds.Stays h u = 0

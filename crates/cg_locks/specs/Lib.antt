@@ -1,5 +1,6 @@
 pub mod Clashing
 pub mod Counts
+pub mod FirstsAndOthers
 pub mod Held
 pub mod HeldByPath
 pub mod Holders

@@ -1,12 +1,15 @@
 //! Who holds what at one path.
 ghost use Rattle.std.specs.Prelude.{◌≡◌, ◌+◌, ◌<◌, ℕ, IfOk, IsTrue, OnErr, OnOk, option_map};
-ghost use Rattle.cg_locks.specs.Held.{above_of, at_or_below, at_path, here_of, part_of, IsHeldMore};
+ghost use Rattle.cg_locks.specs.Held.{above_of, at_or_below, at_path, here_of, part_number, part_of, same_part, IsHeldMore};
 ghost use Rattle.cg_locks.specs.Holders.{held_by, number_of, IsLeastOther};
 ghost use Rattle.cg_locks.specs.declared.held.Part.{Part};
 
-use crate::holders::{Holders, lesser};
+use crate::first_holders::Firsts;
+use crate::holders::lesser;
+use crate::other_holders::{Other, add_in, least_in, place_in, remove_in, take_least};
 use cg_name::TxnNumber;
 use std::alloc::{AllocError, Global};
+use std::marker::Model;
 
 // The kinds of marks at paths.
 #[derive(Clone, Copy)]
@@ -60,17 +63,52 @@ impl Kind {
     }
 }
 
-// Who holds what at one path, and at or below its children.
+impl Part {
+    // Whether it is this one.
+    pub(crate) fn is(self, other: Part) -> bool
+        ensures { result ≡ same_part self other }
+    {
+        self.number() == other.number()
+    }
+
+    // Its number in the order in which the parts are listed.
+    fn number(self) -> u8
+        ensures { result ≡ part_number self }
+    {
+        match self {
+            Part::ChangedAt => 0,
+            Part::ReadAt => 1,
+            Part::StaysAt => 2,
+            Part::CountedAt => 3,
+            Part::ChangedBelow => 4,
+            Part::ReadBelow => 5,
+            Part::StaysBelow => 6,
+        }
+    }
+}
+
+// Who holds what at one path, and at or below its children. A tree has one at each of its nodes, and almost always there is one
+// holder at most in each part: so the others of all parts stand in one list, which takes no memory where there are none.
 #[derive(Drop)]
 pub(crate) struct Held {
-    // Most marks are of subtrees to be changed: what is read and written for them stands together.
-    changed: Holders,
-    changed_below: Holders,
-    stays_below: Holders,
-    read_below: Holders,
-    read: Holders,
-    stays: Holders,
-    descendants: Holders,
+    // The least of each part.
+    firsts: Firsts,
+    // The others, in each part by ascending numbers.
+    others: Vec<Other>,
+}
+
+impl Model for Held {
+    ghost use Rattle.cg_locks.specs.Held.{HeldParts, held_code};
+
+    ghost Value = { HeldParts };
+
+    ghost coded = { held_code };
+
+    ghost use Rattle.cg_locks.specs.FirstsAndOthers.{held_parts, AreParts};
+
+    ghost view = { λ h. held_parts h.firsts h.others.items };
+
+    ghost invariant = { λ h. AreParts h.firsts h.others.items };
 }
 
 impl Held {
@@ -79,13 +117,8 @@ impl Held {
         ensures { (r : Part) (u : ℕ) → held_by (part_of r result) u ≡ 0 }
     {
         Held {
-            changed: Holders::new(alloc),
-            read: Holders::new(alloc),
-            stays: Holders::new(alloc),
-            descendants: Holders::new(alloc),
-            changed_below: Holders::new(alloc),
-            read_below: Holders::new(alloc),
-            stays_below: Holders::new(alloc),
+            firsts: Firsts::new(),
+            others: Vec::new(alloc),
         }
     }
 
@@ -94,28 +127,36 @@ impl Held {
     pub(crate) fn is_empty(&self) -> bool
         ensures { IsTrue result → (r : Part) (u : ℕ) → held_by (part_of r self.now) u ≡ 0 }
     {
-        self.changed.is_empty()
-            && self.read.is_empty()
-            && self.stays.is_empty()
-            && self.descendants.is_empty()
-            && self.changed_below.is_empty()
-            && self.read_below.is_empty()
-            && self.stays_below.is_empty()
+        self.firsts.are_none()
     }
 
-    // The holders in this part.
-    #[inline(always)]
-    pub(crate) fn part(&self, part: Part) -> &Holders
-        ensures { result.now ≡ part_of part self.now }
+    // How often the transaction holds what is in this part.
+    pub(crate) fn count(&self, part: Part, transaction: TxnNumber) -> usize
+        ensures { result ≡ held_by (part_of part self.now) transaction.0 }
     {
-        match part {
-            Part::ChangedAt => &self.changed,
-            Part::ReadAt => &self.read,
-            Part::StaysAt => &self.stays,
-            Part::CountedAt => &self.descendants,
-            Part::ChangedBelow => &self.changed_below,
-            Part::ReadBelow => &self.read_below,
-            Part::StaysBelow => &self.stays_below,
+        let first = self.firsts.get(part);
+        if first.holder == transaction.0 {
+            return first.times as usize;
+        }
+        let (_, times) = place_in(&self.others, part, transaction.0);
+        times as usize
+    }
+
+    // The least other transaction in this part.
+    #[inline(always)]
+    fn least_other(&self, part: Part, transaction: TxnNumber) -> Option<TxnNumber>
+        ensures { IsLeastOther transaction.0 (held_by (part_of part self.now)) (option_map number_of result) }
+    {
+        let first = self.firsts.get(part);
+        if first.times == 0 {
+            return None;
+        }
+        if first.holder != transaction.0 {
+            return Some(TxnNumber(first.holder));
+        }
+        match least_in(&self.others, part) {
+            Some(holder) => Some(TxnNumber(holder)),
+            None => None,
         }
     }
 
@@ -125,7 +166,7 @@ impl Held {
     {
         match kind {
             Kind::Changed => self.least_subtree(transaction),
-            Kind::Read => self.changed.least_other(transaction),
+            Kind::Read => self.least_other(Part::ChangedAt, transaction),
             Kind::Stays => self.least_subtree(transaction),
             Kind::Descendants => None,
         }
@@ -136,8 +177,8 @@ impl Held {
         ensures { IsLeastOther transaction.0 (λ u. held_by self.now.changed u + held_by self.now.read u) (option_map number_of result) }
     {
         lesser(
-            self.changed.least_other(transaction),
-            self.read.least_other(transaction),
+            self.least_other(Part::ChangedAt, transaction),
+            self.least_other(Part::ReadAt, transaction),
         )
     }
 
@@ -147,12 +188,12 @@ impl Held {
     {
         match kind {
             Kind::Changed => lesser(
-                self.read_below.least_other(transaction),
+                self.least_other(Part::ReadBelow, transaction),
                 self.least_fixed(transaction),
             ),
             Kind::Read => self.least_fixed(transaction),
             Kind::Stays => None,
-            Kind::Descendants => self.descendants.least_other(transaction),
+            Kind::Descendants => self.least_other(Part::CountedAt, transaction),
         }
     }
 
@@ -161,8 +202,8 @@ impl Held {
         ensures { IsLeastOther transaction.0 (λ u. held_by self.now.changed_below u + held_by self.now.stays_below u) (option_map number_of result) }
     {
         lesser(
-            self.changed_below.least_other(transaction),
-            self.stays_below.least_other(transaction),
+            self.least_other(Part::ChangedBelow, transaction),
+            self.least_other(Part::StaysBelow, transaction),
         )
     }
 
@@ -174,15 +215,30 @@ impl Held {
         ensures count { IfOk result (λ n. n ≡ held_by (part_of part self.old) transaction.0 + 1) }
         ensures err { OnErr result (self.new ≡ self.old) }
     {
-        match part {
-            Part::ChangedAt => self.changed.add(transaction),
-            Part::ReadAt => self.read.add(transaction),
-            Part::StaysAt => self.stays.add(transaction),
-            Part::CountedAt => self.descendants.add(transaction),
-            Part::ChangedBelow => self.changed_below.add(transaction),
-            Part::ReadBelow => self.read_below.add(transaction),
-            Part::StaysBelow => self.stays_below.add(transaction),
+        let first = self.firsts.get(part);
+        if first.times == 0 {
+            self.firsts.put(part, transaction.0, 1);
+            return Ok(1);
         }
+        if first.holder == transaction.0 {
+            let Some(more) = first.times.checked_add(1) else {
+                return Err(AllocError);
+            };
+            self.firsts.put(part, first.holder, more);
+            return Ok(more as usize);
+        }
+        if first.holder < transaction.0 {
+            let more = add_in(&mut self.others, part, transaction.0)?;
+            return Ok(more as usize);
+        }
+        let next = Other {
+            part,
+            holder: first.holder,
+            times: first.times,
+        };
+        self.others.insert(0, next)?;
+        self.firsts.put(part, transaction.0, 1);
+        Ok(1)
     }
 
     // One holding less by the transaction in this part, where it has one, and how many are left to it there. Takes no
@@ -193,14 +249,17 @@ impl Held {
         ensures less { IsHeldMore self.new part transaction.0 self.old }
         ensures left { result + 1 ≡ held_by (part_of part self.old) transaction.0 }
     {
-        match part {
-            Part::ChangedAt => self.changed.remove(transaction),
-            Part::ReadAt => self.read.remove(transaction),
-            Part::StaysAt => self.stays.remove(transaction),
-            Part::CountedAt => self.descendants.remove(transaction),
-            Part::ChangedBelow => self.changed_below.remove(transaction),
-            Part::ReadBelow => self.read_below.remove(transaction),
-            Part::StaysBelow => self.stays_below.remove(transaction),
+        let first = self.firsts.get(part);
+        if first.holder != transaction.0 {
+            return remove_in(&mut self.others, part, transaction.0) as usize;
         }
+        let left = first.times - 1;
+        if left > 0 {
+            self.firsts.put(part, first.holder, left);
+        } else {
+            let (holder, times) = take_least(&mut self.others, part);
+            self.firsts.put(part, holder, times);
+        }
+        left as usize
     }
 }

@@ -3,10 +3,12 @@
 
 mod clashing;
 mod counted;
+mod first_holders;
 mod footprint;
 mod held;
 mod holders;
 mod mark;
+mod other_holders;
 mod path_holders;
 mod pid_holders;
 mod table;

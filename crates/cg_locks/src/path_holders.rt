@@ -62,7 +62,7 @@ impl PathHolders {
         match self.nodes.find(path) {
             Some(key) => {
                 let held = self.nodes.get(key);
-                held.part(kind.at_path()).count(transaction)
+                held.count(kind.at_path(), transaction)
             }
             None => 0,
         }
@@ -153,7 +153,7 @@ impl PathHolders {
         match self.nodes.find_prefix(path, depth) {
             Some(key) => {
                 let held = self.nodes.get(key);
-                held.part(Part::CountedAt).count(transaction)
+                held.count(Part::CountedAt, transaction)
             }
             None => 0,
         }

@@ -13,7 +13,7 @@ returns-in-Some c =
     let k = c.args.kind in
     let nodes = c.self.inside.nodes in
     let h = c.get-held.result.now in
-    c.count.ensures ∙ ap (λ C. held_by C t) (c.part.ensures ∙ ap (λ s. part_of s h) c.at_path.ensures)
+    c.count.ensures ∙ ap (λ s. held_by (part_of s h) t) c.at_path.ensures
     ∙ sym (seen_at k nodes.values c.args.self.now c.self.view_is p t ∙ held_there (at_path k) nodes.values p h t (c.get-held.ensures p (sym c.in-Some.ensures)))
 
 pub returns-in-None : goal.returns-in-None

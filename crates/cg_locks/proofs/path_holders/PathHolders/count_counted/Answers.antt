@@ -1,7 +1,6 @@
-use Rattle.std.proofs.Common.{take, sym, ap, ◌∙◌}
+use Rattle.std.proofs.Common.{take, sym, ◌∙◌}
 use Rattle.cg_locks.specs.declared.held.Kind.TheVariants as kinds
 use Rattle.cg_locks.specs.declared.held.Part.TheVariants.{CountedAt}
-use Rattle.cg_locks.specs.Holders.{held_by}
 use Rattle.cg_locks.proofs.HeldMaps.{held_there}
 use Rattle.cg_locks.proofs.Keys.{absent_value}
 use Rattle.cg_locks.proofs.Seen.{seen_at, seen_nowhere}
@@ -13,7 +12,7 @@ returns-in-Some c =
     let p = take c.args.depth c.args.path.now in
     let nodes = c.self.inside.nodes in
     let h = c.get-held.result.now in
-    c.count.ensures ∙ ap (λ C. held_by C t) c.part.ensures
+    c.count.ensures
     ∙ sym (seen_at kinds.Descendants nodes.values c.args.self.now c.self.view_is p t ∙ held_there CountedAt nodes.values p h t (c.get-held.ensures p (sym c.in-Some.ensures)))
 
 pub returns-in-None : goal.returns-in-None
