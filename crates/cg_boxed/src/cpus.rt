@@ -1,4 +1,4 @@
-//! Sets of CPU numbers in memory of their own.
+//! Sets of CPU numbers in memory that their copies share.
 ghost use Rattle.std.specs.Prelude.{◌≡◌, ◌<◌, ℕ, IfOk, IsOk, IsTrue, true};
 ghost use Rattle.std.proofs.Common.{nat_eq, rules};
 ghost use Rattle.std.specs.Cmp.Lexicographic.{pointwise};
@@ -8,12 +8,13 @@ ghost use Rattle.cg_maps.specs.FiniteSet.{has, in_common, is_empty_set, members,
 use cg_cpus::CpuSet;
 use std::alloc::{AllocError, Global};
 use std::marker::Model;
+use std::sync::Arc;
 
-/// A set of CPU numbers, each from 0 to 1,023. The empty set takes no memory of its own.
+/// A set of CPU numbers, each from 0 to 1,023. The empty set takes no memory, and another one shares its with its copies.
 #[derive(Debug)]
 pub struct BoxedCpus {
-    // None of the empty set.
-    set: Option<Box<CpuSet>>,
+    // None of the empty set, and of no other.
+    set: Option<Arc<CpuSet, Global>>,
 }
 
 // By hand, so that whoever drops one calls this, and doesn't drop each thing in it: that makes proofs shorter.
@@ -24,12 +25,15 @@ impl Drop for BoxedCpus {
 }
 
 impl Model for BoxedCpus {
+    ghost use Rattle.std.specs.Prelude.{◌≡◌, IfSome, false};
     ghost use Rattle.std.specs.Option.{option_map_or};
-    ghost use Rattle.cg_maps.specs.FiniteSet.{FiniteSet, no_members};
+    ghost use Rattle.cg_maps.specs.FiniteSet.{FiniteSet, is_empty_set, no_members};
 
     ghost Value = { FiniteSet };
 
     ghost view = { λ b. option_map_or (λ x. x.value) b.set no_members };
+
+    ghost invariant = { λ b. IfSome b.set (λ x. is_empty_set x.value ≡ false) };
 }
 
 impl PartialEq for BoxedCpus {
@@ -63,7 +67,7 @@ impl BoxedCpus {
             return Ok(BoxedCpus::empty());
         }
         Ok(BoxedCpus {
-            set: Some(Box::new(alloc, cpus)?),
+            set: Some(Arc::new(alloc, cpus)?),
         })
     }
 
@@ -82,8 +86,8 @@ impl BoxedCpus {
         ensures { result ≡ is_empty_set self.now }
     {
         match &self.set {
-            Some(set) => set.is_empty(),
-            None => CpuSet::empty().is_empty(),
+            Some(_) => false,
+            None => true,
         }
     }
 
@@ -108,11 +112,16 @@ impl BoxedCpus {
         }
     }
 
-    /// An equal set; an error where there is no memory for it. The empty set takes none.
-    pub fn copy(&self, alloc: Global) -> Result<BoxedCpus, AllocError>
+    /// An equal set, which takes no memory. An error where too many share it, which are never those of the empty set.
+    pub fn copy(&self, _alloc: Global) -> Result<BoxedCpus, AllocError>
         ensures value { IfOk result (λ b. b ≡ self.now) }
         ensures empty { is_empty_set self.now ≡ true → IsOk result }
     {
-        BoxedCpus::new(alloc, self.get())
+        match &self.set {
+            Some(set) => Ok(BoxedCpus {
+                set: Some(set.clone()?),
+            }),
+            None => Ok(BoxedCpus::empty()),
+        }
     }
 }
