@@ -169,6 +169,50 @@ impl Command {
         })
     }
 
+    /// The same command. Where its path is long and has an entry in the tree, it shares the text of that from now on. Takes no
+    /// memory.
+    pub fn shared(self, alloc: Global, tree: &Tree) -> Command
+        ensures { result ≡ self }
+    {
+        match self {
+            Command::Create { path } => Command::Create {
+                path: tree.shared(alloc, path),
+            },
+            Command::Remove { path } => Command::Remove {
+                path: tree.shared(alloc, path),
+            },
+            Command::Migrate { pid, path } => Command::Migrate {
+                pid,
+                path: tree.shared(alloc, path),
+            },
+            Command::Subtree { path, ops } => Command::Subtree {
+                path: tree.shared(alloc, path),
+                ops,
+            },
+            Command::Freeze { path, value } => Command::Freeze {
+                path: tree.shared(alloc, path),
+                value,
+            },
+            Command::Cpus { path, cpus } => Command::Cpus {
+                path: tree.shared(alloc, path),
+                cpus,
+            },
+            Command::Show { path, file } => Command::Show {
+                path: tree.shared(alloc, path),
+                file,
+            },
+            Command::Online { cpus } => Command::Online { cpus },
+            Command::MaxDescendants { path, limit } => Command::MaxDescendants {
+                path: tree.shared(alloc, path),
+                limit,
+            },
+            Command::MaxDepth { path, limit } => Command::MaxDepth {
+                path: tree.shared(alloc, path),
+                limit,
+            },
+        }
+    }
+
     /// Whether the tree accepts the command: its own checks, in order. A refusal is the one that the command's definition
     /// gives. Takes no memory.
     pub fn check(&self, tree: &Tree) -> Result<(), Refusal>

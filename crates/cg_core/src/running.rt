@@ -64,7 +64,7 @@ impl Core {
                 self.history.push(Record {
                     session,
                     txn: number,
-                    request: Request::Do(command),
+                    request: Request::Do(command.shared(alloc, &self.tree)),
                     answer: recorded,
                 });
                 answer

@@ -1,5 +1,5 @@
 -- What a tree is seen as when a node is put in.
-use Rattle.std.proofs.Common.{◌≡◌, ◌≢◌, ℕ, suc, ◌+◌, ◌<◌, Bool, true, false, cond, List, [], ◌∷◌, ◌++◌, length, Option, None, Some, IsSome, is_some, unwrap_or, option_map, String, string_bytes, refl, sym, ap, subst, ◌∙◌, arith, true≢false, add-zero, length-append}
+use Rattle.std.proofs.Common.{◌≡◌, ◌≢◌, ℕ, suc, ◌+◌, ◌<◌, Bool, true, false, cond, List, [], ◌∷◌, ◌++◌, length, Option, None, Some, IsSome, is_some, unwrap_or, option_map, refl, sym, ap, subst, ◌∙◌, arith, true≢false, add-zero, length-append}
 use Rattle.std.specs.FinMap.Entries.{find}
 use Rattle.slab.specs.Slab as slab
 use Rattle.cg_maps.specs.FiniteMap.{from_entries, get, set_at}
@@ -24,7 +24,7 @@ given : {A : Type 0} (o : Option A) (d : A) → IsSome o → o ≡ Some (unwrap_
 given None d h = absurd (true≢false (sym h))
 given (Some x) d h = refl
 
-module _ {V Z : Type 0} (es fs : List (String Z × NodeKey)) (nodes : slab.Slab (Node V)) (l : IsLinked es nodes) (g : Nodes V) (is : seen es nodes ≡ g) (p : Path) (k : NodeKey) (m : NodeView V) (absent : get g.keys p ≡ None) (below : HasParent g.keys p)
+module _ {V : Type 0} (es fs : List (List ℕ × NodeKey)) (nodes : slab.Slab (Node V)) (l : IsLinked es nodes) (g : Nodes V) (is : seen es nodes ≡ g) (p : Path) (k : NodeKey) (m : NodeView V) (absent : get g.keys p ≡ None) (below : HasParent g.keys p)
     (entered : paths_of fs ≡ paths_of es ++ (p, k) ∷ []) (packed : HavePaths fs) (grown put : slab.Slab (Node V)) (kept : (i : NodeKey) → node_in grown i ≡ node_in nodes i) (vacant : node_in nodes k ≡ None) (up : Writes grown put k (Some m))
     (entry : m.entry ≡ length es) (depth : m.depth ≡ length p) (childless : m.children ≡ []) (parent : Option NodeKey) (root : is_root p ≡ true → parent ≡ None) (value : is_root p ≡ false → parent ≡ get g.keys (parent_path p)) (own : m.parent ≡ unwrap_or parent k)
     (place : (kp : NodeKey) (n : NodeView V) → parent ≡ Some kp → node_in nodes kp ≡ Some n → m.place ≡ length n.children) (low : m.place < 4294967295) where
@@ -54,7 +54,7 @@ module _ {V Z : Type 0} (es fs : List (String Z × NodeKey)) (nodes : slab.Slab 
   pushed : IsTree (children_in (paths_of es)) (paths_of es ++ (p, k) ∷ []) (node_in put)
   pushed =
       tree-push (children_in (paths_of es)) (paths_of es) (node_in nodes) (node_in put) p k m l.tree not_found vacant up.changed others
-      (entry ∙ sym (length-by_paths (λ s. string_bytes s) es)) depth (ap length childless ∙ sym no_children) parent_found
+      (entry ∙ sym (length-by_paths (λ s. s) es)) depth (ap length childless ∙ sym no_children) parent_found
 
   counted : (q : Path) → children_in (paths_of es ++ (p, k) ∷ []) q ≡ children_in (paths_of es) q + cond (is_parent q p) 1 0
   counted q = count-push (λ (e : Path × NodeKey). is_parent q e.0) (paths_of es) (p, k)
@@ -133,8 +133,8 @@ module _ {V Z : Type 0} (es fs : List (String Z × NodeKey)) (nodes : slab.Slab 
 
     longer : length fs ≡ length es + 1
     longer =
-        sym (length-by_paths (λ s. string_bytes s) fs) ∙ ap length entered ∙ length-append (paths_of es) ((p, k) ∷ [])
-        ∙ ap (λ n. n + 1) (length-by_paths (λ s. string_bytes s) es)
+        sym (length-by_paths (λ k. k) fs) ∙ ap length entered ∙ length-append (paths_of es) ((p, k) ∷ [])
+        ∙ ap (λ n. n + 1) (length-by_paths (λ k. k) es)
 
     pub linked-added : length es < 4294967295 → IsLinked fs later
     linked-added few = record {
@@ -173,7 +173,7 @@ module _ {V Z : Type 0} (es fs : List (String Z × NodeKey)) (nodes : slab.Slab 
       some_not_none x.1 (node_in nodes k) x.3 vacant
 
 -- nodes that are seen alike are the same tree
-module _ {V Z : Type 0} (es fs : List (String Z × NodeKey)) (nodes later : slab.Slab (Node V)) (l : IsLinked es nodes) (same : fs ≡ es) (alike : (i : NodeKey) → node_in later i ≡ node_in nodes i) where
+module _ {V : Type 0} (es fs : List (List ℕ × NodeKey)) (nodes later : slab.Slab (Node V)) (l : IsLinked es nodes) (same : fs ≡ es) (alike : (i : NodeKey) → node_in later i ≡ node_in nodes i) where
   all_alike : node_in later ≡ node_in nodes
   all_alike = λ j i. alike i j
 

@@ -1,5 +1,5 @@
 -- What a tree is seen as when a node is written, put in or taken out.
-use Rattle.std.proofs.Common.{◌≡◌, ◌≢◌, zero, suc, ◌==◌, Bool, true, false, cond, List, [], ◌∷◌, length, Contains, Some, option_map, String, refl, sym, ap, subst, ◌∙◌, inl, inr, arith, true≢false, eq-eqb}
+use Rattle.std.proofs.Common.{◌≡◌, ◌≢◌, ℕ, zero, suc, ◌==◌, Bool, true, false, cond, List, [], ◌∷◌, length, Contains, Some, option_map, refl, sym, ap, subst, ◌∙◌, inl, inr, arith, true≢false, eq-eqb}
 use Rattle.std.specs.List.{AllByRecursion}
 use Rattle.std.specs.Ordering.{eq_by_cmp}
 use Rattle.std.specs.FinMap.Entries.{find}
@@ -35,7 +35,7 @@ path_of-is keys k p one h =
     let listed = entries_held path_cmp_total path_cmp_exact keys in
     path_in-is keys k p one h (entries keys) (each_entry path_cmp_total keys) ((listed.held p k).1 h)
 
-module _ {V Z : Type 0} (es : List (String Z × NodeKey)) (nodes : slab.Slab (Node V)) (l : IsLinked es nodes) (g : Nodes V) (is : seen es nodes ≡ g) where
+module _ {V : Type 0} (es : List (List ℕ × NodeKey)) (nodes : slab.Slab (Node V)) (l : IsLinked es nodes) (g : Nodes V) (is : seen es nodes ≡ g) where
   -- ---- a value is written
 
   module _ (later : slab.Slab (Node V)) (p : Path) (k : NodeKey) (n m : NodeView V) (h : get g.keys p ≡ Some k) (at : node_in nodes k ≡ Some n) (up : Writes nodes later k (Some m))

@@ -1,12 +1,11 @@
 -- Entries by the texts of paths, in no order, as entries by paths.
-use Rattle.std.proofs.Common.{◌≡◌, ℕ, zero, suc, ◌+◌, Bool, cond, List, [], ◌∷◌, ◌++◌, length, None, Some, option_map, String, string_bytes, refl, sym, ap, subst, ◌∙◌}
+use Rattle.std.proofs.Common.{◌≡◌, ℕ, zero, suc, ◌+◌, Bool, cond, List, [], ◌∷◌, ◌++◌, length, None, Some, option_map, refl, sym, ap, subst, ◌∙◌}
 use Rattle.std.specs.List.{slice_get, count_by}
 use Rattle.std.specs.Str.{bytes_eq}
 use Rattle.std.specs.Ordering.{is_eq}
 use Rattle.std.specs.Cmp.Lexicographic.{texts_ties}
 use Rattle.std.specs.FinMap.Entries.{find}
 use Rattle.std.specs.Map.{lookup}
-use Rattle.std.specs.String.{string_eq}
 use Rattle.indexmap.specs.IndexMap.{IndexMap, insert_entry}
 use Rattle.indexmap.proofs.CallerLemmas.{insert_entry-new}
 use Rattle.cg_maps.specs.FiniteMap.{get, from_entries}
@@ -84,6 +83,6 @@ module _ {K X : Type 0} (text : K → List ℕ) where
 
 -- ---- a new text goes last
 
-pub entered : {X Z S : Type 0} (m : IndexMap (String Z) X S) (s : String Z) (x : X) → IsPacked (string_bytes s) → ArePacked (λ k. string_bytes k) m.entries → find path_cmp (names_in (string_bytes s)) (by_paths (λ k. string_bytes k) m.entries) ≡ None
-    → insert_entry string_eq m.entries s x ≡ m.entries ++ (s, x) ∷ []
-entered m s x h a absent = insert_entry-new string_eq m s x (lookup-by_paths (λ k. string_bytes k) (string_bytes s) h.start m.entries a ∙ absent)
+pub entered : {X S : Type 0} (m : IndexMap (List ℕ) X S) (s : List ℕ) (x : X) → IsPacked s → ArePacked (λ k. k) m.entries → find path_cmp (names_in s) (by_paths (λ k. k) m.entries) ≡ None
+    → insert_entry bytes_eq m.entries s x ≡ m.entries ++ (s, x) ∷ []
+entered m s x h a absent = insert_entry-new bytes_eq m s x (lookup-by_paths (λ k. k) s h.start m.entries a ∙ absent)

@@ -1,5 +1,5 @@
 -- Keys by ascending texts are the keys by ascending paths.
-use Rattle.std.proofs.Common.{◌≡◌, ◌≢◌, ℕ, zero, suc, ◌+◌, ◌<◌, ◌≤◌, ◌==◌, Bool, true, false, cond, List, [], ◌∷◌, ◌++◌, map, length, get_or, take, Option, None, Some, Contains, option_map, String, string_bytes, refl, sym, ap, subst, ◌∙◌, arith, true≢false, eq-eqb}
+use Rattle.std.proofs.Common.{◌≡◌, ◌≢◌, ℕ, zero, suc, ◌+◌, ◌<◌, ◌≤◌, ◌==◌, Bool, true, false, cond, List, [], ◌∷◌, ◌++◌, map, length, get_or, take, Option, None, Some, Contains, option_map, refl, sym, ap, subst, ◌∙◌, arith, true≢false, eq-eqb}
 use Rattle.std.specs.List.{AllByRecursion, IsDistinct, slice_get}
 use Rattle.std.specs.List.Sorted.{IsPermutation, IsStrictlySortedBy}
 use Rattle.std.specs.declared.cmp.Ordering.{Ordering}
@@ -9,7 +9,7 @@ use Rattle.std.specs.Cmp.Lexicographic.{slice_cmp, nat_list_cmp_total}
 use Rattle.std.specs.FinMap.{slice_cmp-IsAntisymmetric, nat_cmp-IsAntisymmetric}
 use Rattle.std.specs.FinMap.Entries.{find}
 use Rattle.std.specs.Map.{keys_of}
-use Rattle.std.proofs.lemmas.List.{map-append, length-map, take_more}
+use Rattle.std.proofs.lemmas.List.{length-map, take_more}
 use Rattle.std.proofs.lemmas.List.Elements.{All-from_recursion, recursion_from_All}
 use Rattle.std.proofs.lemmas.List.Sorted.{IsPermutation-map, All-permutation, Contains-permutation, IsPermutation-sym}
 use Rattle.std.proofs.lemmas.Map.Keys.{IsDistinct-from_apart, apart_from_distinct, IsDistinct-IsPermutation, sorted_from_all_adjacent}
@@ -27,7 +27,7 @@ use Rattle.cg_path_tree.specs.declared.node.Node.{Node}
 use Rattle.cg_path_tree.specs.declared.node.NodeKey.{NodeKey}
 use Rattle.cg_path_tree.specs.Linked.{paths_of, children_in, node_in, IsLinked, seen}
 use Rattle.cg_path_tree.specs.Nodes.{Nodes, with_paths, ArePassing, HaveOnePath}
-use Rattle.cg_path_tree.specs.Listing.{bytes_of, keys_in, IsText, AreTexts, AreInOrder}
+use Rattle.cg_path_tree.specs.Listing.{keys_in, IsText, AreTexts, AreInOrder}
 use Rattle.cg_path_tree.proofs.ListChanges.{same_some, some_not_none, contains_at, at_contained, at_mapped, mapped_at}
 use Rattle.cg_path_tree.proofs.Finding.{found_at, standing_of, absent_by, itself}
 use Rattle.cg_path_tree.proofs.Indexed.{get_by_find, by_path, same_at, packed_at}
@@ -220,40 +220,31 @@ passing_in_order keys test es ks one texts once order passing =
 
 -- ---- the entries of a tree
 
-pub bytes_more : {Z : Type 0} (es : List (String Z × NodeKey)) (i : ℕ) (e : String Z × NodeKey) → slice_get es i ≡ Some e → bytes_of (take (i + 1) es) ≡ bytes_of (take i es) ++ (string_bytes e.0, e.1) ∷ []
-bytes_more {Z} es i e h =
-    ap bytes_of (take_more es i e (slice_get_within es i e h))
-    ∙ map-append (λ (x : String Z × NodeKey). (string_bytes x.0, x.1)) (take i es) (get_or es i e ∷ [])
-    ∙ ap (λ (x : String Z × NodeKey). bytes_of (take i es) ++ (string_bytes x.0, x.1) ∷ []) (get_or_from_slice_get es i e e h)
+pub entries_more : (es : List (List ℕ × NodeKey)) (i : ℕ) (e : List ℕ × NodeKey) → slice_get es i ≡ Some e → take (i + 1) es ≡ take i es ++ e ∷ []
+entries_more es i e h = take_more es i e (slice_get_within es i e h) ∙ ap (λ (x : List ℕ × NodeKey). take i es ++ x ∷ []) (get_or_from_slice_get es i e e h)
 
-module _ {V Z : Type 0} (es : List (String Z × NodeKey)) (nodes : slab.Slab (Node V)) (l : IsLinked es nodes) (g : Nodes V) (is : seen es nodes ≡ g) where
-  path_entry : (j : ℕ) (e : String Z × NodeKey) → slice_get es j ≡ Some e → slice_get (paths_of es) j ≡ Some (names_in (string_bytes e.0), e.1)
-  path_entry j e h = same_at (λ s. string_bytes s) es j ∙ ap (option_map (by_path (λ s. string_bytes s))) h
+module _ {V : Type 0} (es : List (List ℕ × NodeKey)) (nodes : slab.Slab (Node V)) (l : IsLinked es nodes) (g : Nodes V) (is : seen es nodes ≡ g) where
+  path_entry : (j : ℕ) (e : List ℕ × NodeKey) → slice_get es j ≡ Some e → slice_get (paths_of es) j ≡ Some (names_in e.0, e.1)
+  path_entry j e h = same_at (λ s. s) es j ∙ ap (option_map (by_path (λ s. s))) h
 
   -- the entry at a place of the keys
-  entry_at : (j : ℕ) (k : NodeKey) → slice_get (keys_in (bytes_of es)) j ≡ Some k → (e : String Z × NodeKey) × (slice_get es j ≡ Some e) × (e.1 ≡ k)
-  entry_at j k h =
-      let x = mapped_at (λ (y : List ℕ × NodeKey). y.1) (bytes_of es) j k h in
-      let e = mapped_at (λ (y : String Z × NodeKey). (string_bytes y.0, y.1)) es j x.0 x.1 in
-      (e.0, e.1, ap (λ (y : List ℕ × NodeKey). y.1) e.2 ∙ x.2)
+  entry_at : (j : ℕ) (k : NodeKey) → slice_get (keys_in es) j ≡ Some k → (e : List ℕ × NodeKey) × (slice_get es j ≡ Some e) × (e.1 ≡ k)
+  entry_at j k h = mapped_at (λ (y : List ℕ × NodeKey). y.1) es j k h
 
-  pub entries_are_texts : AreTexts g.keys (bytes_of es)
-  entries_are_texts = all_from_each (IsText g.keys) (bytes_of es) (λ j x h.
-      let e = mapped_at (λ (y : String Z × NodeKey). (string_bytes y.0, y.1)) es j x h in
-      subst (IsText g.keys) e.2 (record {
-        packed = packed_at (λ s. string_bytes s) es l.packed j e.0 e.1;
-        found = sym (found_is es nodes l g is (names_in (string_bytes e.0.0))) ∙ found_at (paths_of es) l.tree.once j (names_in (string_bytes e.0.0), e.0.1) (path_entry j e.0 e.1);
-      }))
+  pub entries_are_texts : AreTexts g.keys es
+  entries_are_texts = all_from_each (IsText g.keys) es (λ j e h. record {
+    packed = packed_at (λ s. s) es l.packed j e h;
+    found = sym (found_is es nodes l g is (names_in e.0)) ∙ found_at (paths_of es) l.tree.once j (names_in e.0, e.1) (path_entry j e h);
+  })
 
-  pub entries_once : StandOnce (keys_in (bytes_of es))
+  pub entries_once : StandOnce (keys_in es)
   entries_once i j k a b =
       let x = entry_at i k a in
       let y = entry_at j k b in
-      one_entry (children_in (paths_of es)) (paths_of es) (node_in nodes) l.tree i j (names_in (string_bytes x.0.0), x.0.1) (names_in (string_bytes y.0.0), y.0.1) (path_entry i x.0 x.1) (path_entry j y.0 y.1) (x.2 ∙ sym y.2)
+      one_entry (children_in (paths_of es)) (paths_of es) (node_in nodes) l.tree i j (names_in x.0.0, x.0.1) (names_in y.0.0, y.0.1) (path_entry i x.0 x.1) (path_entry j y.0 y.1) (x.2 ∙ sym y.2)
 
-  pub entries_all : (q : Path) (k : NodeKey) → get g.keys q ≡ Some k → Contains (keys_in (bytes_of es)) k
+  pub entries_all : (q : Path) (k : NodeKey) → get g.keys q ≡ Some k → Contains (keys_in es) k
   entries_all q k h =
       let at = standing_of (paths_of es) q k (found_is es nodes l g is q ∙ h) in
-      let e = unmap (by_path (λ s. string_bytes s)) (slice_get es at.0) (q, k) (sym (same_at (λ s. string_bytes s) es at.0) ∙ at.1) in
-      contains_at (keys_in (bytes_of es)) at.0 k
-      (at_mapped (λ (y : List ℕ × NodeKey). y.1) (bytes_of es) at.0 (string_bytes e.0.0, e.0.1) (at_mapped (λ (y : String Z × NodeKey). (string_bytes y.0, y.1)) es at.0 e.0 e.1) ∙ ap (λ (y : Path × NodeKey). Some y.1) e.2)
+      let e = unmap (by_path (λ s. s)) (slice_get es at.0) (q, k) (sym (same_at (λ s. s) es at.0) ∙ at.1) in
+      contains_at (keys_in es) at.0 k (at_mapped (λ (y : List ℕ × NodeKey). y.1) es at.0 e.0 e.1 ∙ ap (λ (y : Path × NodeKey). Some y.1) e.2)

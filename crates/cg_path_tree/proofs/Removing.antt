@@ -1,5 +1,5 @@
 -- What a tree is seen as when a node is taken out.
-use Rattle.std.proofs.Common.{◌≡◌, ◌≢◌, ℕ, suc, ◌+◌, ◌<◌, Bool, true, false, cond, List, [], ◌∷◌, length, get_or, Option, None, Some, IsSome, is_some, option_map, String, string_bytes, refl, sym, ap, subst, ◌∙◌, arith, true≢false, add-zero, inl, inr}
+use Rattle.std.proofs.Common.{◌≡◌, ◌≢◌, ℕ, suc, ◌+◌, ◌<◌, Bool, true, false, cond, List, [], ◌∷◌, length, get_or, Option, None, Some, IsSome, is_some, option_map, refl, sym, ap, subst, ◌∙◌, arith, true≢false, add-zero, inl, inr}
 use Rattle.std.specs.List.{slice_get, count_by, swap_remove}
 use Rattle.std.specs.Ordering.{eq_by_cmp}
 use Rattle.std.specs.FinMap.Entries.{find}
@@ -23,7 +23,7 @@ use Rattle.cg_path_tree.proofs.Kinship.{left_there, left_is_other, left_is_below
 use Rattle.cg_path_tree.proofs.Adding.{no_names}
 use Rattle.cg_path_tree.proofs.Seen.{found_is, node_at, depth_at, root_by_depth, deep_by_depth}
 
-module _ {V Z : Type 0} (es : List (String Z × NodeKey)) (nodes : slab.Slab (Node V)) (l : IsLinked es nodes) (g : Nodes V) (is : seen es nodes ≡ g) (p : Path) (k : NodeKey) (n : NodeView V) (h : get g.keys p ≡ Some k) (at : node_in nodes k ≡ Some n) where
+module _ {V : Type 0} (es : List (List ℕ × NodeKey)) (nodes : slab.Slab (Node V)) (l : IsLinked es nodes) (g : Nodes V) (is : seen es nodes ≡ g) (p : Path) (k : NodeKey) (n : NodeView V) (h : get g.keys p ≡ Some k) (at : node_in nodes k ≡ Some n) where
   -- the entry of the node
   pub its_entry : slice_get (paths_of es) n.entry ≡ Some (p, k)
   its_entry = let x = node_at es nodes l g is p k n h at in ap (slice_get (paths_of es)) x.2.entry ∙ x.1
@@ -32,15 +32,15 @@ module _ {V Z : Type 0} (es : List (String Z × NodeKey)) (nodes : slab.Slab (No
     others : (i : NodeKey) → i ≢ k → node_in mid i ≡ node_in nodes i
     others i ne = up.others i ne
 
-    module _ (e : String Z × NodeKey) (there : slice_get es n.entry ≡ Some e) where
-      e_is : by_path (λ s. string_bytes s) e ≡ (p, k)
-      e_is = same_some (by_path (λ s. string_bytes s) e) (p, k) (sym (same_at (λ s. string_bytes s) es n.entry ∙ ap (option_map (by_path (λ s. string_bytes s))) there) ∙ its_entry)
+    module _ (e : List ℕ × NodeKey) (there : slice_get es n.entry ≡ Some e) where
+      e_is : by_path (λ s. s) e ≡ (p, k)
+      e_is = same_some (by_path (λ s. s) e) (p, k) (sym (same_at (λ s. s) es n.entry ∙ ap (option_map (by_path (λ s. s))) there) ∙ its_entry)
 
       loses : LosesAt es (swap_remove es n.entry e) n.entry
       loses = loses-swap_remove es n.entry e there
 
       losing : LosesAt (paths_of es) (paths_of (swap_remove es n.entry e)) n.entry
-      losing = loses-by_paths (λ s. string_bytes s) es (swap_remove es n.entry e) n.entry loses
+      losing = loses-by_paths (λ s. s) es (swap_remove es n.entry e) n.entry loses
 
       -- an entry that is left stood elsewhere before, and its node is still there
       left_before : (j : ℕ) (f : Path × NodeKey) → slice_get (paths_of (swap_remove es n.entry e)) j ≡ Some f → (i : ℕ) × (i ≢ n.entry) × (slice_get (paths_of es) i ≡ Some f)
@@ -54,13 +54,13 @@ module _ {V Z : Type 0} (es : List (String Z × NodeKey)) (nodes : slab.Slab (No
           (x.0, others f.1 apart ∙ x.1)
 
       -- the entry that moves has a node
-      pub moved_node : (f : String Z × NodeKey) → slice_get (swap_remove es n.entry e) n.entry ≡ Some f → IsSome (node_in mid f.1)
+      pub moved_node : (f : List ℕ × NodeKey) → slice_get (swap_remove es n.entry e) n.entry ≡ Some f → IsSome (node_in mid f.1)
       moved_node f left =
-          let x = still_node n.entry (by_path (λ s. string_bytes s) f) (same_at (λ s. string_bytes s) (swap_remove es n.entry e) n.entry ∙ ap (option_map (by_path (λ s. string_bytes s))) left) in
+          let x = still_node n.entry (by_path (λ s. s) f) (same_at (λ s. s) (swap_remove es n.entry e) n.entry ∙ ap (option_map (by_path (λ s. s))) left) in
           ap is_some x.1
 
-      module _ (fs : List (String Z × NodeKey)) (left : fs ≡ swap_remove es n.entry e) (leaf : IsLeaf g.keys p) (placed : slab.Slab (Node V))
-          (moved : (f : String Z × NodeKey) (m : NodeView V) → slice_get fs n.entry ≡ Some f → node_in mid f.1 ≡ Some m → Writes mid placed f.1 (Some (record m { entry = n.entry }))) (unmoved : slice_get fs n.entry ≡ None → placed ≡ mid) where
+      module _ (fs : List (List ℕ × NodeKey)) (left : fs ≡ swap_remove es n.entry e) (leaf : IsLeaf g.keys p) (placed : slab.Slab (Node V))
+          (moved : (f : List ℕ × NodeKey) (m : NodeView V) → slice_get fs n.entry ≡ Some f → node_in mid f.1 ≡ Some m → Writes mid placed f.1 (Some (record m { entry = n.entry }))) (unmoved : slice_get fs n.entry ≡ None → placed ≡ mid) where
         losing_fs : LosesAt (paths_of es) (paths_of fs) n.entry
         losing_fs = subst (λ xs. LosesAt (paths_of es) (paths_of xs) n.entry) (sym left) losing
 
@@ -74,12 +74,12 @@ module _ {V Z : Type 0} (es : List (String Z × NodeKey)) (nodes : slab.Slab (No
         no_leaf : (q : Path) → is_parent p q ≡ true → find path_cmp q (paths_of es) ≡ None
         no_leaf q below = found_is es nodes l g is q ∙ leaf q below
 
-        moved_so : (f : Path × NodeKey) (m : NodeView V) → slice_get (paths_of fs) n.entry ≡ Some f → node_in mid f.1 ≡ Some m → (o : Option (String Z × NodeKey)) → slice_get fs n.entry ≡ o → Writes mid placed f.1 (Some (record m { entry = n.entry }))
+        moved_so : (f : Path × NodeKey) (m : NodeView V) → slice_get (paths_of fs) n.entry ≡ Some f → node_in mid f.1 ≡ Some m → (o : Option (List ℕ × NodeKey)) → slice_get fs n.entry ≡ o → Writes mid placed f.1 (Some (record m { entry = n.entry }))
         moved_so f m there node None none =
-            absurd (some_not_none f (slice_get (paths_of fs) n.entry) there (same_at (λ s. string_bytes s) fs n.entry ∙ ap (option_map (by_path (λ s. string_bytes s))) none))
+            absurd (some_not_none f (slice_get (paths_of fs) n.entry) there (same_at (λ s. s) fs n.entry ∙ ap (option_map (by_path (λ s. s))) none))
         moved_so f m there node (Some d) some =
-            let same : by_path (λ s. string_bytes s) d ≡ f =
-            same_some (by_path (λ s. string_bytes s) d) f (sym (same_at (λ s. string_bytes s) fs n.entry ∙ ap (option_map (by_path (λ s. string_bytes s))) some) ∙ there) in
+            let same : by_path (λ s. s) d ≡ f =
+            same_some (by_path (λ s. s) d) f (sym (same_at (λ s. s) fs n.entry ∙ ap (option_map (by_path (λ s. s))) some) ∙ there) in
             let key : d.1 ≡ f.1 = ap (λ (x : Path × NodeKey). x.1) same in
             subst (λ (x : NodeKey). Writes mid placed x (Some (record m { entry = n.entry }))) key (moved d m some (ap (node_in mid) key ∙ node))
 
@@ -94,7 +94,7 @@ module _ {V Z : Type 0} (es : List (String Z × NodeKey)) (nodes : slab.Slab (No
             left_once j n.entry f d there some (ap (λ (x : Path × NodeKey). x.0) (same_some f d (sym a.2 ∙ ap (slice_get (paths_of es)) entry ∙ b.2)))
 
         kept_so : (j : ℕ) (f : Path × NodeKey) → slice_get (paths_of fs) j ≡ Some f → j ≢ n.entry → (o : Option (Path × NodeKey)) → slice_get (paths_of fs) n.entry ≡ o → node_in placed f.1 ≡ node_in mid f.1
-        kept_so j f there ne None none = ap (λ s. node_in s f.1) (unmoved (unmapped (by_path (λ s. string_bytes s)) (slice_get fs n.entry) (sym (same_at (λ s. string_bytes s) fs n.entry) ∙ none)))
+        kept_so j f there ne None none = ap (λ s. node_in s f.1) (unmoved (unmapped (by_path (λ s. s)) (slice_get fs n.entry) (sym (same_at (λ s. s) fs n.entry) ∙ none)))
         kept_so j f there ne (Some d) some =
             let x = node_left n.entry d some in
             let up' = moved_so d x.0 some x.1 (slice_get fs n.entry) refl in
@@ -109,7 +109,7 @@ module _ {V Z : Type 0} (es : List (String Z × NodeKey)) (nodes : slab.Slab (No
 
         -- no value changed but that of the node that goes
         same_value : (i : NodeKey) → i ≢ k → (o : Option (Path × NodeKey)) → slice_get (paths_of fs) n.entry ≡ o → value_of (node_in placed i) ≡ value_of (node_in nodes i)
-        same_value i ne None none = ap (λ s. value_of (node_in s i)) (unmoved (unmapped (by_path (λ s. string_bytes s)) (slice_get fs n.entry) (sym (same_at (λ s. string_bytes s) fs n.entry) ∙ none))) ∙ ap value_of (others i ne)
+        same_value i ne None none = ap (λ s. value_of (node_in s i)) (unmoved (unmapped (by_path (λ s. s)) (slice_get fs n.entry) (sym (same_at (λ s. s) fs n.entry) ∙ none))) ∙ ap value_of (others i ne)
         same_value i ne (Some d) some =
             let x = node_left n.entry d some in
             let up' = moved_so d x.0 some x.1 (slice_get fs n.entry) refl in
@@ -117,7 +117,7 @@ module _ {V Z : Type 0} (es : List (String Z × NodeKey)) (nodes : slab.Slab (No
 
         -- the node is gone
         gone_so : (o : Option (Path × NodeKey)) → slice_get (paths_of fs) n.entry ≡ o → node_in placed k ≡ None
-        gone_so None none = ap (λ s. node_in s k) (unmoved (unmapped (by_path (λ s. string_bytes s)) (slice_get fs n.entry) (sym (same_at (λ s. string_bytes s) fs n.entry) ∙ none))) ∙ up.changed
+        gone_so None none = ap (λ s. node_in s k) (unmoved (unmapped (by_path (λ s. s)) (slice_get fs n.entry) (sym (same_at (λ s. s) fs n.entry) ∙ none))) ∙ up.changed
         gone_so (Some d) some =
             let x = node_left n.entry d some in
             let up' = moved_so d x.0 some x.1 (slice_get fs n.entry) refl in
@@ -127,7 +127,7 @@ module _ {V Z : Type 0} (es : List (String Z × NodeKey)) (nodes : slab.Slab (No
         -- no list and no place changed yet
         same_kin : (i : NodeKey) → i ≢ k → (o : Option (Path × NodeKey)) → slice_get (paths_of fs) n.entry ≡ o → kin_in placed i ≡ kin_in nodes i
         same_kin i ne None none =
-            ap (λ s. kin_in s i) (unmoved (unmapped (by_path (λ s. string_bytes s)) (slice_get fs n.entry) (sym (same_at (λ s. string_bytes s) fs n.entry) ∙ none))) ∙ ap (option_map kin_of) (others i ne)
+            ap (λ s. kin_in s i) (unmoved (unmapped (by_path (λ s. s)) (slice_get fs n.entry) (sym (same_at (λ s. s) fs n.entry) ∙ none))) ∙ ap (option_map kin_of) (others i ne)
         same_kin i ne (Some d) some =
             let x = node_left n.entry d some in
             let up' = moved_so d x.0 some x.1 (slice_get fs n.entry) refl in
@@ -157,13 +157,13 @@ module _ {V Z : Type 0} (es : List (String Z × NodeKey)) (nodes : slab.Slab (No
         counted : (q : Path) → children_in (paths_of fs) q + cond (is_parent q p) 1 0 ≡ children_in (paths_of es) q
         counted q =
             let low : n.entry < length es = slice_get_within es n.entry e there in
-            let test : String Z × NodeKey → Bool = λ f. is_parent q (names_in (string_bytes f.0)) in
-            let path : names_in (string_bytes (get_or es n.entry e).0) ≡ p = ap (λ (f : String Z × NodeKey). names_in (string_bytes f.0)) (get_or_from_slice_get es n.entry e e there) ∙ ap (λ (x : Path × NodeKey). x.0) e_is in
+            let test : List ℕ × NodeKey → Bool = λ f. is_parent q (names_in f.0) in
+            let path : names_in (get_or es n.entry e).0 ≡ p = ap (λ (f : List ℕ × NodeKey). names_in f.0) (get_or_from_slice_get es n.entry e e there) ∙ ap (λ (x : Path × NodeKey). x.0) e_is in
             ap (λ xs. children_in (paths_of xs) q + cond (is_parent q p) 1 0) left
-            ∙ ap (λ c. c + cond (is_parent q p) 1 0) (count-by_paths (λ s. string_bytes s) (λ (f : Path × NodeKey). is_parent q f.0) (swap_remove es n.entry e))
+            ∙ ap (λ c. c + cond (is_parent q p) 1 0) (count-by_paths (λ s. s) (λ (f : Path × NodeKey). is_parent q f.0) (swap_remove es n.entry e))
             ∙ ap (λ r. count_by test (swap_remove es n.entry e) + cond (is_parent q r) 1 0) (sym path)
             ∙ sum_by-swap_remove (λ f. cond (test f) 1 0) es n.entry e low
-            ∙ sym (count-by_paths (λ s. string_bytes s) (λ (f : Path × NodeKey). is_parent q f.0) es)
+            ∙ sym (count-by_paths (λ s. s) (λ (f : Path × NodeKey). is_parent q f.0) es)
 
         module _ (parent : Option NodeKey) (root : n.depth ≡ 0 → parent ≡ None) (value : n.depth ≢ 0 → parent ≡ Some n.parent) where
           not_the_root : (kp : NodeKey) → parent ≡ Some kp → is_root p ≡ false
@@ -321,7 +321,7 @@ module _ {V Z : Type 0} (es : List (String Z × NodeKey)) (nodes : slab.Slab (No
 
             still_packed : HavePaths fs
             still_packed =
-                packed-lose (λ s. string_bytes s) es fs (λ j f there_f.
+                packed-lose (λ s. s) es fs (λ j f there_f.
                 elim (left_cases es fs n.entry (subst (λ xs. LosesAt es xs n.entry) (sym left) loses) j f there_f) [
                   | inl a ↦ (length fs, a.2)
                   | inr a ↦ (j, a.2)

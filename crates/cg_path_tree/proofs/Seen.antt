@@ -1,5 +1,5 @@
 -- What is seen of a tree says what its nodes hold.
-use Rattle.std.proofs.Common.{◌≡◌, ◌≢◌, ◌↔◌, ℕ, zero, suc, ◌-◌, ◌<◌, ◌≤◌, Contains, Bool, true, false, List, [], ◌∷◌, length, take, Option, None, Some, IsSome, is_some, String, string_bytes, option_map, not, inl, inr, refl, sym, ap, subst, ◌∙◌, arith, length-append, length-take, true≢false}
+use Rattle.std.proofs.Common.{◌≡◌, ◌≢◌, ◌↔◌, ℕ, zero, suc, ◌-◌, ◌<◌, ◌≤◌, Contains, Bool, true, false, List, [], ◌∷◌, length, take, Option, None, Some, IsSome, is_some, option_map, not, inl, inr, refl, sym, ap, subst, ◌∙◌, arith, length-append, length-take, true≢false}
 use Rattle.std.specs.List.{slice_get}
 use Rattle.std.specs.FinMap.Entries.{find}
 use Rattle.std.proofs.Math.Seq.{take-append_seam, take-length}
@@ -22,7 +22,7 @@ use Rattle.cg_path_tree.proofs.Views.{some_there, there_mapped, unmap}
 use Rattle.cg_path_tree.proofs.Counting.{count_is, len-from_entries, distinct_from_once}
 use Rattle.cg_path_tree.proofs.Linking.{value_there, has_nodes, get-values, node_found, node_there, one_path}
 
-module _ {V Z : Type 0} (es : List (String Z × NodeKey)) (nodes : slab.Slab (Node V)) (l : IsLinked es nodes) (g : Nodes V) (is : seen es nodes ≡ g) where
+module _ {V : Type 0} (es : List (List ℕ × NodeKey)) (nodes : slab.Slab (Node V)) (l : IsLinked es nodes) (g : Nodes V) (is : seen es nodes ≡ g) where
   abbrev count : Path → ℕ
   count = children_in (paths_of es)
 
@@ -38,10 +38,10 @@ module _ {V Z : Type 0} (es : List (String Z × NodeKey)) (nodes : slab.Slab (No
   first_found (x ∷ xs) k h = ap (λ (y : Path × NodeKey). find path_cmp [] (y ∷ xs)) (same_some x ([], k) h)
 
   -- an entry that stands first, and has no names, is the root's
-  pub first_is_root : (e : String Z × NodeKey) → slice_get es 0 ≡ Some e → length (string_bytes e.0) ≡ 0 → Some e.1 ≡ get g.keys []
+  pub first_is_root : (e : List ℕ × NodeKey) → slice_get es 0 ≡ Some e → length e.0 ≡ 0 → Some e.1 ≡ get g.keys []
   first_is_root e there none =
-      let path : names_in (string_bytes e.0) ≡ [] = no_bytes (string_bytes e.0) none in
-      let first : slice_get (paths_of es) 0 ≡ Some ([], e.1) = same_at (λ k. string_bytes k) es 0 ∙ ap (option_map (by_path (λ k. string_bytes k))) there ∙ ap (λ p. Some (p, e.1)) path in
+      let path : names_in e.0 ≡ [] = no_bytes e.0 none in
+      let first : slice_get (paths_of es) 0 ≡ Some ([], e.1) = same_at (λ k. k) es 0 ∙ ap (option_map (by_path (λ k. k))) there ∙ ap (λ p. Some (p, e.1)) path in
       sym (first_found (paths_of es) e.1 first) ∙ found_is []
 
   pub value_is : (p : Path) → value_there (node_in nodes) (find path_cmp p (paths_of es)) ≡ get g.values p
@@ -76,7 +76,7 @@ module _ {V Z : Type 0} (es : List (String Z × NodeKey)) (nodes : slab.Slab (No
       true≢false (sym below ∙ none_counted (λ (e : Path × NodeKey). is_parent p e.0) (paths_of es) zero_count at_q.0 (q, x) at_q.1))
 
   pub len_is : len g.keys ≡ length es
-  len_is = ap (λ v. len v.keys) (sym is) ∙ len-from_entries (paths_of es) (distinct_from_once (paths_of es) l.tree.once) ∙ length-by_paths (λ k. string_bytes k) es
+  len_is = ap (λ v. len v.keys) (sym is) ∙ len-from_entries (paths_of es) (distinct_from_once (paths_of es) l.tree.once) ∙ length-by_paths (λ k. k) es
 
   pub have_one_path : HaveOnePath g.keys
   have_one_path p q k a b = one_path count (paths_of es) (node_in nodes) l.tree p q k (found_is p ∙ a) (found_is q ∙ b)
@@ -158,24 +158,24 @@ module _ {V Z : Type 0} (es : List (String Z × NodeKey)) (nodes : slab.Slab (No
   -- ---- the entry of a node
 
   -- the entry whose number the node with a key knows
-  pub record IsEntryOf (k : NodeKey) (e : String Z × NodeKey) : Type 0 where
-    pub packed : IsPacked (string_bytes e.0)
-    pub found : get g.keys (names_in (string_bytes e.0)) ≡ Some k
+  pub record IsEntryOf (k : NodeKey) (e : List ℕ × NodeKey) : Type 0 where
+    pub packed : IsPacked e.0
+    pub found : get g.keys (names_in e.0) ≡ Some k
 
-  entry_at : (k : NodeKey) (n : NodeView V) (key : IsKey g.keys k) → node_in nodes k ≡ Some n → option_map (by_path (λ s. string_bytes s)) (slice_get es n.entry) ≡ Some (key.0, k)
+  entry_at : (k : NodeKey) (n : NodeView V) (key : IsKey g.keys k) → node_in nodes k ≡ Some n → option_map (by_path (λ s. s)) (slice_get es n.entry) ≡ Some (key.0, k)
   entry_at k n key at =
       let x = node_at key.0 k n key.1 at in
-      ap (λ j. option_map (by_path (λ s. string_bytes s)) (slice_get es j)) x.2.entry ∙ sym (same_at (λ s. string_bytes s) es x.0) ∙ x.1
+      ap (λ j. option_map (by_path (λ s. s)) (slice_get es j)) x.2.entry ∙ sym (same_at (λ s. s) es x.0) ∙ x.1
 
   pub entry_there : (k : NodeKey) (n : NodeView V) → IsKey g.keys k → node_in nodes k ≡ Some n → slice_get es n.entry ≢ None
-  entry_there k n key at none = some_not_none (key.0, k) None (sym (ap (option_map (by_path (λ s. string_bytes s))) none) ∙ entry_at k n key at) refl
+  entry_there k n key at none = some_not_none (key.0, k) None (sym (ap (option_map (by_path (λ s. s))) none) ∙ entry_at k n key at) refl
 
-  pub entry_of : (k : NodeKey) (n : NodeView V) → IsKey g.keys k → node_in nodes k ≡ Some n → (e : String Z × NodeKey) → slice_get es n.entry ≡ Some e → IsEntryOf k e
+  pub entry_of : (k : NodeKey) (n : NodeView V) → IsKey g.keys k → node_in nodes k ≡ Some n → (e : List ℕ × NodeKey) → slice_get es n.entry ≡ Some e → IsEntryOf k e
   entry_of k n key at e there =
-      let same : by_path (λ s. string_bytes s) e ≡ (key.0, k) =
-      same_some (by_path (λ s. string_bytes s) e) (key.0, k) (sym (ap (option_map (by_path (λ s. string_bytes s))) there) ∙ entry_at k n key at) in
+      let same : by_path (λ s. s) e ≡ (key.0, k) =
+      same_some (by_path (λ s. s) e) (key.0, k) (sym (ap (option_map (by_path (λ s. s))) there) ∙ entry_at k n key at) in
       record {
-        packed = packed_at (λ s. string_bytes s) es l.packed n.entry e there;
+        packed = packed_at (λ s. s) es l.packed n.entry e there;
         found = ap (λ (f : Path × NodeKey). get g.keys f.0) same ∙ key.1;
       }
 
@@ -191,38 +191,38 @@ module _ {V Z : Type 0} (es : List (String Z × NodeKey)) (nodes : slab.Slab (No
         (ap is_some (value some) ∙ sym (ap not r), λ deep. value some ∙ parent_at p k n h at deep)
   ]
 
-  pub the_entry : (k : NodeKey) (n : NodeView V) → IsKey g.keys k → node_in nodes k ≡ Some n → (e : String Z × NodeKey) × (slice_get es n.entry ≡ Some e)
+  pub the_entry : (k : NodeKey) (n : NodeView V) → IsKey g.keys k → node_in nodes k ≡ Some n → (e : List ℕ × NodeKey) × (slice_get es n.entry ≡ Some e)
   the_entry k n key at = by (slice_get es n.entry) refl
     where
-      by : (o : Option (String Z × NodeKey)) → slice_get es n.entry ≡ o → (e : String Z × NodeKey) × (slice_get es n.entry ≡ Some e)
+      by : (o : Option (List ℕ × NodeKey)) → slice_get es n.entry ≡ o → (e : List ℕ × NodeKey) × (slice_get es n.entry ≡ Some e)
       by None none = absurd (entry_there k n key at none)
       by (Some e) some = (e, some)
 
   -- each entry has a node, and each value is that of an entry's node
-  pub entry_slot : (j number : ℕ) (e : String Z × NodeKey) → slice_get es j ≡ Some e → number ≡ e.1.0 → IsSome (slab.get nodes number)
+  pub entry_slot : (j number : ℕ) (e : List ℕ × NodeKey) → slice_get es j ≡ Some e → number ≡ e.1.0 → IsSome (slab.get nodes number)
   entry_slot j number e there is =
-      let x = l.tree.node_of j (by_path (λ s. string_bytes s) e) (same_at (λ s. string_bytes s) es j ∙ ap (option_map (by_path (λ s. string_bytes s))) there) in
+      let x = l.tree.node_of j (by_path (λ s. s) e) (same_at (λ s. s) es j ∙ ap (option_map (by_path (λ s. s))) there) in
       subst (λ i. IsSome (slab.get nodes i)) (sym is) (there_mapped node_view (slab.get nodes e.1.0) (ap is_some x.1))
 
-  pub entry_of_value : (p : Path) (v : V) → get g.values p ≡ Some v → (j : ℕ) × (e : String Z × NodeKey) × (n : NodeView V) × (slice_get es j ≡ Some e) × (node_in nodes e.1 ≡ Some n) × (n.value ≡ v)
+  pub entry_of_value : (p : Path) (v : V) → get g.values p ≡ Some v → (j : ℕ) × (e : List ℕ × NodeKey) × (n : NodeView V) × (slice_get es j ≡ Some e) × (node_in nodes e.1 ≡ Some n) × (n.value ≡ v)
   entry_of_value p v h =
       let k = some_there (get g.keys p) (sym (both_there p) ∙ ap is_some h) in
       let n = node_of_key p k.0 k.1 in
       let x = node_at p k.0 n.0 k.1 n.1 in
-      let e = unmap (by_path (λ s. string_bytes s)) (slice_get es x.0) (p, k.0) (sym (same_at (λ s. string_bytes s) es x.0) ∙ x.1) in
+      let e = unmap (by_path (λ s. s)) (slice_get es x.0) (p, k.0) (sym (same_at (λ s. s) es x.0) ∙ x.1) in
       (x.0, e.0, n.0, e.1, ap (λ (f : Path × NodeKey). node_in nodes f.1) e.2 ∙ n.1, same_some n.0.value v (sym (value_at p k.0 n.0 k.1 n.1) ∙ h))
 
   -- ---- a key is that of a node where the entry with the node's number has it
 
-  pub key_from_entry : (k : NodeKey) (n : NodeView V) (e : String Z × NodeKey) → slice_get es n.entry ≡ Some e → e.1 ≡ k → IsKey g.keys k
+  pub key_from_entry : (k : NodeKey) (n : NodeView V) (e : List ℕ × NodeKey) → slice_get es n.entry ≡ Some e → e.1 ≡ k → IsKey g.keys k
   key_from_entry k n e there own =
-      let path = by_path (λ s. string_bytes s) e in
-      let at : slice_get (paths_of es) n.entry ≡ Some path = same_at (λ s. string_bytes s) es n.entry ∙ ap (option_map (by_path (λ s. string_bytes s))) there in
+      let path = by_path (λ s. s) e in
+      let at : slice_get (paths_of es) n.entry ≡ Some path = same_at (λ s. s) es n.entry ∙ ap (option_map (by_path (λ s. s))) there in
       (path.0, sym (found_is path.0) ∙ found_at (paths_of es) l.tree.once n.entry path at ∙ ap Some own)
 
-  pub key_of_entry : (k : NodeKey) (n : NodeView V) → IsKey g.keys k → node_in nodes k ≡ Some n → (e : String Z × NodeKey) → slice_get es n.entry ≡ Some e → e.1 ≡ k
+  pub key_of_entry : (k : NodeKey) (n : NodeView V) → IsKey g.keys k → node_in nodes k ≡ Some n → (e : List ℕ × NodeKey) → slice_get es n.entry ≡ Some e → e.1 ≡ k
   key_of_entry k n key at e there =
-      ap (λ (f : Path × NodeKey). f.1) (same_some (by_path (λ s. string_bytes s) e) (key.0, k) (sym (ap (option_map (by_path (λ s. string_bytes s))) there) ∙ entry_at k n key at))
+      ap (λ (f : Path × NodeKey). f.1) (same_some (by_path (λ s. s) e) (key.0, k) (sym (ap (option_map (by_path (λ s. s))) there) ∙ entry_at k n key at))
 
   pub no_key : (k : NodeKey) → node_in nodes k ≡ None → ¬ (IsKey g.keys k)
   no_key k none key = true≢false (sym (key_there k key) ∙ ap is_some none)

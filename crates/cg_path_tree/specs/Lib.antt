@@ -3,3 +3,4 @@ pub mod Linked
 pub mod Lends
 pub mod Listing
 pub mod PathEntries
+pub mod IndexText

@@ -1,5 +1,5 @@
 -- How the index and the nodes of a tree belong together.
-use Rattle.std.specs.Prelude.{◌≡◌, ◌≢◌, ℕ, suc, ◌<◌, false, List, [], ◌∷◌, length, Option, None, Some, option_map, slice_get, count_by, vec_len, vec_capacity, String, string_bytes}
+use Rattle.std.specs.Prelude.{◌≡◌, ◌≢◌, ℕ, suc, ◌<◌, false, List, [], ◌∷◌, length, Option, None, Some, option_map, slice_get, count_by, vec_len, vec_capacity}
 use Rattle.std.specs.FinMap.Entries.{find}
 use Rattle.slab.specs.Slab as slab
 use Rattle.cg_maps.specs.FiniteMap.{from_entries}
@@ -14,12 +14,12 @@ abbrev pub children_in : List (Path × NodeKey) → Path → ℕ
 children_in es p = count_by (λ e. is_parent p e.0) es
 
 -- the entries by their paths
-abbrev pub paths_of : {Z : Type 0} → List (String Z × NodeKey) → List (Path × NodeKey)
-paths_of es = by_paths (λ k. string_bytes k) es
+abbrev pub paths_of : List (List ℕ × NodeKey) → List (Path × NodeKey)
+paths_of es = by_paths (λ k. k) es
 
 -- the texts are those of paths
-abbrev pub HavePaths : {Z : Type 0} → List (String Z × NodeKey) → Type 0
-HavePaths es = ArePacked (λ k. string_bytes k) es
+abbrev pub HavePaths : List (List ℕ × NodeKey) → Type 0
+HavePaths es = ArePacked (λ k. k) es
 
 -- what a node says of those above and below it
 pub record Kin : Type 0 where
@@ -108,12 +108,12 @@ module _ {V : Type 0} where
     pub node_of : (j : ℕ) (e : Path × NodeKey) → slice_get es j ≡ Some e → (n : NodeView V) × (node e.1 ≡ Some n) × IsNodeAt count es j e.0 n
 
   -- the index has the texts of paths, and the nodes are those of its entries, so many that each has a number of 32 bits
-  pub record IsLinked {Z : Type 0} (es : List (String Z × NodeKey)) (nodes : slab.Slab (Node V)) : Type 0 where
+  pub record IsLinked (es : List (List ℕ × NodeKey)) (nodes : slab.Slab (Node V)) : Type 0 where
     pub packed : HavePaths es
     pub tree : IsTree (children_in (paths_of es)) (paths_of es) (node_in nodes)
     pub kin : AreKin (paths_of es) (kin_in nodes)
     pub few : length es < 4294967296
 
   -- what is seen of the index and the nodes
-  abbrev pub seen : {Z : Type 0} → List (String Z × NodeKey) → slab.Slab (Node V) → Nodes V
+  abbrev pub seen : List (List ℕ × NodeKey) → slab.Slab (Node V) → Nodes V
   seen es nodes = record { values = from_entries path_cmp (values_at (node_in nodes) (paths_of es)); keys = from_entries path_cmp (paths_of es) }

@@ -1,5 +1,5 @@
 -- Keys with the texts of their nodes' paths, and how they are put in order.
-use Rattle.std.specs.Prelude.{◌≡◌, ℕ, List, map, Some, String, string_bytes}
+use Rattle.std.specs.Prelude.{◌≡◌, ℕ, List, map, Some}
 use denote.Ref.{Bor}
 use Rattle.std.specs.List.{AllByRecursion}
 use Rattle.std.specs.List.Sorted.{IsPermutation, IsSortedByKey}
@@ -13,10 +13,6 @@ use Rattle.cg_path_tree.specs.declared.node.NodeKey.{NodeKey}
 -- each text with its key
 abbrev pub texts_of : List (Bor (List ℕ) × NodeKey) → List (List ℕ × NodeKey)
 texts_of es = map (λ e. (e.0.now, e.1)) es
-
--- the entries of an index, each with the bytes of its text
-abbrev pub bytes_of : {Z : Type 0} → List (String Z × NodeKey) → List (List ℕ × NodeKey)
-bytes_of es = map (λ e. (string_bytes e.0, e.1)) es
 
 -- the keys without their texts
 abbrev pub keys_in : List (List ℕ × NodeKey) → List NodeKey

@@ -5,8 +5,8 @@ ghost use Rattle.slab.specs.Slab as slab;
 ghost use Rattle.cg_name.specs.Path.{path_cmp};
 ghost use Rattle.cg_path_tree.specs.Linked.{NodeView, node_in, paths_of, HavePaths, Writes};
 
+use crate::index_text::IndexText;
 use crate::node::{Node, NodeKey, narrow, set_entry};
-use crate::path_text::text;
 use cg_name::Path;
 use indexmap::IndexMap;
 use slab::Slab;
@@ -15,7 +15,7 @@ use std::alloc::{AllocError, Global};
 // Puts an entry for the path, which has none, behind the others, and makes room for its node: gives that node's key and
 // the entry's number. Where there is no memory for them, the entries stay as they are.
 pub(crate) fn enter<V: Drop>(
-    index: &mut IndexMap<String, NodeKey>,
+    index: &mut IndexMap<IndexText<'static>, NodeKey>,
     nodes: &mut Slab<Node<V>>,
     alloc: Global,
     path: &Path,
@@ -35,14 +35,14 @@ pub(crate) fn enter<V: Drop>(
     let entry = narrow(index.len())?;
     let key = NodeKey::new(narrow(nodes.vacant_key())?);
     nodes.reserve(1)?;
-    let text = String::from_str(alloc, text(path))?;
+    let text = IndexText::own(path.copy(alloc)?);
     index.insert(text, key)?;
     Ok((key, entry))
 }
 
 // Takes out the entry with that number. The last one gets the number, and its node learns of it.
 pub(crate) fn leave<V: Drop>(
-    index: &mut IndexMap<String, NodeKey>,
+    index: &mut IndexMap<IndexText<'static>, NodeKey>,
     nodes: &mut Slab<Node<V>>,
     entry: u32,
 )

@@ -2,6 +2,7 @@
 #![tactic(auto)]
 
 mod entering;
+mod index_text;
 mod node;
 mod path_text;
 mod path_tree;

@@ -1,6 +1,6 @@
-// The texts by which a tree looks paths up. As texts, and not as bytes, they are hashed sixteen bytes at a time.
+// The texts by which a tree looks paths up.
 ghost use Rattle.std.specs.Prelude.{◌≡◌, ◌≤◌, length, take};
-ghost use Rattle.cg_name.specs.Packed.{names_in, IsPacked};
+ghost use Rattle.cg_name.specs.Packed.{names_in, packed_text, IsPacked};
 ghost use Rattle.cg_path_tree.specs.Nodes.{parent_path};
 
 use cg_name::Path;
@@ -9,6 +9,7 @@ use cg_name::Path;
 pub(crate) fn text(path: &Path) -> &str
     ensures value { names_in result.now ≡ path.now }
     ensures packed { IsPacked result.now }
+    ensures text { result.now ≡ packed_text path.now }
 {
     // Names are UTF-8, and so are zero bytes.
     unsafe { std::str::from_utf8_unchecked(path.as_bytes()) }

@@ -8,6 +8,7 @@ ghost use Rattle.cg_name.specs.Path.{is_parent, is_root};
 ghost use Rattle.cg_path_tree.specs.Nodes.{parent_path, path_of, with_paths, AreClosed, ArePassing, HaveOnePath, HasParent, IsKey, IsLeaf, IsRightBelow};
 
 use crate::entering::{enter, leave};
+use crate::index_text::IndexText;
 use crate::node::{Node, NodeKey, add_child, make_room, remove_child};
 use crate::path_text::{parent_text, prefix_text, text};
 use crate::sorting::in_order;
@@ -17,12 +18,14 @@ use slab::Slab;
 use std::alloc::{AllocError, AllocFailed, Global};
 use std::marker::Model;
 
+// How many bytes a text has at least that is worth a look-up, to be shared. A shorter one stands in its path.
+const WORTH_SHARING: usize = 16;
+
 /// A tree of paths with a value at each. Where it has a node it has one at each prefix of its path. A node is found by its
 /// path in one look-up, and then known by its key, from which its value and its parent are a step away.
 pub struct PathTree<V> {
-    // The node of each path, by its text. The texts stand here alone, and a node knows the number of
-    // its entry.
-    index: IndexMap<String, NodeKey>,
+    // The node of each path, by its text. The texts stand here alone, and a node knows the number of its entry.
+    index: IndexMap<IndexText<'static>, NodeKey>,
     nodes: Slab<Node<V>>,
 }
 
@@ -86,18 +89,27 @@ impl<V: Drop> PathTree<V> {
         self.len() == 0
     }
 
+    // The node at the path of this text, if there is one.
+    fn find_text(&self, text: &str) -> Option<NodeKey>
+        requires { IsPacked text.now }
+        ensures { result ≡ get self.now.keys (names_in text.now) }
+    {
+        let entry = IndexText::lent(text);
+        self.index.get(&entry).copied()
+    }
+
     /// The node at the path, if there is one. Takes no memory.
     pub fn find(&self, path: &Path) -> Option<NodeKey>
         ensures { result ≡ get self.now.keys path.now }
     {
-        self.index.get(text(path)).copied()
+        self.find_text(text(path))
     }
 
     /// The node at the path of the first `depth` names, or of all where there are fewer, if there is one. Takes no memory.
     pub fn find_prefix(&self, path: &Path, depth: u32) -> Option<NodeKey>
         ensures { result ≡ get self.now.keys (take depth path.now) }
     {
-        self.index.get(prefix_text(path, depth)).copied()
+        self.find_text(prefix_text(path, depth))
     }
 
     /// The node of the path one name shorter, if there is one; `None` for the root's. Takes no memory.
@@ -108,7 +120,7 @@ impl<V: Drop> PathTree<V> {
         if path.is_root() {
             return None;
         }
-        self.index.get(parent_text(path)).copied()
+        self.find_text(parent_text(path))
     }
 
     /// The root's node, if there is any node. Takes no memory.
@@ -121,7 +133,7 @@ impl<V: Drop> PathTree<V> {
                 return Some(*key);
             }
         }
-        self.index.get("").copied()
+        self.find_text("")
     }
 
     /// The deepest node on the path, and how many names it has, if there is any. Looks at few prefixes, by halving, and
@@ -309,6 +321,38 @@ impl<V: Drop> PathTree<V> {
         match self.index.get_index(node.entry as usize) {
             Some((text, _)) => text.as_str(),
             None => unreachable!(),
+        }
+    }
+
+    // The path of the node with that key, as the index keeps it.
+    fn own_path(&self, key: NodeKey) -> Option<&Path>
+        requires { IsKey self.now.keys key }
+        ensures { IfSome result (λ p. get self.now.keys p.now ≡ Some key) }
+    {
+        let node = &self.nodes[key.number() as usize];
+        let (text, _) = self.index.get_index(node.entry as usize)?;
+        let path = text.path()?;
+        Some(path)
+    }
+
+    /// The same path. Where its text is long and it has a node, it shares the text of that from now on, and lets go of its own.
+    /// Takes no memory.
+    pub fn shared(&self, alloc: Global, path: Path) -> Path
+        ensures { result ≡ path }
+    {
+        if path.as_bytes().len() < WORTH_SHARING {
+            return path;
+        }
+        self.laws();
+        let Some(key) = self.find(&path) else {
+            return path;
+        };
+        let Some(own) = self.own_path(key) else {
+            return path;
+        };
+        match own.copy(alloc) {
+            Ok(own) => own,
+            Err(_) => path,
         }
     }
 

@@ -102,6 +102,13 @@ impl Groups {
         self.nodes.find(path).is_some()
     }
 
+    // The same path, with the text of its node, where it has one.
+    pub(crate) fn shared(&self, alloc: Global, path: Path) -> Path
+        ensures { result ≡ path }
+    {
+        self.nodes.shared(alloc, path)
+    }
+
     // Makes a group at a path that has no entry, the root's or one whose parent has an entry; an error where there is no
     // memory for its entry, which leaves all as it was.
     pub(crate) fn insert(

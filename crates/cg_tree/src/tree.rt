@@ -208,6 +208,14 @@ impl Tree {
         self.groups.contains(path)
     }
 
+    /// The same path. Where its text is long and it has an entry, it shares the text of that from now on, and lets go of its own:
+    /// so what is kept of many commands keeps each path once. Takes no memory.
+    pub fn shared(&self, alloc: Global, path: Path) -> Path
+        ensures { result ≡ path }
+    {
+        self.groups.shared(alloc, path)
+    }
+
     // The settings of each group, `None` at each dead path, and the group of each process.
     pub(crate) fn groups(&self) -> &Groups
         ensures present { present result.now.groups ≡ self.now.tree.groups }

@@ -1,5 +1,5 @@
 -- What is published, and what is read of it.
-use Rattle.std.proofs.Common.{◌≡◌, ℕ, List, ◌++◌, Result, Ok, Err, IfOk, IfErr, OnOk, MatchResult, fold, ap, ◌∙◌, sym, subst}
+use Rattle.std.proofs.Common.{◌≡◌, ℕ, List, [], Result, Ok, Err, IfOk, IfErr, MatchResult, fold, ap, ◌∙◌, sym, subst}
 use Rattle.cg_model.specs.File.{file}
 use Rattle.cg_name.specs.Path.{Path}
 use Rattle.cg_name.specs.declared.file_name.FileName.{FileName}
@@ -8,6 +8,7 @@ use Rattle.cg_view.specs.declared.operation.Operation.{Operation}
 use Rattle.cg_view.specs.declared.rule.View.{View}
 use Rattle.cg_view.specs.declared.shown.Shown.{Shown}
 use Rattle.cg_view.specs.Operations.{tree_after}
+use Rattle.cg_view.specs.Publishing.{IsPublished}
 use Rattle.cg_view.specs.Views.{IsFileOf, Publishes}
 use Rattle.cg_view.proofs.Operations.{absorbed, fold_absorbed}
 
@@ -29,14 +30,11 @@ seen_file v u w x y p f r h same left e =
       text = subst (λ l. file (tree_after x.opening l) p f ≡ r) (sym h.2) (subst (λ (z : Shown). file (tree_after z.opening z.operations.items) p f ≡ r) same e);
     })
 
-pub published_ok : {T E : Type 0} (r : Result T E) (x y : Shown) (ops : List Operation) (D F : Type 0)
-    → MatchResult r (λ _. ((y.opening, y.operations.items) ≡ fold absorbed (x.opening, x.operations.items) ops) × D) (λ _. (y ≡ x) × F)
-    → OnOk r (y.operations.items ≡ x.operations.items ++ ops)
-published_ok (Ok t) x y ops D F h = ap (λ p. p.1) (h.0 ∙ fold_absorbed x.opening x.operations.items ops)
-published_ok (Err e) x y ops D F h = tt
-
-pub published_opening : {T E : Type 0} (r : Result T E) (x y : Shown) (ops : List Operation) (D F : Type 0)
-    → MatchResult r (λ _. ((y.opening, y.operations.items) ≡ fold absorbed (x.opening, x.operations.items) ops) × D) (λ _. (y ≡ x) × F)
-    → y.opening ≡ x.opening
-published_opening (Ok t) x y ops D F h = ap (λ p. p.0) (h.0 ∙ fold_absorbed x.opening x.operations.items ops)
-published_opening (Err e) x y ops D F h = ap (λ (s : Shown). s.opening) h.0
+-- what the writer says of its two copies, of one
+pub are_published : {T E : Type 0} (r : Result T E) (x y : Shown) (ops left : List Operation)
+    → MatchResult r (λ _. ((y.opening, y.operations.items) ≡ fold absorbed (x.opening, x.operations.items) ops) × (left ≡ [])) (λ _. (y ≡ x) × (left ≡ ops))
+    → IsPublished x ops r y left
+are_published (Ok t) x y ops left h =
+    let both = h.0 ∙ fold_absorbed x.opening x.operations.items ops in
+    record { ok = ap (λ p. p.1) both; spent = h.1; opening = ap (λ p. p.0) both; err = tt; kept = tt }
+are_published (Err e) x y ops left h = record { ok = tt; spent = tt; opening = ap (λ (s : Shown). s.opening) h.0; err = h.0; kept = h.1 }

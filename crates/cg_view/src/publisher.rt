@@ -8,6 +8,7 @@ ghost use Rattle.cg_model.specs.Run.{commit_tree};
 ghost use Rattle.cg_name.specs.declared.refusal.Refusal.TheVariants.{Disagree, Full, Memory};
 ghost use Rattle.cg_view.specs.Committed.{meant, operations_of};
 ghost use Rattle.cg_view.specs.Operations.{commits_in, tree_after, StartsWith};
+ghost use Rattle.cg_view.specs.Publishing.{IsPublished};
 ghost use Rattle.cg_view.specs.Views.{newcomer};
 ghost use Rattle.left_right.specs.Sides.{view};
 
@@ -171,12 +172,9 @@ impl Publisher {
     }
 }
 
-// Publishes all that was appended.
+// Publishes all that was appended. Where that fails, the writer is as it was.
 fn publish<R: Wait>(rt: &R, writer: ShownWriter) -> (ShownWriter, Result<(), AllocError>)
-    ensures ok { OnOk result.1 (result.0.desk.shown.value.operations.items ≡ writer.desk.shown.value.operations.items ++ drop writer.behind writer.log.items) }
-    ensures spent { OnOk result.1 (drop result.0.behind result.0.log.items ≡ []) }
-    ensures opening { result.0.desk.shown.value.opening ≡ writer.desk.shown.value.opening }
-    ensures err { OnErr result.1 ((result.0.desk.shown.value ≡ writer.desk.shown.value) × (drop result.0.behind result.0.log.items ≡ drop writer.behind writer.log.items)) }
+    ensures { IsPublished writer.desk.shown.value (drop writer.behind writer.log.items) result.1 result.0.desk.shown.value (drop result.0.behind result.0.log.items) }
 {
     writer.publish_as::<Sees, R>(rt)
 }

@@ -8,25 +8,18 @@ use cg_name::Refusal;
 use cg_view::{Publisher, Told, Viewer};
 use crossbeam_channel::Sender;
 use std::alloc::Global;
-use std::sync::{Mutex, Wait};
+use std::sync::{Mutex, MutexGuard, Wait};
 
-// A Publisher that isn't owned, so that it can be let go where a lock is.
-#[derive(Drop)]
-struct Published<'a> {
-    publisher: &'a mut Publisher,
+/// A Publisher that workers share. As that it can't be dropped: `end` spends it.
+pub(crate) struct Board {
+    publisher: Mutex<Publisher>,
 }
 
-/// A Publisher that workers share.
-#[derive(Drop)]
-pub(crate) struct Board<'a> {
-    published: Mutex<Published<'a>>,
-}
-
-impl<'a> Board<'a> {
+impl Board {
     // Nothing is published yet.
-    pub(crate) fn new(publisher: &'a mut Publisher) -> Board<'a> {
+    pub(crate) fn new(publisher: Publisher) -> Board {
         Board {
-            published: Mutex::new(Published { publisher }),
+            publisher: Mutex::new(publisher),
         }
     }
 
@@ -39,20 +32,27 @@ impl<'a> Board<'a> {
         desk: &Desk,
         watches: &[Sender<Told>],
     ) {
-        let mut published = self.published.lock(rt);
-        let Ok(told) = desk.publish(rt, alloc, published.publisher) else {
-            return;
-        };
-        for watch in watches {
-            // There is room for news of each script.
-            let _ = watch.try_send(rt, told);
+        let mut publisher = self.publisher.lock(rt);
+        if let Ok(told) = desk.publish(rt, alloc, &mut *publisher) {
+            for watch in watches {
+                // There is room for news of each script.
+                let _ = watch.try_send(rt, told);
+            }
         }
+        // What a guard's drop would do, but for what is locked: that can't be dropped.
+        let _ = MutexGuard::unlock(publisher);
     }
 
     // A Viewer that has seen nothing, where there is a place for it.
     pub(crate) fn viewer(&mut self) -> Result<Viewer, Refusal>
         ensures { IfOk result (λ v. seen_by v ≡ newcomer) }
     {
-        self.published.get_mut().publisher.viewer()
+        self.publisher.get_mut().viewer()
+    }
+
+    // Waits for the Viewers that are reading, and ends.
+    pub(crate) fn end<R: Wait>(self, rt: &R) {
+        let Board { publisher } = self;
+        publisher.into_inner().end(rt);
     }
 }

@@ -22,7 +22,7 @@ const MOST_WATCHES: usize = 8;
 pub(crate) fn subscribe_all<S: Sink>(
     alloc: Global,
     watches: &mut [Watch<S>],
-    board: &mut Board<'_>,
+    board: &mut Board,
     scripts: usize,
 ) -> Vec<Sender<Told>>
     ensures { AllZip (IsSubscribed S.taken) watches.old watches.new }
@@ -39,7 +39,7 @@ pub(crate) fn subscribe_all<S: Sink>(
 fn subscribe<S: Sink>(
     alloc: Global,
     watch: &mut Watch<S>,
-    board: &mut Board<'_>,
+    board: &mut Board,
     scripts: usize,
     senders: &mut Vec<Sender<Told>>,
 )

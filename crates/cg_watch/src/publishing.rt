@@ -9,15 +9,15 @@ use std::sync::Wait;
 
 /// A gate round another one, which has published what the desk has committed as a committed script ends, and the watches told.
 #[derive(Drop)]
-pub(crate) struct Publishing<'a, 'p, G, R> {
+pub(crate) struct Publishing<'a, G, R> {
     pub(crate) rt: &'a R,
     pub(crate) alloc: Global,
     pub(crate) gate: &'a G,
-    pub(crate) board: &'a Board<'p>,
+    pub(crate) board: &'a Board,
     pub(crate) watches: Vec<Sender<Told>>,
 }
 
-impl<G: Gate, R: Wait> Gate for Publishing<'_, '_, G, R> {
+impl<G: Gate, R: Wait> Gate for Publishing<'_, G, R> {
     fn before(&self, script: u32, call: u32) {
         self.gate.before(script, call);
     }

@@ -48,22 +48,19 @@ pub fn run_watched<G: Gate + Sync, R: Threads + Wait + Sync, S: Sink + Send + Dr
     if watches.is_empty() {
         return run_scripts(rt, alloc, gate, world, scripts, workers, tries);
     }
-    let mut publisher = Publisher::new(alloc, &world)?;
-    let board = Board::new(&mut publisher);
-    let report = run_beside(
+    let board = Board::new(Publisher::new(alloc, &world)?);
+    run_beside(
         rt, alloc, gate, watches, board, world, scripts, workers, tries,
-    );
-    publisher.end(rt);
-    report
+    )
 }
 
-// The same, with a board that shows the world.
+// The same, with a board that shows the world, which it spends.
 fn run_beside<G: Gate + Sync, R: Threads + Wait + Sync, S: Sink + Send + Drop>(
     rt: &R,
     alloc: Global,
     gate: &G,
     watches: &mut Vec<Watch<S>>,
-    mut board: Board<'_>,
+    mut board: Board,
     world: World,
     scripts: Vec<Script>,
     workers: u32,
@@ -99,6 +96,7 @@ fn run_beside<G: Gate + Sync, R: Threads + Wait + Sync, S: Sink + Send + Drop>(
             requires few_tries { tries ≤ 1000 }
         { run_at(rt, alloc, publishing, world, scripts, workers, tries) },
     );
+    board.end(rt);
     *watches = seen;
     report
 }
@@ -107,7 +105,7 @@ fn run_beside<G: Gate + Sync, R: Threads + Wait + Sync, S: Sink + Send + Drop>(
 fn run_at<G: Gate + Sync, R: Threads + Wait + Sync>(
     rt: &R,
     alloc: Global,
-    gate: Publishing<'_, '_, G, R>,
+    gate: Publishing<'_, G, R>,
     world: World,
     scripts: Vec<Script>,
     workers: u32,

@@ -1,7 +1,7 @@
 use Rattle.std.proofs.Common.{◌∙◌, ap, drop}
 use Rattle.cg_view.proofs.Grows.{grows}
 use Rattle.cg_view.proofs.Operations.{fold_absorbed}
-use Rattle.cg_view.proofs.Seen.{published_ok, published_opening}
+use Rattle.cg_view.proofs.Seen.{are_published}
 use Rattle.cg_view.proofs.publisher.publish.Goals as goal
 
 pub publish_as-requires : goal.publish_as-requires
@@ -11,10 +11,6 @@ publish_as-requires g c next is =
     let both = is ∙ fold_absorbed x.opening x.operations.items ops in
     grows _ _ x next ops (ap (λ p. p.0) both) (ap (λ p. p.1) both)
 
-pub returns-clause-ok : goal.returns-clause-ok
-returns-clause-ok g c =
-    published_ok c.publish_as.result.1 c.args.writer.desk.shown.value c.publish_as.result.0.desk.shown.value (drop c.args.writer.behind c.args.writer.log.items) _ _ c.publish_as.ensures.values
-
-pub returns-clause-opening : goal.returns-clause-opening
-returns-clause-opening g c =
-    published_opening c.publish_as.result.1 c.args.writer.desk.shown.value c.publish_as.result.0.desk.shown.value (drop c.args.writer.behind c.args.writer.log.items) _ _ c.publish_as.ensures.values
+pub returns : goal.returns
+returns g c =
+    are_published c.publish_as.result.1 c.args.writer.desk.shown.value c.publish_as.result.0.desk.shown.value (drop c.args.writer.behind c.args.writer.log.items) (drop c.publish_as.result.0.behind c.publish_as.result.0.log.items) c.publish_as.ensures.values

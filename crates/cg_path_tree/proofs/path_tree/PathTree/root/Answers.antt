@@ -1,20 +1,11 @@
 -- The entry of no names is the root's, wherever it stands.
-use Rattle.std.proofs.Common.{[], length, option_map, string_bytes, sym, ap, ◌∙◌}
+use Rattle.std.proofs.Common.{length, option_map, sym, ap, ◌∙◌}
 use Rattle.std.proofs.lemmas.Bool.{eqb-true}
 use Rattle.std.specs.Map.Iter.{deref_pair}
-use Rattle.cg_maps.specs.FiniteMap.{get}
-use Rattle.cg_path_tree.proofs.Indexed.{get-by_text}
 use Rattle.cg_path_tree.proofs.Seen.{first_is_root}
 use Rattle.cg_path_tree.proofs.path_tree.PathTree.root.Goals as goal
 
 pub returns-then-is_empty : goal.returns-then-is_empty
 returns-then-is_empty g c =
     first_is_root c.self.inside.index.entries c.self.inside.nodes c.self.invariant c.args.self.now c.self.view_is (c.in-Some.text.now, c.in-Some.key.now)
-    (sym c.get_index.ensures.entry ∙ ap (option_map deref_pair) c.in-Some.is) (ap length (sym c.as_str.ensures.value) ∙ eqb-true (length c.as_str.result.now) 0 (sym c.is_empty.ensures ∙ c.if-is_empty.true))
-
-pub returns : goal.returns
-returns g c =
-    c.copied.ensures
-    ∙ c.get.ensures.value
-    ∙ get-by_text (λ k. string_bytes k) [] tt c.self.inside.index.entries c.self.invariant.packed
-    ∙ (λ i. get (c.self.view_is i).keys [])
+    (sym c.get_index.ensures.entry ∙ ap (option_map deref_pair) c.in-Some.is) (ap length (sym c.as_str.ensures) ∙ eqb-true (length c.as_str.result.now) 0 (sym c.is_empty.ensures ∙ c.if-is_empty.true))

@@ -4,8 +4,8 @@ use Rattle.std.specs.Map.Iter.{deref_pair}
 use Rattle.std.proofs.lemmas.List.{map-append}
 use Rattle.std.proofs.lemmas.Result.{IfOk-weaker}
 use Rattle.cg_path_tree.specs.declared.node.NodeKey.{NodeKey}
-use Rattle.cg_path_tree.specs.Listing.{texts_of, bytes_of, AreInOrder}
-use Rattle.cg_path_tree.proofs.Listing.{all_in_order, take_all, item_at, bytes_more, entries_are_texts, entries_once, entries_all}
+use Rattle.cg_path_tree.specs.Listing.{texts_of, AreInOrder}
+use Rattle.cg_path_tree.proofs.Listing.{all_in_order, take_all, item_at, entries_more, entries_are_texts, entries_once, entries_all}
 use Rattle.cg_path_tree.proofs.ListChanges.{some_not_none}
 use Rattle.cg_path_tree.proofs.Seen.{have_one_path}
 use Rattle.cg_path_tree.proofs.path_tree.PathTree.sorted.Goals as goal
@@ -19,8 +19,8 @@ loop-i-preserved g c = elim c.match-get_index.branch [
       ap (λ v. texts_of v.items) w.found-is
       ∙ ap texts_of w.in_ok-push.ensures.items
       ∙ map-append (λ (e : Bor (List ℕ) × NodeKey). (e.0.now, e.1)) c.loop-i.found.items ((w.as_str.result, w.in-Some.key.now) ∷ [])
-      ∙ (λ i. c.loop-i.invariant i ++ (w.as_str.ensures.value i, w.in-Some.key.now) ∷ [])
-      ∙ sym (bytes_more entries c.loop-i.i (w.in-Some.text.now, w.in-Some.key.now) there)
+      ∙ (λ i. c.loop-i.invariant i ++ (w.as_str.ensures i, w.in-Some.key.now) ∷ [])
+      ∙ sym (entries_more entries c.loop-i.i (w.in-Some.text.now, w.in-Some.key.now) there)
   | in_default w ↦
       let entries = c.self.inside.index.entries in
       let low : c.loop-i.i < length entries = omega (arith, c.len-i-end.ensures.len) in
@@ -32,7 +32,7 @@ pub returns : goal.returns
 returns g c =
     let entries = c.self.inside.index.entries in
     let es = texts_of c.loop-i.found.items in
-    let all : es ≡ bytes_of entries = c.loop-i.invariant ∙ ap bytes_of (take_all c.loop-i.i entries (omega (arith, c.len-i-end.ensures.len))) in
+    let all : es ≡ entries = c.loop-i.invariant ∙ take_all c.loop-i.i entries (omega (arith, c.len-i-end.ensures.len)) in
     IfOk-weaker c.in_order.result _ _ (λ ks order.
-    all_in_order c.args.self.now.keys (bytes_of entries) ks.items (have_one_path entries c.self.inside.nodes c.self.invariant c.args.self.now c.self.view_is) (entries_are_texts entries c.self.inside.nodes c.self.invariant c.args.self.now c.self.view_is)
+    all_in_order c.args.self.now.keys entries ks.items (have_one_path entries c.self.inside.nodes c.self.invariant c.args.self.now c.self.view_is) (entries_are_texts entries c.self.inside.nodes c.self.invariant c.args.self.now c.self.view_is)
     (entries_once entries c.self.inside.nodes c.self.invariant c.args.self.now c.self.view_is) (subst (λ xs. AreInOrder xs ks.items) all order) (entries_all entries c.self.inside.nodes c.self.invariant c.args.self.now c.self.view_is)) c.in_order.ensures
