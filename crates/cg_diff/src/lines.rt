@@ -69,7 +69,7 @@ pub(crate) fn append_moved(
 ) -> Result<(), AllocError>
     ensures { OnOk result (out.new.items ≡ out.old.items ++ changed (codes "proc " ++ decimal pid) (same_path before.now after.now) (path_word before.now) (path_word after.now)) }
 {
-    if before.is_same(after) {
+    if AsWord::is_same(before, after) {
         return Ok(());
     }
     out.extend_from_slice(b"~ proc ")?;

@@ -1,7 +1,10 @@
 // The text of a path, in 16 bytes.
-ghost use Rattle.std.specs.Prelude.{◌≡◌, ◌∷◌, ◌++◌, [], IfOk, map};
+ghost use Rattle.std.specs.Prelude.{◌≡◌, ◌∷◌, ◌++◌, [], IfOk, IfSome, IsTrue, map};
+ghost use Rattle.cg_name.specs.Packed.{names_in, IsPacked};
+ghost use Rattle.cg_name.specs.Path.{SpellsPath};
 ghost use Rattle.cg_name.specs.Pieces.{marked};
 
+use crate::simple::kept_byte;
 use crate::slashed::mark_names;
 use smallvec::SmallVec;
 use std::alloc::{AllocError, Global};
@@ -86,6 +89,32 @@ impl PathText {
         })
     }
 
+    // The text of the path that a short word spells, read in one pass. `None` for every word that is longer or has other
+    // bytes than slashes and simple ones, and of such a word nothing is told.
+    #[inline]
+    pub(crate) fn read_simple(word: &[u8]) -> Option<PathText>
+        ensures { IfSome result (λ t. IsPacked t × SpellsPath word.now (names_in t)) }
+    {
+        let (first, rest) = word.split_first()?;
+        if *first != b'/' || rest.len() >= SHORT {
+            return None;
+        }
+        if rest.is_empty() {
+            return Some(PathText::empty());
+        }
+        // The zero byte that stands for the first slash is there already.
+        let mut short = [0u8; SHORT];
+        for i in 0..rest.len() {
+            short[i + 1] = kept_byte(rest[i], short[i])?;
+        }
+        if short[rest.len()] == 0 {
+            return None;
+        }
+        Some(PathText {
+            kept: Kept::Short(rest.len() as u8 + 1, short),
+        })
+    }
+
     // This text, a zero byte and the name; an error where there is no memory for it.
     pub(crate) fn with_name(&self, alloc: Global, name: &[u8]) -> Result<PathText, AllocError>
         ensures { IfOk result (λ t. t ≡ self.now ++ 0 ∷ name.now) }
@@ -124,6 +153,19 @@ impl PathText {
         match &self.kept {
             Kept::Short(len, bytes) => &bytes[..usize::from(*len)],
             Kept::Long(bytes) => bytes.as_slice(),
+        }
+    }
+
+    // Whether the texts are known to be one: short ones by all their bytes at once, with those behind the text.
+    #[inline(always)]
+    pub(crate) fn is_same(&self, other: &PathText) -> bool
+        ensures { IsTrue result → self.now ≡ other.now }
+    {
+        match (&self.kept, &other.kept) {
+            (Kept::Short(len, bytes), Kept::Short(other_len, others)) => {
+                *len == *other_len && *bytes == *others
+            }
+            _ => self.as_slice() == other.as_slice(),
         }
     }
 

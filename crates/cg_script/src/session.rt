@@ -2,9 +2,9 @@
 ghost use Rattle.std.specs.Prelude.{◌≡◌, nat_eq, IfOk, IfErr, OnOk, Some};
 ghost use Rattle.std.specs.Result.{IsErrOf};
 ghost use Rattle.std.specs.Hash as fed;
-ghost use Rattle.std.specs.Cmp.Lexicographic.{pointwise};
-ghost use Rattle.std.specs.Cmp.Rules.{comparing, hashing};
-ghost use Rattle.std.proofs.Common.{rules};
+ghost use Rattle.std.specs.Cmp.Lexicographic.{bytes_decides, pointwise};
+ghost use Rattle.std.specs.Cmp.Rules.{comparing};
+ghost use Rattle.std.proofs.Common.{ap, rules};
 ghost use Rattle.cg_name.specs.Reads.{Reads};
 ghost use Rattle.cg_name.specs.SaveName.{IsSaveName};
 ghost use Rattle.cg_name.specs.declared.refusal.Refusal.TheVariants.{Syntax};
@@ -89,9 +89,9 @@ impl Eq for SessionName {
 }
 
 impl Hash for SessionName {
-    ghost hash_input = { fed.slice fed.u8 };
+    ghost hash_input = { fed.str };
 
-    ghost respects_eq = { Prim.search (hashing, rules) };
+    ghost respects_eq = { λ x y h. ap fed.str ((bytes_decides x y).0 h) };
 
     fn hash<H: Hasher>(&self, state: &mut H) {
         self.name.hash(state);

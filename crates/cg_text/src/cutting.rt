@@ -2,6 +2,7 @@
 //! backslashes, or it stands between quotation marks, where it may have blanks. A blank is a space or a tab.
 ghost use Rattle.std.specs.Prelude.{◌≡◌, ◌↔◌, ◌∷◌, IfErr, IfOk, IsTrue, List, MatchOption, None, OnOk, Option, Some, false, map, true, ℕ};
 ghost use Rattle.std.specs.Result.{IsErrOf};
+ghost use Rattle.std.specs.Str.{IsUtf8};
 ghost use Rattle.std.specs.Str.Lines.{strip_carriage_return};
 ghost use Rattle.cg_name.specs.Refusal.{IsSyntaxOrMemory};
 ghost use Rattle.cg_name.specs.Word.{is_bare_byte, is_blank};
@@ -56,7 +57,7 @@ pub fn read_words<'a>(line: &'a [u8], words: &mut LineWords<'a>) -> Result<bool,
     if line.len() > LONGEST_LINE {
         return Err(Refusal::Syntax);
     }
-    let Ok(line) = std::str::from_utf8(without_carriage_return(line)) else {
+    let Some(line) = as_text(without_carriage_return(line)) else {
         return Err(Refusal::Syntax);
     };
     if is_silent(line) {
@@ -73,6 +74,20 @@ fn without_carriage_return(line: &[u8]) -> &[u8]
     match line {
         [front @ .., b'\r'] => front,
         _ => line,
+    }
+}
+
+// The line as text, where it is UTF-8.
+fn as_text(line: &[u8]) -> Option<&str>
+    ensures { MatchOption result (¬ (IsUtf8 line.now)) (λ text. (text.now ≡ line.now) × IsUtf8 line.now) }
+{
+    // Most lines are of ASCII, which is a shorter test.
+    if line.is_ascii() {
+        return Some(unsafe { std::str::from_utf8_unchecked(line) });
+    }
+    match std::str::from_utf8(line) {
+        Ok(text) => Some(text),
+        Err(_) => None,
     }
 }
 

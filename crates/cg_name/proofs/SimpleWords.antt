@@ -1,0 +1,228 @@
+-- Words of slashes and simple bytes, and the paths that they spell.
+use Rattle.std.proofs.Common.{◌≡◌, ◌≢◌, ◌⊎◌, ℕ, suc, ◌+◌, ◌-◌, ◌<◌, ◌≤◌, ◌==◌, ◌&&◌, ◌||◌, Bool, true, false, not, cond, List, [], ◌∷◌, ◌++◌, length, map, take, drop, get_or, replicate, inl, inr, refl, sym, ap, subst, ◌∙◌, arith, length-append, length-take}
+use Rattle.std.proofs.lemmas.List.Sums.{count_by-le-length}
+use Rattle.std.proofs.lemmas.List.Splits.{length-slice_split}
+use Rattle.std.specs.List.{count_by, AllByRecursion, Contains, list_all, list_any, onto_first}
+use Rattle.std.specs.Str.{IsAscii}
+use Rattle.std.proofs.lemmas.Bool.{ne_eqb, and_parts, and_from, cases_Bool, cond-true, cond-false, not-true, eqb-true, false≢true}
+use Rattle.std.proofs.lemmas.Bool.Decides.{nat_tests}
+use Rattle.std.proofs.Math.ListN.{set, length-map}
+use Rattle.std.proofs.Math.Seq.{take-append_seam}
+use Rattle.std.proofs.lemmas.List.{drop_more, nil_from_length, length-replicate, get_or-set_same, drop_all, map-append, take_all, take_more}
+use Rattle.std.proofs.lemmas.List.Recursion.{and_at}
+use Rattle.std.proofs.lemmas.Str.{IsUtf8-from_ascii}
+use Rattle.std.proofs.lemmas.Str.Ascii.{IsAscii-nil, IsAscii-cons}
+use Rattle.cg_name.specs.Name.{IsName, IsNameByte, reserved_names}
+use Rattle.cg_name.specs.Packed.{names_in, IsPacked}
+use Rattle.cg_name.specs.Path.{Path, IsPath, SpellsPath}
+use Rattle.cg_name.specs.Simple.{is_simple_byte}
+use Rattle.cg_name.specs.Pieces.{pieces, marked}
+use Rattle.cg_name.specs.Word.{is_bare_byte, IsBare}
+use Rattle.cg_name.proofs.Filling.{filled_more}
+use Rattle.cg_name.proofs.Pieces.{path_text-pieces}
+use Rattle.cg_name.proofs.Slashes.{kept_packed}
+
+-- slashes and simple bytes, with no two slashes in a row, nor one at the end; `w` says whether a slash stands before
+abbrev pub simple_text : Bool → List ℕ → Bool
+simple_text w [] = not w
+simple_text w (b ∷ bs) = cond (is_simple_byte b) (simple_text false bs) ((b == 47) && not w && simple_text true bs)
+
+-- ---- a simple byte
+
+is_name_byte : (b : ℕ) → is_simple_byte b ≡ true → IsNameByte b
+is_name_byte b h = ((λ e. false≢true (sym (ap is_simple_byte e) ∙ h)), (λ e. false≢true (sym (ap is_simple_byte e) ∙ h)), (λ e. false≢true (sym (ap is_simple_byte e) ∙ h)))
+
+is_bare : (b : ℕ) → is_simple_byte b ≡ true → is_bare_byte b ≡ true
+is_bare b h = grind (arith, nat_tests)
+
+is_low : (b : ℕ) → is_simple_byte b ≡ true → b < 128
+is_low b h = grind (arith, nat_tests)
+
+no_slash : (b : ℕ) → is_simple_byte b ≡ true → (b == 47) ≡ false
+no_slash b h = grind (arith, nat_tests)
+
+no_zero : (b : ℕ) → is_simple_byte b ≡ true → (b == 0) ≡ false
+no_zero b h = grind (arith, nat_tests)
+
+no_dot : (b : ℕ) → is_simple_byte b ≡ true → (b == 46) ≡ false
+no_dot b h = grind (arith, nat_tests)
+
+-- ---- the names
+
+abbrev AllSimple : List ℕ → Type 0
+AllSimple = AllByRecursion (λ b. is_simple_byte b ≡ true)
+
+ascii : (n : List ℕ) → AllSimple n → IsAscii n
+ascii [] h = IsAscii-nil
+ascii (b ∷ n) h = IsAscii-cons b n (is_low b h.0) (ascii n h.1)
+
+name_bytes : (n : List ℕ) → AllSimple n → AllByRecursion IsNameByte n
+name_bytes [] h = tt
+name_bytes (b ∷ n) h = (is_name_byte b h.0, name_bytes n h.1)
+
+abbrev has_dot : List ℕ → Bool
+has_dot n = list_any (λ b. b == 46) n
+
+undotted : (n : List ℕ) → AllSimple n → has_dot n ≡ false
+undotted [] h = refl
+undotted (b ∷ n) h = (λ i. no_dot b h.0 i || has_dot n) ∙ undotted n h.1
+
+reserved_dots : list_all has_dot reserved_names ≡ true
+reserved_dots = refl
+
+-- each reserved name has a dot
+is_free : (n : List ℕ) → AllSimple n → Contains reserved_names n → ⊥
+is_free n h (k, low, e) =
+    let dot : has_dot (get_or reserved_names k n) ≡ true = and_at (list_all has_dot) has_dot refl (λ x xs. refl) reserved_names k n low reserved_dots in
+    false≢true (sym (undotted n h) ∙ sym (ap has_dot e) ∙ dot)
+
+-- simple bytes, some and at most that many
+abbrev IsShort : ℕ → List ℕ → Type 0
+IsShort k n = AllSimple n × (0 < length n) × (length n ≤ k)
+
+short_name : (k : ℕ) (n : List ℕ) → k ≤ 255 → IsShort k n → IsName n
+short_name k n few h = record {
+  nonempty = h.1;
+  short = omega (arith, few, h.2);
+  text = IsUtf8-from_ascii n (ascii n h.0);
+  bytes = name_bytes n h.0;
+  free = is_free n h.0;
+}
+
+short_names : (k : ℕ) (p : Path) → k ≤ 255 → AllByRecursion (IsShort k) p → AllByRecursion IsName p
+short_names k [] few h = tt
+short_names k (n ∷ p) few h = (short_name k n few h.0, short_names k p few h.1)
+
+-- the first piece may be the rest of a name, and the others are names
+abbrev Parts : Bool → ℕ → ℕ → Path → Type 0
+Parts w k m [] = ⊥
+Parts true k m (n ∷ ns) = IsShort m n × AllByRecursion (IsShort k) ns
+Parts false k m (n ∷ ns) = AllSimple n × (length n ≤ m) × AllByRecursion (IsShort k) ns
+
+one_longer : (w : Bool) (k m b : ℕ) (ps : Path) → is_simple_byte b ≡ true → Parts false k m ps → Parts w k (suc m) (onto_first b ps)
+one_longer w k m b [] s h = absurd h
+one_longer true k m b (n ∷ ns) s h = (((s, h.0), omega arith, omega (arith, h.1)), h.2)
+one_longer false k m b (n ∷ ns) s h = ((s, h.0), omega (arith, h.1), h.2)
+
+wider : (k m : ℕ) (ps : Path) → m ≤ k → Parts true k m ps → AllByRecursion (IsShort k) ps
+wider k m [] low h = absurd h
+wider k m (n ∷ ns) low h = ((h.0.0, h.0.1, omega (arith, low, h.0.2)), h.1)
+
+parts : (w : Bool) (k : ℕ) (bs : List ℕ) → length bs ≤ k → simple_text w bs ≡ true → Parts w k (length bs) (pieces bs)
+parts true k [] low h = absurd (false≢true h)
+parts false k [] low h = (tt, omega arith, tt)
+parts w k (b ∷ bs) low h = elim (cases_Bool (is_simple_byte b)) [
+  | inl simple ↦
+      let left : simple_text false bs ≡ true = sym (cond-true _ _ _ simple) ∙ h in
+      let more = parts false k bs (omega (arith, low)) left in
+      rw (no_slash b simple) (one_longer w k (length bs) b (pieces bs) simple more)
+  | inr other ↦
+      let tests : ((b == 47) && not w && simple_text true bs) ≡ true = sym (cond-false _ _ _ other) ∙ h in
+      let front = and_parts ((b == 47) && not w) (simple_text true bs) tests in
+      let slash = and_parts (b == 47) (not w) front.0 in
+      let more = parts true k bs (omega (arith, low)) front.1 in
+      rw (slash.0, not-true w slash.1) (tt, omega arith, wider k (length bs) (pieces bs) (omega (arith, low)) more)
+]
+
+abbrev pub is_slash : ℕ → Bool
+is_slash b = b == 47
+
+simple_path : (text : List ℕ) → length text ≤ 255 → count_by is_slash text < 64 → simple_text true text ≡ true → IsPath (pieces text)
+simple_path text low few h = record {
+  names = short_names 255 (pieces text) (omega arith) (wider 255 (length text) (pieces text) low (parts true 255 text low h));
+  depth = omega (arith, few, length-slice_split is_slash text);
+}
+
+bare_bytes : (w : Bool) (bs : List ℕ) → simple_text w bs ≡ true → list_all is_bare_byte bs ≡ true
+bare_bytes w [] h = refl
+bare_bytes w (b ∷ bs) h = elim (cases_Bool (is_simple_byte b)) [
+  | inl simple ↦ and_from (is_bare_byte b) (list_all is_bare_byte bs) (is_bare b simple) (bare_bytes false bs (sym (cond-true _ _ _ simple) ∙ h))
+  | inr other ↦
+      let tests : ((b == 47) && not w && simple_text true bs) ≡ true = sym (cond-false _ _ _ other) ∙ h in
+      let front = and_parts ((b == 47) && not w) (simple_text true bs) tests in
+      let slash : b ≡ 47 = eqb-true b 47 (and_parts (b == 47) (not w) front.0).0 in
+      and_from (is_bare_byte b) (list_all is_bare_byte bs) (ap is_bare_byte slash) (bare_bytes true bs front.1)
+]
+
+-- ---- the loop
+
+-- what is kept for a byte behind another
+abbrev KeptFor : ℕ → ℕ → ℕ → Type 0
+KeptFor b before kept = ((is_simple_byte b ≡ true) × (kept ≡ b)) ⊎ ((b ≡ 47) × (before ≢ 0) × (kept ≡ 0))
+
+is_marked : (b before kept : ℕ) → KeptFor b before kept → kept ≡ marked b
+is_marked b before kept (inl h) = h.1 ∙ sym (cond-false _ _ _ (no_slash b h.0))
+is_marked b before kept (inr h) = h.2 ∙ sym (ap marked h.0)
+
+-- the array has the first bytes, and zeros behind them
+abbrev Holds : List ℕ → ℕ → List ℕ → Type 0
+Holds text i bytes = bytes ≡ (0 ∷ map marked (take i text)) ++ replicate (14 - (i + 1)) 0
+
+kept_length : (text : List ℕ) (i : ℕ) → i < length text → length (0 ∷ map marked (take i text)) ≡ i + 1
+kept_length text i low = omega (arith, low, length-map (take i text) marked, length-take i text)
+
+-- one byte more is kept
+pub one_kept : (text bytes : List ℕ) (i before kept : ℕ) → i < length text → length text < 14 → KeptFor (get_or text i 0) before kept → Holds text i bytes → Holds text (i + 1) (set bytes (i + 1) kept)
+one_kept text bytes i before kept low few k h =
+    let b : ℕ = get_or text i 0 in
+    let more : map marked (take (i + 1) text) ≡ map marked (take i text) ++ marked b ∷ [] = ap (map marked) (take_more text i 0 low) ∙ map-append marked (take i text) (b ∷ []) in
+    let same : (0 ∷ map marked (take i text)) ++ kept ∷ [] ≡ 0 ∷ map marked (take (i + 1) text) = (λ j. 0 ∷ (map marked (take i text) ++ is_marked b before kept k j ∷ [])) ∙ ap (λ z. 0 ∷ z) (sym more) in
+    filled_more (0 ∷ map marked (take i text)) bytes 14 (i + 1) kept (kept_length text i low) (omega (arith, low, few)) h ∙ ap (λ z. z ++ replicate (14 - (i + 1 + 1)) 0) same
+
+pub read_on : (b before kept : ℕ) (bs : List ℕ) → KeptFor b before kept → simple_text (before == 0) (b ∷ bs) ≡ simple_text (kept == 0) bs
+read_on b before kept bs (inl h) = cond-true _ _ _ h.0 ∙ ap (λ z. simple_text z bs) (sym (ap (λ k. k == 0) h.1 ∙ no_zero b h.0))
+read_on b before kept bs (inr h) = rw (h.0, h.2, ne_eqb before 0 h.1) refl
+
+-- and what is left decides
+pub one_read : (text bytes : List ℕ) (i before kept : ℕ) (all : Bool) → i < length text → length text < 14 → before ≡ get_or bytes i 0 → KeptFor (get_or text i 0) before kept → Holds text i bytes → simple_text (get_or bytes i 0 == 0) (drop i text) ≡ all
+    → simple_text (get_or (set bytes (i + 1) kept) (i + 1) 0 == 0) (drop (i + 1) text) ≡ all
+one_read text bytes i before kept all low few eb k h e =
+    let zeros : List ℕ = replicate (14 - (i + 1)) 0 in
+    let room : i + 1 < length bytes = omega (arith, low, few, ap length h, length-append (0 ∷ map marked (take i text)) zeros, kept_length text i low, length-replicate {A = ℕ} (14 - (i + 1)) 0) in
+    let here : get_or (set bytes (i + 1) kept) (i + 1) 0 ≡ kept = get_or-set_same bytes (i + 1) kept 0 room in
+    ap (λ z. simple_text (z == 0) (drop (i + 1) text)) here
+    ∙ sym (read_on (get_or text i 0) before kept (drop (i + 1) text) k)
+    ∙ (λ j. simple_text (eb j == 0) (sym (drop_more text i 0 low) j))
+    ∙ e
+
+-- ---- the path
+
+-- at the end what was read is simple
+simple_so : (text : List ℕ) (i : ℕ) (w : Bool) → length text ≤ i → w ≡ false → simple_text w (drop i text) ≡ simple_text true text → simple_text true text ≡ true
+simple_so text i w past none tested = sym tested ∙ (λ j. simple_text (none j) (drop_all i text past j))
+
+pub simple_names : (text : List ℕ) (i slashes : ℕ) (w : Bool) → length text ≤ 255 → length text ≤ i → w ≡ false → simple_text w (drop i text) ≡ simple_text true text → slashes ≡ count_by is_slash (take i text) → slashes < 64
+    → IsPath (pieces text) × (list_all is_bare_byte text ≡ true)
+simple_names text i slashes w low past none tested count few =
+    let simple = simple_so text i w past none tested in
+    let all : count_by is_slash (take i text) ≡ count_by is_slash text = ap (count_by is_slash) (take_all i text past) in
+    (simple_path text low (omega (arith, few, count, all)) simple, bare_bytes true text simple)
+
+spells_itself : (text : List ℕ) → list_all is_bare_byte text ≡ true → IsPath (pieces text) → SpellsPath (47 ∷ text) (pieces text)
+spells_itself text bare path = (path, inl (record { nonempty = omega arith; bytes = bare }, path_text-pieces text))
+
+-- a bare word spells the path between its slashes
+pub names_spelled : (word text : List ℕ) (p : Path) → word ≡ 47 ∷ text → IsPath (pieces text) × (list_all is_bare_byte text ≡ true) → p ≡ pieces text → SpellsPath word p
+names_spelled word text p ew h e = subst (λ v. SpellsPath v p) (sym ew) (subst (SpellsPath (47 ∷ text)) (sym e) (spells_itself text h.1 h.0))
+
+pub simple_spelled : (word text bytes : List ℕ) (i : ℕ) (w : Bool) → word ≡ 47 ∷ text → length text < 14 → i ≡ length text → w ≡ false → simple_text w (drop i text) ≡ simple_text true text → Holds text i bytes
+    → IsPacked (take (length text + 1) bytes) × SpellsPath word (names_in (take (length text + 1) bytes))
+simple_spelled word text bytes i w ew few ei none tested kept =
+    let simple = simple_so text i w (omega (arith, ei)) none tested in
+    let path : IsPath (pieces text) = simple_path text (omega (arith, few)) (omega (arith, few, count_by-le-length is_slash text)) simple in
+    let whole : take i text ≡ text = take_all i text (omega (arith, ei)) in
+    let long : length text + 1 ≡ length (0 ∷ map marked text) = omega (arith, length-map text marked) in
+    let is : take (length text + 1) bytes ≡ 0 ∷ map marked text =
+    (λ j. take (long j) ((kept ∙ ap (λ z. (0 ∷ map marked z) ++ replicate (14 - (i + 1)) 0) whole) j)) ∙ take-append_seam (0 ∷ map marked text) (replicate (14 - (i + 1)) 0) in
+    let packed = kept_packed text path in
+    let names : names_in (take (length text + 1) bytes) ≡ pieces text = ap names_in is ∙ packed.1 in
+    (subst IsPacked (sym is) packed.0, names_spelled word text (names_in (take (length text + 1) bytes)) ew (path, bare_bytes true text simple) names)
+
+-- the root is a slash alone
+pub root_spelled : (word text : List ℕ) → word ≡ 47 ∷ text → length text ≡ 0 → IsPacked [] × SpellsPath word (names_in [])
+root_spelled word text ew e =
+    let root : IsPath [] = record { names = tt; depth = omega arith } in
+    let slash : word ≡ 47 ∷ [] = ew ∙ ap (λ z. 47 ∷ z) (nil_from_length text e) in
+    let bare : IsBare (47 ∷ []) = record { nonempty = omega arith; bytes = refl } in
+    let spells : SpellsPath (47 ∷ []) [] = (root, inl (bare, refl)) in
+    (record { start = tt; path = root }, subst (λ v. SpellsPath v []) (sym slash) spells)
