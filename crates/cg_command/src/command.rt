@@ -1,8 +1,8 @@
 //! The ten commands (the kernel's cgroup-v2 page, "Organizing Processes and Threads", "Core Interface Files" and "Cpuset
 //! Interface Files").
-ghost use Rattle.std.specs.Prelude.{◌≡◌, IfOk, IfErr, OnErr, OnOk};
+ghost use Rattle.std.specs.Prelude.{◌≡◌, IfOk, IfErr, OnErr, OnOk, option_copied};
 ghost use Rattle.cg_command.specs.Applied.{entries_after, outcome_of, IsCarriedOut};
-ghost use Rattle.cg_command.specs.Meaning.{command_of};
+ghost use Rattle.cg_command.specs.Meaning.{command_of, path_of};
 ghost use Rattle.cg_model.specs.Change.{done, undone, Fits};
 ghost use Rattle.cg_model.specs.Command.{IsAccepted};
 ghost use Rattle.cg_model.specs.Effect.{effect};
@@ -169,47 +169,40 @@ impl Command {
         })
     }
 
-    /// The same command. Where its path is long and has an entry in the tree, it shares the text of that from now on. Takes no
-    /// memory.
-    pub fn shared(self, alloc: Global, tree: &Tree) -> Command
-        ensures { result ≡ self }
+    /// The path that it names, if it names one.
+    pub fn path(&self) -> Option<&Path>
+        ensures { option_copied result ≡ path_of (command_of self.now) }
     {
         match self {
-            Command::Create { path } => Command::Create {
-                path: tree.shared(alloc, path),
-            },
-            Command::Remove { path } => Command::Remove {
-                path: tree.shared(alloc, path),
-            },
-            Command::Migrate { pid, path } => Command::Migrate {
-                pid,
-                path: tree.shared(alloc, path),
-            },
-            Command::Subtree { path, ops } => Command::Subtree {
-                path: tree.shared(alloc, path),
-                ops,
-            },
-            Command::Freeze { path, value } => Command::Freeze {
-                path: tree.shared(alloc, path),
-                value,
-            },
-            Command::Cpus { path, cpus } => Command::Cpus {
-                path: tree.shared(alloc, path),
-                cpus,
-            },
-            Command::Show { path, file } => Command::Show {
-                path: tree.shared(alloc, path),
-                file,
-            },
-            Command::Online { cpus } => Command::Online { cpus },
-            Command::MaxDescendants { path, limit } => Command::MaxDescendants {
-                path: tree.shared(alloc, path),
-                limit,
-            },
-            Command::MaxDepth { path, limit } => Command::MaxDepth {
-                path: tree.shared(alloc, path),
-                limit,
-            },
+            Command::Create { path }
+            | Command::Remove { path }
+            | Command::Migrate { path, .. }
+            | Command::Subtree { path, .. }
+            | Command::Freeze { path, .. }
+            | Command::Cpus { path, .. }
+            | Command::Show { path, .. }
+            | Command::MaxDescendants { path, .. }
+            | Command::MaxDepth { path, .. } => Some(path),
+            Command::Online { .. } => None,
+        }
+    }
+
+    /// Where its path is long and has an entry in the tree, the command shares the text of that from now on, and lets go of its
+    /// own. Takes no memory.
+    pub fn share(&mut self, alloc: Global, tree: &Tree)
+        ensures { self.new ≡ self.old }
+    {
+        match self {
+            Command::Create { path } => tree.share(alloc, path),
+            Command::Remove { path } => tree.share(alloc, path),
+            Command::Migrate { path, .. } => tree.share(alloc, path),
+            Command::Subtree { path, .. } => tree.share(alloc, path),
+            Command::Freeze { path, .. } => tree.share(alloc, path),
+            Command::Cpus { path, .. } => tree.share(alloc, path),
+            Command::Show { path, .. } => tree.share(alloc, path),
+            Command::MaxDescendants { path, .. } => tree.share(alloc, path),
+            Command::MaxDepth { path, .. } => tree.share(alloc, path),
+            Command::Online { .. } => {}
         }
     }
 

@@ -289,7 +289,10 @@ impl Core {
     {
         match request {
             Request::Begin => self.begin(alloc, session),
-            Request::Do(command) => self.run(alloc, session, command, copies),
+            Request::Do(command) => {
+                self.look_up(&command);
+                self.run(alloc, session, command, copies)
+            }
             Request::Save(name) => self.save(session, name),
             other => self.answer_without_memory(session, other),
         }

@@ -27,13 +27,24 @@ use cg_txn::Txn;
 use std::alloc::Global;
 
 impl Core {
+    // Looks the path that the command names up once, in the tree and in the table of locks, where what follows asks for it several
+    // times. Takes no memory.
+    pub(crate) fn look_up(&mut self, command: &Command)
+        ensures { self.new ≡ self.old }
+    {
+        if let Some(path) = command.path() {
+            self.tree.visit(path);
+            self.locks.visit(path);
+        }
+    }
+
     // Runs a command in the session's transaction. Of a text that it shows the copy for the session to write down, where it does,
     // stays in the copies.
     pub(crate) fn run(
         &mut self,
         alloc: Global,
         session: SessionId,
-        command: Command,
+        mut command: Command,
         copies: &mut Copies,
     ) -> Answer
         ensures answer { OnFalse (is_memory result) (answer_of result ≡ reply self.old session.0 (model.Do (command_of command))) }
@@ -61,10 +72,11 @@ impl Core {
         ) {
             Ok(answer) => {
                 let recorded = again(&answer, &mut copies.recorded);
+                command.share(alloc, &self.tree);
                 self.history.push(Record {
                     session,
                     txn: number,
-                    request: Request::Do(command.shared(alloc, &self.tree)),
+                    request: Request::Do(command),
                     answer: recorded,
                 });
                 answer

@@ -1,33 +1,18 @@
 -- The holders of one thing, changed at one transaction, and the least other among them.
-use Rattle.std.proofs.Common.{◌≡◌, ◌≢◌, ℕ, zero, suc, ◌+◌, ◌<◌, ◌≤◌, ◌==◌, ◌&&◌, nat_lt, true, false, cond, T, ◌⊎◌, inl, inr, List, [], ◌∷◌, Option, Some, None, is_some, unwrap_or, Less, Equal, Greater, refl, sym, ap, subst, ◌∙◌, arith}
+use Rattle.std.proofs.Common.{◌≡◌, ◌≢◌, ℕ, zero, suc, ◌+◌, ◌<◌, ◌≤◌, ◌==◌, ◌&&◌, nat_lt, true, false, cond, T, ◌⊎◌, inl, inr, List, [], ◌∷◌, Option, Some, None, unwrap_or, Less, Equal, Greater, refl, sym, ap, subst, ◌∙◌, arith}
 use Rattle.std.proofs.lemmas.Bool.{eqb-true}
 use Rattle.std.proofs.lemmas.Bool.Decides.{nat_tests}
-use Rattle.std.proofs.lemmas.Map.{lookup-set_value}
 use Rattle.std.proofs.lemmas.Option.{none-some, same_Some}
-use Rattle.std.specs.BTreeMap.{is_at}
-use Rattle.std.specs.Cmp.{nat_cmp_total, eq_by_cmp_equiv}
+use Rattle.std.specs.Cmp.{nat_cmp_total}
 use Rattle.std.specs.FinMap.{nat_cmp-IsAntisymmetric}
 use Rattle.std.specs.FinMap.Entries.{find, is_sorted, below_all}
-use Rattle.std.specs.Map.{set_value}
 use Rattle.std.specs.Ordering.{eq_by_cmp, is_lt, nat_cmp}
 use Rattle.cg_maps.specs.FiniteMap.{from_entries, get, set_at}
 use Rattle.cg_maps.proofs.Maps as maps
 use Rattle.cg_maps.proofs.Sets.{tied_is_equal}
 use Rattle.cg_maps.proofs.Tests.{and_first, and_second}
-use Rattle.cg_maps.proofs.TreeMaps.{find-lookup, from-updates}
 use Rattle.cg_locks.specs.Holders.{Counts, held_by, lesser_of, one, IsLeast, IsLeastOther, IsOtherHolder, IsPositive}
 use Rattle.cg_locks.proofs.Summed.{below_less, none_below}
-
--- ---- a value written in a map by numbers
-
-one_key : (k x y : ℕ) → eq_by_cmp nat_cmp k x ≡ true → eq_by_cmp nat_cmp k y ≡ eq_by_cmp nat_cmp x y
-one_key k x y e = ap (λ z. eq_by_cmp nat_cmp z y) (maps.is_same nat_cmp_total nat_cmp-IsAntisymmetric k x e)
-
-pub value_set : {X : Type 0} (es fs : List (ℕ × X)) (k : ℕ) (v w : X) → fs ≡ set_value (is_at (nat_cmp k)) es v → get (from_entries nat_cmp es) k ≡ Some w → from_entries nat_cmp fs ≡ set_at (from_entries nat_cmp es) k (Some v)
-value_set es fs k v w e there =
-    ap (from_entries nat_cmp) e
-    ∙ from-updates nat_cmp_total nat_cmp-IsAntisymmetric es (set_value (is_at (nat_cmp k)) es v) k (Some v) (λ x.
-    lookup-set_value (eq_by_cmp_equiv nat_cmp_total) (is_at (nat_cmp k)) (one_key k) x v es (ap is_some (sym (find-lookup nat_cmp k es) ∙ sym (maps.get-from_entries nat_cmp_total nat_cmp-IsAntisymmetric es k) ∙ there)))
 
 -- ---- one transaction
 

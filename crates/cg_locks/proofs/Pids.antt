@@ -1,14 +1,36 @@
 -- The holders of the places of processes, changed at one process.
-use Rattle.std.proofs.Common.{◌≡◌, ℕ, ◌+◌, ◌==◌, ◌&&◌, true, false, cond, List, Option, refl, sym, ap, ◌∙◌, arith}
+use Rattle.std.proofs.Common.{◌≡◌, ℕ, ◌+◌, ◌==◌, ◌&&◌, true, false, cond, List, [], ◌∷◌, Option, Some, refl, sym, ap, ◌∙◌, arith}
 use Rattle.std.proofs.lemmas.Bool.{eqb-true}
-use Rattle.std.specs.Cmp.{nat_cmp_total}
+use Rattle.std.specs.Cmp.{nat_cmp_total, eq_by_cmp_equiv}
 use Rattle.std.specs.FinMap.{nat_cmp-IsAntisymmetric}
+use Rattle.std.specs.FinMap.Entries.{find}
+use Rattle.std.specs.Map.{lookup}
 use Rattle.std.specs.Ordering.{nat_cmp}
 use Rattle.cg_maps.specs.FiniteMap.{from_entries, get, set_at}
 use Rattle.cg_maps.proofs.Maps as maps
 use Rattle.cg_maps.proofs.Sets.{tied_is_equal}
 use Rattle.cg_locks.specs.Holders.{Counts, held_for, held_if, one}
 use Rattle.cg_locks.proofs.Summed.{neither, within}
+
+-- ---- their entries, in any order
+
+module _ {X : Type 0} where
+  -- the map of the entries answers as they do
+  pub looked_up : (es : List (ℕ × X)) (pid : ℕ) → get (from_entries nat_cmp es) pid ≡ lookup (λ x. pid == x) es
+  looked_up es pid = maps.get-from_entries nat_cmp_total nat_cmp-IsAntisymmetric es pid ∙ found es
+    where
+      found : (fs : List (ℕ × X)) → find nat_cmp pid fs ≡ lookup (λ x. pid == x) fs
+      found [] = refl
+      found (f ∷ fs) = λ i. cond (tied_is_equal pid f.0 i) (Some f.1) (found fs i)
+
+  -- where entries answer o at one process and else as others do, their map is that of the others with o there
+  pub answers_set : (es fs : List (ℕ × X)) (pid : ℕ) (o : Option X) → ((q : ℕ) → lookup (λ x. q == x) fs ≡ cond (pid == q) o (lookup (λ x. q == x) es)) → from_entries nat_cmp fs ≡ set_at (from_entries nat_cmp es) pid o
+  answers_set es fs pid o h = maps.same_map nat_cmp_total nat_cmp-IsAntisymmetric _ _ (λ q.
+      looked_up fs q ∙ h q
+      ∙ (λ i. cond ((sym (tied_is_equal pid q) ∙ (eq_by_cmp_equiv nat_cmp_total).symm pid q) i) o (sym (looked_up es q) i))
+      ∙ sym (maps.get-set_at nat_cmp_total nat_cmp-IsAntisymmetric (from_entries nat_cmp es) pid o q))
+
+-- ---- one process
 
 module _ (es fs : List (ℕ × Counts)) (pid : ℕ) (o : Option Counts) (set : from_entries nat_cmp fs ≡ set_at (from_entries nat_cmp es) pid o) where
   after : (k u : ℕ) → held_for fs k u ≡ cond (k == pid) (held_if o u) (held_for es k u)

@@ -1,5 +1,5 @@
 -- How it is kept who holds what at one path: the least holder of each part, and one list of the others.
-use Rattle.std.specs.Prelude.{ℕ, suc, nat_lt, cond, List, [], ◌∷◌}
+use Rattle.std.specs.Prelude.{ℕ, suc, nat_lt, cond, get_or, List, [], ◌∷◌}
 use Rattle.std.specs.Ordering.{nat_cmp}
 use Rattle.cg_maps.specs.FiniteMap.{from_entries}
 use Rattle.cg_locks.specs.declared.first_holders.First.{First}
@@ -7,18 +7,12 @@ use Rattle.cg_locks.specs.declared.first_holders.Firsts.{Firsts}
 use Rattle.cg_locks.specs.declared.held.Part.{Part}
 use Rattle.cg_locks.specs.declared.held.Part.TheVariants.{ChangedAt, ReadAt, StaysAt, CountedAt, ChangedBelow, ReadBelow, StaysBelow}
 use Rattle.cg_locks.specs.declared.other_holders.Other.{Other}
-use Rattle.cg_locks.specs.Held.{same_part, HeldParts}
+use Rattle.cg_locks.specs.Held.{part_number, same_part, HeldParts}
 use Rattle.cg_locks.specs.Holders.{Counts, all_holders, AreHolders}
 
--- the least holder in a part
+-- the least holder in a part: those of all stand by the numbers of the parts
 abbrev pub first_in : Part → Firsts → First
-first_in ChangedAt F = F.changed
-first_in ReadAt F = F.read
-first_in StaysAt F = F.stays
-first_in CountedAt F = F.descendants
-first_in ChangedBelow F = F.changed_below
-first_in ReadBelow F = F.read_below
-first_in StaysBelow F = F.stays_below
+first_in r F = get_or F.of_parts (part_number r) (record { holder = 0; times = 0 })
 
 -- the other holders in it, each with how often
 abbrev pub others_in : Part → List Other → List (ℕ × ℕ)

@@ -39,12 +39,12 @@ part_of StaysBelow h = h.stays_below
 -- parts by numbers
 abbrev pub part_number : Part → ℕ
 part_number ChangedAt = 0
-part_number ReadAt = 1
-part_number StaysAt = 2
-part_number CountedAt = 3
-part_number ChangedBelow = 4
-part_number ReadBelow = 5
-part_number StaysBelow = 6
+part_number ChangedBelow = 1
+part_number StaysBelow = 2
+part_number ReadBelow = 3
+part_number ReadAt = 4
+part_number StaysAt = 5
+part_number CountedAt = 6
 
 abbrev pub same_part : Part → Part → Bool
 same_part ChangedAt ChangedAt = true

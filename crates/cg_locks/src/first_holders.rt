@@ -13,17 +13,10 @@ pub(crate) struct First {
     pub(crate) times: u32,
 }
 
-// That of each part.
+// That of each part, by the parts' numbers.
 #[derive(Clone, Copy)]
 pub(crate) struct Firsts {
-    // Most marks are of subtrees to be changed: what is read and written for them stands together.
-    changed: First,
-    changed_below: First,
-    stays_below: First,
-    read_below: First,
-    read: First,
-    stays: First,
-    descendants: First,
+    of_parts: [First; 7],
 }
 
 // Nobody.
@@ -38,13 +31,7 @@ impl Firsts {
         ensures { (r : Part) → (first_in r result).times ≡ 0 }
     {
         Firsts {
-            changed: NOBODY,
-            changed_below: NOBODY,
-            stays_below: NOBODY,
-            read_below: NOBODY,
-            read: NOBODY,
-            stays: NOBODY,
-            descendants: NOBODY,
+            of_parts: [NOBODY; 7],
         }
     }
 
@@ -52,13 +39,22 @@ impl Firsts {
     pub(crate) fn are_none(&self) -> bool
         ensures { IsTrue result → (r : Part) → (first_in r self.now).times ≡ 0 }
     {
-        self.changed.times == 0
-            && self.read.times == 0
-            && self.stays.times == 0
-            && self.descendants.times == 0
-            && self.changed_below.times == 0
-            && self.read_below.times == 0
-            && self.stays_below.times == 0
+        let [
+            changed,
+            changed_below,
+            stays_below,
+            read_below,
+            read,
+            stays,
+            descendants,
+        ] = &self.of_parts;
+        changed.times == 0
+            && read.times == 0
+            && stays.times == 0
+            && descendants.times == 0
+            && changed_below.times == 0
+            && read_below.times == 0
+            && stays_below.times == 0
     }
 
     // That of this part.
@@ -66,15 +62,7 @@ impl Firsts {
     pub(crate) fn get(&self, part: Part) -> First
         ensures { result ≡ first_in part self.now }
     {
-        match part {
-            Part::ChangedAt => self.changed,
-            Part::ReadAt => self.read,
-            Part::StaysAt => self.stays,
-            Part::CountedAt => self.descendants,
-            Part::ChangedBelow => self.changed_below,
-            Part::ReadBelow => self.read_below,
-            Part::StaysBelow => self.stays_below,
-        }
+        self.of_parts[part.number()]
     }
 
     // Writes another there.
@@ -82,15 +70,6 @@ impl Firsts {
     pub(crate) fn put(&mut self, part: Part, holder: u32, times: u32)
         ensures { (r : Part) → first_in r self.new ≡ cond (same_part r part) (record { holder = holder; times = times }) (first_in r self.old) }
     {
-        let first = First { holder, times };
-        match part {
-            Part::ChangedAt => self.changed = first,
-            Part::ReadAt => self.read = first,
-            Part::StaysAt => self.stays = first,
-            Part::CountedAt => self.descendants = first,
-            Part::ChangedBelow => self.changed_below = first,
-            Part::ReadBelow => self.read_below = first,
-            Part::StaysBelow => self.stays_below = first,
-        }
+        self.of_parts[part.number()] = First { holder, times };
     }
 }

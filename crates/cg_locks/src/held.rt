@@ -25,16 +25,17 @@ pub(crate) enum Kind {
 }
 
 // The holders that are kept at a path: those of the marks of one kind at it; or of these and of its branches, one for each child
-// at or below which a transaction holds such a mark (an intention to lock, in the terms of multigranularity locking).
+// at or below which a transaction holds such a mark (an intention to lock, in the terms of multigranularity locking). Most
+// marks are of subtrees to be changed: what is read and written for them stands together.
 #[derive(Clone, Copy)]
 pub(crate) enum Part {
-    ChangedAt,
-    ReadAt,
-    StaysAt,
-    CountedAt,
-    ChangedBelow,
-    ReadBelow,
-    StaysBelow,
+    ChangedAt = 0,
+    ChangedBelow = 1,
+    StaysBelow = 2,
+    ReadBelow = 3,
+    ReadAt = 4,
+    StaysAt = 5,
+    CountedAt = 6,
 }
 
 impl Kind {
@@ -65,6 +66,7 @@ impl Kind {
 
 impl Part {
     // Whether it is this one.
+    #[inline(always)]
     pub(crate) fn is(self, other: Part) -> bool
         ensures { result ≡ same_part self other }
     {
@@ -72,18 +74,12 @@ impl Part {
     }
 
     // Its number in the order in which the parts are listed.
-    fn number(self) -> u8
-        ensures { result ≡ part_number self }
+    #[inline(always)]
+    pub(crate) fn number(self) -> usize
+        ensures number { result ≡ part_number self }
+        ensures below { result < 7 }
     {
-        match self {
-            Part::ChangedAt => 0,
-            Part::ReadAt => 1,
-            Part::StaysAt => 2,
-            Part::CountedAt => 3,
-            Part::ChangedBelow => 4,
-            Part::ReadBelow => 5,
-            Part::StaysBelow => 6,
-        }
+        self as usize
     }
 }
 

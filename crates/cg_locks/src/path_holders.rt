@@ -54,6 +54,13 @@ impl PathHolders {
         }
     }
 
+    // Looks the path up, so that the calls that come next with it find its node by a comparison. Takes no memory.
+    pub(crate) fn visit(&mut self, path: &Path)
+        ensures { self.new ≡ self.old }
+    {
+        let _ = self.nodes.visit(path);
+    }
+
     // How often the transaction holds the mark of this kind at the path.
     pub(crate) fn count(&self, kind: Kind, path: &Path, transaction: TxnNumber) -> usize
         ensures { result ≡ held_at (of_kind self.now kind) path.now transaction.0 }
@@ -180,7 +187,7 @@ impl PathHolders {
         ensures { IsMarkedMore self.new kind path.now transaction.0 self.old }
     {
         self.nodes.laws();
-        let Some(key) = self.nodes.find(path) else {
+        let Some(key) = self.nodes.visit(path) else {
             return;
         };
         remove_mark(&mut self.nodes, key, kind, transaction);

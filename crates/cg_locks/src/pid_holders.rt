@@ -4,11 +4,15 @@ ghost use Rattle.cg_locks.specs.Holders.{held_for, number_of, one, IsLeastOther}
 
 use crate::holders::Holders;
 use cg_name::TxnNumber;
+use indexmap::IndexMap;
 use std::alloc::{AllocError, Global};
-use std::collections::BTreeMap;
+
+// So many entries stay when nobody holds their processes any more: a process that is moved again finds its own. Where there are
+// more, one goes with its last holder.
+const KEPT: usize = 4096;
 
 // How often the transaction holds the place of the process.
-pub(crate) fn count(holders: &BTreeMap<u32, Holders>, pid: u32, transaction: TxnNumber) -> usize
+pub(crate) fn count(holders: &IndexMap<u32, Holders>, pid: u32, transaction: TxnNumber) -> usize
     ensures { result ≡ held_for holders.now.entries pid transaction.0 }
 {
     match holders.get(&pid) {
@@ -19,7 +23,7 @@ pub(crate) fn count(holders: &BTreeMap<u32, Holders>, pid: u32, transaction: Txn
 
 // The least other transaction that holds the place of the process.
 pub(crate) fn least(
-    holders: &BTreeMap<u32, Holders>,
+    holders: &IndexMap<u32, Holders>,
     pid: u32,
     transaction: TxnNumber,
 ) -> Option<TxnNumber>
@@ -33,7 +37,7 @@ pub(crate) fn least(
 
 // One holding more by the transaction. An error, where there is no memory for it, changes nothing.
 pub(crate) fn add(
-    holders: &mut BTreeMap<u32, Holders>,
+    holders: &mut IndexMap<u32, Holders>,
     alloc: Global,
     pid: u32,
     transaction: TxnNumber,
@@ -52,7 +56,7 @@ pub(crate) fn add(
 }
 
 // One holding less by the transaction, which has one. Takes no memory.
-pub(crate) fn remove(holders: &mut BTreeMap<u32, Holders>, pid: u32, transaction: TxnNumber)
+pub(crate) fn remove(holders: &mut IndexMap<u32, Holders>, pid: u32, transaction: TxnNumber)
     requires { 0 < held_for holders.old.entries pid transaction.0 }
     ensures { (k u : ℕ) → held_for holders.old.entries k u ≡ held_for holders.new.entries k u + one ((k == pid) && (u == transaction.0)) }
 {
@@ -62,15 +66,18 @@ pub(crate) fn remove(holders: &mut BTreeMap<u32, Holders>, pid: u32, transaction
     drop_empty(holders, pid);
 }
 
-// Drops the entry of the process, where nobody holds it any more.
-fn drop_empty(holders: &mut BTreeMap<u32, Holders>, pid: u32)
+// Drops the entry of the process, where nobody holds it any more and there are more entries than are kept.
+fn drop_empty(holders: &mut IndexMap<u32, Holders>, pid: u32)
     ensures { (k u : ℕ) → held_for holders.new.entries k u ≡ held_for holders.old.entries k u }
 {
+    if holders.len() <= KEPT {
+        return;
+    }
     let is_empty = match holders.get(&pid) {
         Some(there) => there.is_empty(),
         None => false,
     };
     if is_empty {
-        holders.remove(&pid);
+        holders.swap_remove(&pid);
     }
 }

@@ -15,14 +15,14 @@ use crate::mark::Mark;
 use crate::path_holders::PathHolders;
 use crate::pid_holders;
 use cg_name::{Path, TxnNumber};
+use indexmap::IndexMap;
 use std::alloc::{AllocError, Global};
-use std::collections::BTreeMap;
 use std::marker::Model;
 
 /// Which transaction holds which mark, and how often.
 pub struct LockTable {
     marks: PathHolders,
-    processes: BTreeMap<u32, Holders>,
+    processes: IndexMap<u32, Holders>,
 }
 
 // By hand, so that whoever drops one calls this, and doesn't drop each thing in it: that makes proofs shorter.
@@ -54,8 +54,16 @@ impl LockTable {
     {
         LockTable {
             marks: PathHolders::new(alloc),
-            processes: BTreeMap::new(alloc),
+            processes: IndexMap::new(alloc),
         }
+    }
+
+    /// Looks the path up once, so that the calls that follow find a mark at the same path by a comparison. That is for speed
+    /// alone. Takes no memory.
+    pub fn visit(&mut self, path: &Path)
+        ensures { self.new ≡ self.old }
+    {
+        self.marks.visit(path);
     }
 
     /// The least other transaction that holds a mark which clashes with one of the footprint. Takes no memory.

@@ -268,7 +268,7 @@ pub(crate) fn reach(
     ensures key { IfOk result (λ key. get nodes.new.keys path.now ≡ Some key) }
     ensures held { IsSameHeld nodes.old.values nodes.new.values }
 {
-    if let Some(key) = nodes.find(path) {
+    if let Some(key) = nodes.visit(path) {
         return Ok(key);
     }
     let parent = nodes.find_parent(path);

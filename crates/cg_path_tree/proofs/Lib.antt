@@ -4,6 +4,7 @@ pub mod Counting
 pub mod Finding
 pub mod Indexed
 pub mod Kinship
+pub mod LastFound
 pub mod LastName
 pub mod Linking
 pub mod ListChanges

@@ -1,5 +1,6 @@
 pub mod Nodes
 pub mod Linked
+pub mod LastFound
 pub mod Lends
 pub mod Listing
 pub mod PathEntries

@@ -3,6 +3,7 @@
 
 mod entering;
 mod index_text;
+mod last_found;
 mod node;
 mod path_text;
 mod path_tree;

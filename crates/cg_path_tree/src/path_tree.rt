@@ -9,6 +9,7 @@ ghost use Rattle.cg_path_tree.specs.Nodes.{parent_path, path_of, with_paths, Are
 
 use crate::entering::{enter, leave};
 use crate::index_text::IndexText;
+use crate::last_found::LastFound;
 use crate::node::{Node, NodeKey, add_child, make_room, remove_child};
 use crate::path_text::{parent_text, prefix_text, text};
 use crate::sorting::in_order;
@@ -27,12 +28,18 @@ pub struct PathTree<V> {
     // The node of each path, by its text. The texts stand here alone, and a node knows the number of its entry.
     index: IndexMap<IndexText<'static>, NodeKey>,
     nodes: Slab<Node<V>>,
+    // What was found for the path that was looked up last.
+    last: LastFound,
 }
 
 // By hand, so that whoever drops one calls this, and doesn't drop each thing in it: that makes proofs shorter.
 impl<V: Drop> Drop for PathTree<V> {
     fn drop(self) {
-        let PathTree { index: _, nodes: _ } = self;
+        let PathTree {
+            index: _,
+            nodes: _,
+            last: _,
+        } = self;
     }
 }
 
@@ -43,11 +50,12 @@ impl<V> Model for PathTree<V> {
 
     ghost coded = { nodes_code V.code };
 
-    ghost use Rattle.cg_path_tree.specs.Linked.{seen, IsLinked};
+    ghost use Rattle.cg_path_tree.specs.LastFound.{AreKept};
+    ghost use Rattle.cg_path_tree.specs.Linked.{seen};
 
     ghost view = { λ t. seen t.index.entries t.nodes };
 
-    ghost invariant = { λ t. IsLinked t.index.entries t.nodes };
+    ghost invariant = { λ t. AreKept t.index.entries t.nodes t.last };
 }
 
 impl<V: Drop> PathTree<V> {
@@ -61,6 +69,7 @@ impl<V: Drop> PathTree<V> {
         PathTree {
             index: IndexMap::new(alloc),
             nodes: Slab::new(alloc),
+            last: LastFound::new(alloc),
         }
     }
 
@@ -102,7 +111,49 @@ impl<V: Drop> PathTree<V> {
     pub fn find(&self, path: &Path) -> Option<NodeKey>
         ensures { result ≡ get self.now.keys path.now }
     {
+        if self.last.is_of(path) {
+            return self.last.node;
+        }
+        self.find_anew(path)
+    }
+
+    // The same, by a look-up.
+    #[inline(never)]
+    fn find_anew(&self, path: &Path) -> Option<NodeKey>
+        ensures { result ≡ get self.now.keys path.now }
+    {
         self.find_text(text(path))
+    }
+
+    /// The node at the path, if there is one, as `find` gives it. The tree remembers what it found for this path, until
+    /// another is visited or added: up to then `find`, `find_parent` and what goes through them find it by a comparison.
+    /// Takes no memory.
+    pub fn visit(&mut self, path: &Path) -> Option<NodeKey>
+        ensures found { result ≡ get self.old.keys path.now }
+        ensures same { self.new ≡ self.old }
+    {
+        if self.last.is_of(path) {
+            return self.last.node;
+        }
+        self.visit_anew(path)
+    }
+
+    // The same, by a look-up.
+    #[inline(never)]
+    fn visit_anew(&mut self, path: &Path) -> Option<NodeKey>
+        ensures found { result ≡ get self.old.keys path.now }
+        ensures same { self.new ≡ self.old }
+    {
+        let node = self.find_anew(path);
+        let parent = match node {
+            Some(key) => self.parent(key),
+            // It is asked next: a node is put in.
+            None => self.find_parent_anew(path),
+        };
+        let alloc = *self.index.allocator();
+        // Where too many share the text, the path before stays remembered.
+        let _ = self.last.note(alloc, path, node, parent);
+        node
     }
 
     /// The node at the path of the first `depth` names, or of all where there are fewer, if there is one. Takes no memory.
@@ -114,6 +165,18 @@ impl<V: Drop> PathTree<V> {
 
     /// The node of the path one name shorter, if there is one; `None` for the root's. Takes no memory.
     pub fn find_parent(&self, path: &Path) -> Option<NodeKey>
+        ensures root { is_root path.now ≡ true → result ≡ None }
+        ensures value { is_root path.now ≡ false → result ≡ get self.now.keys (parent_path path.now) }
+    {
+        if self.last.is_of(path) {
+            return self.last.parent;
+        }
+        self.find_parent_anew(path)
+    }
+
+    // The same, by a look-up.
+    #[inline(never)]
+    fn find_parent_anew(&self, path: &Path) -> Option<NodeKey>
         ensures root { is_root path.now ≡ true → result ≡ None }
         ensures value { is_root path.now ≡ false → result ≡ get self.now.keys (parent_path path.now) }
     {
@@ -335,24 +398,23 @@ impl<V: Drop> PathTree<V> {
         Some(path)
     }
 
-    /// The same path. Where its text is long and it has a node, it shares the text of that from now on, and lets go of its own.
-    /// Takes no memory.
-    pub fn shared(&self, alloc: Global, path: Path) -> Path
-        ensures { result ≡ path }
+    /// Where the path's text is long and it has a node, it shares the text of that from now on, and lets go of its own. It stays
+    /// the same path. Takes no memory.
+    pub fn share(&self, alloc: Global, path: &mut Path)
+        ensures { path.new ≡ path.old }
     {
         if path.as_bytes().len() < WORTH_SHARING {
-            return path;
+            return;
         }
         self.laws();
-        let Some(key) = self.find(&path) else {
-            return path;
+        let Some(key) = self.find(path) else {
+            return;
         };
         let Some(own) = self.own_path(key) else {
-            return path;
+            return;
         };
-        match own.copy(alloc) {
-            Ok(own) => own,
-            Err(_) => path,
+        if let Ok(own) = own.copy(alloc) {
+            *path = own;
         }
     }
 
@@ -398,6 +460,9 @@ impl<V: Drop> PathTree<V> {
         ensures value_returned { IfErr result (λ failed. failed.value ≡ value) }
         ensures err { OnErr result (self.new ≡ self.old) }
     {
+        let Ok(()) = self.last.turn_to(alloc, path, parent) else {
+            return Err(AllocFailed { value });
+        };
         let Ok(place) = make_room(&mut self.nodes, parent) else {
             return Err(AllocFailed { value });
         };
@@ -413,6 +478,7 @@ impl<V: Drop> PathTree<V> {
             value,
         });
         add_child(&mut self.nodes, parent, key);
+        self.last.gain(key);
         Ok(key)
     }
 
@@ -427,6 +493,7 @@ impl<V: Drop> PathTree<V> {
         let node = self.nodes.remove(key.number() as usize);
         leave(&mut self.index, &mut self.nodes, node.entry);
         remove_child(&mut self.nodes, node.parent(), node.place);
+        self.last.lose(key);
         node.value
     }
 
@@ -437,5 +504,6 @@ impl<V: Drop> PathTree<V> {
     {
         self.index.clear();
         self.nodes.clear();
+        self.last.clear();
     }
 }

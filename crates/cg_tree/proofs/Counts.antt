@@ -31,7 +31,7 @@ module _ {K X : Type 0} {R : K → K → Ordering} (o : IsTotalOrder R) (same : 
   len-set_new m k v absent = ap length (list-checked _ _ refl m (is_sorted-put R o k v m.list m.sorted)) ∙ length-put R o k v m.list m.sorted ∙ ap (λ w. cond (is_some w) (length m.list) (length m.list + 1)) absent ∙ add-one (length m.list)
 
   -- a map with a key is one longer than it is without it
-  len-without : (m : FiniteMap R X) (k : K) → len m ≡ len (set_at m k None) + one (get m k)
+  pub len-without : (m : FiniteMap R X) (k : K) → len m ≡ len (set_at m k None) + one (get m k)
   len-without m k = by (get m k) refl
     where
       by : (w : Option X) → get m k ≡ w → len m ≡ len (set_at m k None) + one w
@@ -123,7 +123,7 @@ pub few_pass : {K X : Type 0} {R : K → K → Ordering} (m : FiniteMap R X) (t 
 unfolding len retain
 few_pass {R = R} m t = length-where R t m.list
 
-few_present : {K X : Type 0} {R : K → K → Ordering} (m : FiniteMap R (Option X)) → len (present m) ≤ len m
+pub few_present : {K X : Type 0} {R : K → K → Ordering} (m : FiniteMap R (Option X)) → len (present m) ≤ len m
 unfolding len present
 few_present m = length-held m.list
 

@@ -1,3 +1,4 @@
+mod Alive
 mod Asking
 mod Carrying
 mod Climbing
@@ -18,6 +19,7 @@ mod Seeing
 mod Unlimited
 mod Unordered
 mod Values
+mod Visiting
 mod WorldGroups
 mod Writing
 pub mod Downward

@@ -52,6 +52,13 @@ module _ (n : Nodes Entry) (both : (p : Path) → is_some (get n.values p) ≡ i
       by None e = refl
       by (Some k) e = absurd (true≢false e)
 
+  pub no_entry : (p : Path) → None ≡ get n.keys p → get g p ≡ None
+  no_entry p own = by (get g p) (sym (node_there p) ∙ ap is_some (sym own))
+    where
+      by : (w : Option (Option Settings)) → is_some w ≡ false → w ≡ None
+      by None e = refl
+      by (Some x) e = absurd (true≢false e)
+
 -- two tests that were compared
 pub differ : (a b : Bool) → not (beq a b) ≡ true → b ≡ not a
 differ true true h = absurd (false≢true h)

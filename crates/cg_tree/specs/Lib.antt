@@ -1,3 +1,4 @@
+pub mod Alive
 pub mod Ancestors
 pub mod Code
 pub mod Contents

@@ -8,6 +8,7 @@ ghost use Rattle.cg_model.specs.Derived.{is_in, is_in_subtree};
 ghost use Rattle.cg_model.specs.Key.{replaced};
 ghost use Rattle.cg_name.specs.Path.{is_above, is_parent, is_root};
 ghost use Rattle.cg_path_tree.specs.Nodes.{number_of, parent_path};
+ghost use Rattle.cg_tree.specs.Alive.{HaveSettings};
 ghost use Rattle.cg_tree.specs.Ancestors.{ancestor_in, downward};
 ghost use Rattle.cg_tree.specs.Entries.{group_count};
 ghost use Rattle.cg_tree.specs.Listing.{asks_for_cpus};
@@ -102,11 +103,30 @@ impl Groups {
         self.nodes.find(path).is_some()
     }
 
-    // The same path, with the text of its node, where it has one.
-    pub(crate) fn shared(&self, alloc: Global, path: Path) -> Path
-        ensures { result ≡ path }
+    // Whether the map may have an entry with no settings. The root's entry tells how many groups are below it.
+    pub(crate) fn has_dead(&self) -> bool
+        ensures { result ≡ false → HaveSettings self.now.groups }
     {
-        self.nodes.shared(alloc, path)
+        self.nodes.laws();
+        let Some(key) = self.nodes.root() else {
+            return true;
+        };
+        let root = self.nodes.get(key);
+        root.settings.is_none() || self.nodes.len() != root.below as usize + 1
+    }
+
+    // Looks the path up once, so that the calls that follow with the same path find it by a comparison. Takes no memory.
+    pub(crate) fn visit(&mut self, path: &Path)
+        ensures { self.new ≡ self.old }
+    {
+        let _ = self.nodes.visit(path);
+    }
+
+    // The path gets the text of its node, where it has one, and stays the same.
+    pub(crate) fn share(&self, alloc: Global, path: &mut Path)
+        ensures { path.new ≡ path.old }
+    {
+        self.nodes.share(alloc, path);
     }
 
     // Makes a group at a path that has no entry, the root's or one whose parent has an entry; an error where there is no
@@ -148,8 +168,9 @@ impl Groups {
         ensures err { OnErr result (self.new ≡ self.old) }
         ensures there { IsSome (get self.old.groups path.now) → IsOk result }
     {
+        let found = self.nodes.visit(path);
         self.nodes.laws();
-        let Some(key) = self.nodes.find(path) else {
+        let Some(key) = found else {
             return self.insert(alloc, path, settings);
         };
         put(&mut self.nodes, key, &mut Some(settings));
@@ -164,8 +185,9 @@ impl Groups {
         ensures before { IsSome (get self.old.groups path.now) → settings.new ≡ option_flatten (get self.old.groups path.now) }
         ensures untouched { get self.old.groups path.now ≡ None → settings.new ≡ settings.old }
     {
+        let found = self.nodes.visit(path);
         self.nodes.laws();
-        if let Some(key) = self.nodes.find(path) {
+        if let Some(key) = found {
             put(&mut self.nodes, key, settings);
         }
     }
@@ -176,8 +198,9 @@ impl Groups {
         ensures groups { self.new.groups ≡ set_at self.old.groups path.now (option_map (with_new value) (get self.old.groups path.now)) }
         ensures places { self.new.places ≡ self.old.places }
     {
+        let found = self.nodes.visit(path);
         self.nodes.laws();
-        let Some(key) = self.nodes.find(path) else {
+        let Some(key) = found else {
             return None;
         };
         put_value(&mut self.nodes, key, value)
@@ -191,8 +214,9 @@ impl Groups {
         ensures groups { self.new.groups ≡ set_at self.old.groups path.now None }
         ensures places { self.new.places ≡ self.old.places }
     {
+        let found = self.nodes.visit(path);
         self.nodes.laws();
-        if let Some(key) = self.nodes.find(path) {
+        if let Some(key) = found {
             self.nodes.remove(key);
             self.nodes.laws();
         }
@@ -294,8 +318,9 @@ impl Groups {
         ensures groups { self.new.groups ≡ self.old.groups }
         ensures places { OnOk result (self.new.places ≡ set_at self.old.places pid (Some path.now)) }
     {
+        let found = self.nodes.visit(path);
         self.nodes.laws();
-        let Some(key) = self.nodes.find(path) else {
+        let Some(key) = found else {
             return Err(AllocError);
         };
         self.places.add(pid, key.number())?;
@@ -311,8 +336,9 @@ impl Groups {
         ensures groups { self.new.groups ≡ self.old.groups }
         ensures places { self.new.places ≡ set_at self.old.places pid (replaced (get self.old.places pid) (Some path.now)) }
     {
+        let found = self.nodes.visit(path);
         self.nodes.laws();
-        let Some(key) = self.nodes.find(path) else {
+        let Some(key) = found else {
             return;
         };
         let Some(group) = self.places.group_of(pid) else {

@@ -5,6 +5,7 @@ ghost use Rattle.cg_model.specs.Sound.{Sound};
 ghost use Rattle.cg_model.specs.Key.{replaced};
 ghost use Rattle.cg_model.specs.Tree.{group, parent_group, place_of};
 ghost use Rattle.cg_model.specs.Derived.{is_in, is_in_subtree};
+ghost use Rattle.cg_tree.specs.Alive.{AreGroups};
 ghost use Rattle.cg_tree.specs.Unlimited.{AreUnlimited};
 ghost use Rattle.cg_tree.specs.NewValue.{value_there, with_new};
 ghost use Rattle.cg_tree.specs.Present.{present};
@@ -208,12 +209,27 @@ impl Tree {
         self.groups.contains(path)
     }
 
-    /// The same path. Where its text is long and it has an entry, it shares the text of that from now on, and lets go of its own:
-    /// so what is kept of many commands keeps each path once. Takes no memory.
-    pub fn shared(&self, alloc: Global, path: Path) -> Path
-        ensures { result ≡ path }
+    /// Whether some entry may be dead. Where the answer is no, each is a group's; it is no as long as the root is a group and no
+    /// path is dead. Compares two counts.
+    pub fn has_dead_entries(&self) -> bool
+        ensures { result ≡ false → AreGroups self.now }
     {
-        self.groups.shared(alloc, path)
+        self.groups.has_dead()
+    }
+
+    /// Looks the path up once, so that the calls that follow with the same path find it by a comparison. Takes no memory.
+    pub fn visit(&mut self, path: &Path)
+        ensures { self.new ≡ self.old }
+    {
+        self.groups.visit(path);
+    }
+
+    /// Where the path's text is long and it has an entry, it shares the text of that from now on, and lets go of its own: so what
+    /// is kept of many commands keeps each path once. It stays the same path. Takes no memory.
+    pub fn share(&self, alloc: Global, path: &mut Path)
+        ensures { path.new ≡ path.old }
+    {
+        self.groups.share(alloc, path);
     }
 
     // The settings of each group, `None` at each dead path, and the group of each process.

@@ -9,6 +9,7 @@ use Rattle.cg_name.specs.Path.{Path, same_path}
 use Rattle.cg_model.specs.Footprint.{Mark, X, changed, marks_subtree}
 use Rattle.cg_model.specs.Tree.{group}
 use Rattle.cg_model_laws.proofs.Paths.{same_path-itself, same_path-is}
+use Rattle.cg_tree.specs.Alive.{AreGroups}
 use Rattle.cg_tree.specs.Room.{TreeWithRoom, has_entry, without_dead, MaySweepIfDead}
 use Rattle.cg_locks.specs.Holdings.{Holdings, holdings}
 use Rattle.cg_locks.specs.Marks.{times}
@@ -62,6 +63,24 @@ module _ (t : ℕ) (f : List Mark) (R : TreeWithRoom) (H H' : Holdings) where
   stays : (p : Path) → Goes p ≡ false → has_entry R p ≡ has_entry R p && not (Goes p)
   stays p e = and_true (has_entry R p) ∙ ap (λ b. has_entry R p && not b) (sym e)
 
+  -- a group's entry stays
+  group_kept : (p : Path) → is_some (group R.tree p) ≡ true → Goes p ≡ false
+  group_kept p there =
+      ap (λ b. marks_subtree p f && ((holdings H' t (X p) == 0) && not b)) there
+      ∙ ap (λ b. marks_subtree p f && b) (and_false (holdings H' t (X p) == 0))
+      ∙ and_false (marks_subtree p f)
+
+  -- each entry is a group's: none goes
+  pub none_dead : IsReleased t f H H' → AreGroups R → IsLetGo t f R H R H'
+  none_dead r groups = record {
+    released = r;
+    tree = refl;
+    entries = λ p. elim (has_entry R p) as (λ b. has_entry R p ≡ b → b ≡ b && not (Goes p)) [
+      | true ↦ λ e. ap not (sym (group_kept p (groups p e)))
+      | false ↦ λ e. refl
+    ] refl;
+  }
+
   -- no subtree is marked: no entry goes
   pub nothing_goes : IsReleased t f H H' → changed f ≡ None → IsLetGo t f R H R H'
   nothing_goes r e = record {
@@ -89,10 +108,7 @@ module _ (t : ℕ) (f : List Mark) (R : TreeWithRoom) (H H' : Holdings) where
     -- a group is there: no entry goes
     there_stays : is_some (group R.tree q) ≡ true → (p : Path) → Goes p ≡ false
     there_stays there p = elim (same_path p q) as (λ b. same_path p q ≡ b → Goes p ≡ false) [
-      | true ↦ λ e.
-          ap (λ b. marks_subtree p f && ((holdings H' t (X p) == 0) && not b)) (ap (λ x. is_some (group R.tree x)) (same_path-is p q e) ∙ there)
-          ∙ ap (λ b. marks_subtree p f && b) (and_false (holdings H' t (X p) == 0))
-          ∙ and_false (marks_subtree p f)
+      | true ↦ λ e. group_kept p (ap (λ x. is_some (group R.tree x)) (same_path-is p q e) ∙ there)
       | false ↦ λ e. ap (λ b. b && ((holdings H' t (X p) == 0) && not (is_some (group R.tree p)))) (marked f p q is ∙ e)
     ] refl
 

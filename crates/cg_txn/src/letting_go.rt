@@ -19,8 +19,11 @@ pub(crate) fn let_go(
     ensures { IsLetGo number.0 footprint.now tree.old locks.old tree.new locks.new }
 {
     locks.release(number, footprint);
+    // As a rule each entry is a group's, and none goes.
+    if !tree.has_dead_entries() {
+        return;
+    }
     if let Some(path) = footprint.changed() {
-        // As a rule a group is there, and no entry goes.
         if tree.find(path) {
             return;
         }

@@ -102,6 +102,10 @@ impl Txn {
     pub fn has_savepoint(&self, name: SaveName) -> bool
         ensures { result ≡ has_savepoint name self.now.items }
     {
+        // As a rule none stands, and no name is hashed.
+        if self.names.is_empty() {
+            return false;
+        }
         self.names.contains(&name)
     }
 

@@ -177,7 +177,12 @@ fn found(
         LockCall::Take => take(alloc, table, transaction, marks),
         LockCall::GiveBack => Ok(give_back(table, transaction, marks)),
         LockCall::Holds => Ok(holder(table, transaction, marks)),
-        LockCall::Clash => Ok(table.clash(transaction, marks)),
+        LockCall::Clash => {
+            if let Some(path) = marks.changed() {
+                table.visit(path);
+            }
+            Ok(table.clash(transaction, marks))
+        }
     }
 }
 

@@ -153,6 +153,53 @@ fn a_removal_leaves_the_others(rt: HostRuntime) {
     assert!(rt; out.as_slice() == "\"/é/b\" \"/é\" / /a / ".as_bytes());
 }
 
+// Looks for the path as a caller does that visits it first: the value of its node, if it has one, and of its parent's.
+fn visit(
+    alloc: Global,
+    tree: &mut PathTree<u32>,
+    word: &str,
+) -> Result<(Option<u32>, Option<u32>), Refusal> {
+    let path = Path::read(alloc, word)?;
+    let visited = tree.visit(&path);
+    if tree.find(&path) != visited {
+        return Err(Refusal::Lost);
+    }
+    Ok((
+        value_of(tree, visited),
+        value_of(tree, tree.find_parent(&path)),
+    ))
+}
+
+// The value of the node with that key, if it is one's.
+fn value_of(tree: &PathTree<u32>, key: Option<NodeKey>) -> Option<u32> {
+    let key = key?;
+    if !tree.is_live_key(key) {
+        return None;
+    }
+    Some(*tree.get(key))
+}
+
+#[test]
+fn a_visit_is_kept_up_to_date(rt: HostRuntime) {
+    let mut tree = PathTree::new(rt.alloc());
+    assert!(rt; visit(rt.alloc(), &mut tree, "/") == Ok((None, None)));
+    assert!(rt; fill(rt.alloc(), &mut tree) == Ok(()));
+    assert!(rt; visit(rt.alloc(), &mut tree, "/") == Ok((Some(0), None)));
+    assert!(rt; visit(rt.alloc(), &mut tree, "/a/x") == Ok((None, Some(1))));
+    assert!(rt; put(rt.alloc(), &mut tree, "/a/x", 9).is_ok());
+    assert!(rt; visit(rt.alloc(), &mut tree, "/a/x") == Ok((Some(9), Some(1))));
+    assert!(rt; take(rt.alloc(), &mut tree, "/a/x") == Ok(9));
+    assert!(rt; visit(rt.alloc(), &mut tree, "/a/x") == Ok((None, Some(1))));
+    // Here the parent of the path that was visited goes, and comes again.
+    assert!(rt; visit(rt.alloc(), &mut tree, "/é/x") == Ok((None, Some(4))));
+    assert!(rt; take(rt.alloc(), &mut tree, "/é") == Ok(4));
+    assert!(rt; visit(rt.alloc(), &mut tree, "/é/x") == Ok((None, None)));
+    assert!(rt; put(rt.alloc(), &mut tree, "/é", 7).is_ok());
+    assert!(rt; visit(rt.alloc(), &mut tree, "/é/x") == Ok((None, Some(7))));
+    tree.clear();
+    assert!(rt; visit(rt.alloc(), &mut tree, "/é/x") == Ok((None, None)));
+}
+
 #[test]
 fn nodes_are_listed_in_order(rt: HostRuntime) {
     let mut tree = PathTree::new(rt.alloc());

@@ -1,9 +1,13 @@
--- By whether a subtree is marked, whether a group is there, and whether it is held on.
+-- By whether an entry may be dead, whether a subtree is marked, whether a group is there, and whether it is held on.
 use Rattle.std.proofs.Common.{◌≡◌, sym, ◌∙◌}
 use Rattle.cg_model.specs.Footprint.{X}
 use Rattle.cg_locks.specs.Holdings.{holdings}
-use Rattle.cg_txn.proofs.Letting.{group_stays, held_on, let_go_there, may_sweep, not_held}
+use Rattle.cg_txn.proofs.Letting.{group_stays, held_on, let_go_there, may_sweep, none_dead, not_held}
 use Rattle.cg_txn.proofs.letting_go.let_go.Goals as goal
+
+pub returns-then-not-has_dead_entries : goal.returns-then-not-has_dead_entries
+returns-then-not-has_dead_entries c =
+    none_dead c.args.number.0 c.args.footprint.now c.args.tree.now c.args.locks.now c.release.new.self c.release.ensures (c.has_dead_entries.ensures c.if-not-has_dead_entries.true)
 
 pub returns-then-find : goal.returns-then-find
 returns-then-find c =

@@ -97,7 +97,7 @@ invariant_of-self-in-Ok c =
     let room : is_full c.self.inside.limit c.self.inside.history.0 ≡ false = full_told c.self.view_is c.is_full-full.ensures c.in-Ok.ensures.room in
     let written : c.get_mut.follows.lender last ≡ with_value c.args.session.0 last c.self.inside.open = where_lent c.in-Some.is (c.get_mut.follows.holds last) in
     subst₂ (λ k l. IsCoreOf c.self.inside.opening c.self.inside.limit k c.push.new.self.1 c.settle.new.tree c.settle.new.locks l)
-    (sym (noted_is c.number-number.ensures c.again-recorded.ensures refl (asked_as (ap (λ v. Do (command_of v)) c.shared.ensures) c.push.ensures))) (sym written)
+    (sym (noted_is c.number-number.ensures c.again-recorded.ensures refl (asked_as (ap (λ v. Do (command_of v)) c.share.ensures) c.push.ensures))) (sym written)
     (settled_core c.self.invariant c.args.session.0 c.in-Some.txn.now (sym c.in-Some.ensures.value) (command_of c.args.command) (proper c.args.command) room _ _ _ last c.settle.new.history c.in-Ok.ensures.settled
     c.push.new.self.1 (ap (λ p. p.1) c.push.ensures))
 
@@ -114,7 +114,7 @@ returns-in-Ok-clause-state c =
     unless _
     (state_told c.args.session.0 (Do (command_of c.args.command)) c.self.view_is
     (settled_history c.self.invariant c.args.session.0 c.in-Some.txn.now (sym c.in-Some.ensures.value) (command_of c.args.command) (proper c.args.command) room _ _ _ _ c.settle.new.history c.in-Ok.ensures.settled
-    ∙ sym (noted_is c.number-number.ensures c.again-recorded.ensures refl (asked_as (ap (λ v. Do (command_of v)) c.shared.ensures) c.push.ensures))))
+    ∙ sym (noted_is c.number-number.ensures c.again-recorded.ensures refl (asked_as (ap (λ v. Do (command_of v)) c.share.ensures) c.push.ensures))))
 
 pub returns-in-Ok-clause-unrecorded : goal.returns-in-Ok-clause-unrecorded
 returns-in-Ok-clause-unrecorded c = λ unnoted.

@@ -16,7 +16,7 @@ use Rattle.cg_path_tree.proofs.path_tree.PathTree.all.Goals.{in-Some+else-not-te
 
 pub index-requires : goal.index-requires
 index-requires g c =
-    entry_slot c.self.inside.index.entries c.self.inside.nodes c.self.invariant c.args.self.now c.self.view_is c.loop-i.i c.number.result (c.in-Some.field-0-0.now, c.in-Some.key.now)
+    entry_slot c.self.inside.index.entries c.self.inside.nodes c.self.invariant.linked c.args.self.now c.self.view_is c.loop-i.i c.number.result (c.in-Some.field-0-0.now, c.in-Some.key.now)
     (sym c.get_index.ensures.entry ∙ ap (option_map deref_pair) c.in-Some.is) c.number.ensures
 
 pub loop-i-preserved : goal.loop-i-preserved
@@ -37,6 +37,6 @@ loop-i-preserved g c = λ j e n low at node. elim (cases_eq j c.loop-i.i) [
 
 pub returns : goal.returns
 returns g c = λ _ p v h.
-    let x = entry_of_value c.self.inside.index.entries c.self.inside.nodes c.self.invariant c.args.self.now c.self.view_is p v h in
+    let x = entry_of_value c.self.inside.index.entries c.self.inside.nodes c.self.invariant.linked c.args.self.now c.self.view_is p v h in
     let within = slice_get_within c.self.inside.index.entries x.0 x.1 x.3 in
     subst (λ w. FnReturnsAt g.F.Fn c.args.test w true) x.5 (c.loop-i.invariant x.0 x.1 x.2 (omega (arith, within, c.loop-i-test.false, c.len-i-end.ensures.len)) x.3 x.4)

@@ -12,5 +12,5 @@ returns g c =
     c.copied.ensures
     ∙ c.get.ensures.value
     ∙ ap (λ t. lookup (λ k. bytes_eq t k) c.self.inside.index.entries) c.lent-entry.ensures
-    ∙ get-by_text (λ k. k) c.args.text.now c.requires.start c.self.inside.index.entries c.self.invariant.packed
+    ∙ get-by_text (λ k. k) c.args.text.now c.requires.start c.self.inside.index.entries c.self.invariant.linked.packed
     ∙ (λ i. get (c.self.view_is i).keys (names_in c.args.text.now))

@@ -16,7 +16,7 @@ pub returns-in_default : goal.returns-in_default
 returns-in_default g c =
     let none = ap (option_map node_view) (ap (slab.get c.self.inside.nodes) (sym c.number.ensures) ∙ sym c.get.ensures ∙ ap option_copied c.in_default.is) in (
       (λ no. absurd (true≢false (sym no))),
-      (λ key. absurd (no_key c.self.inside.index.entries c.self.inside.nodes c.self.invariant c.args.self.now c.self.view_is c.args.key none key)),
+      (λ key. absurd (no_key c.self.inside.index.entries c.self.inside.nodes c.self.invariant.linked c.args.self.now c.self.view_is c.args.key none key)),
     )
 
 pub returns-in-Some-get_index : goal.returns-in-Some-get_index
@@ -24,11 +24,11 @@ returns-in-Some-get_index g c =
     let at = ap (option_map node_view) (ap (slab.get c.self.inside.nodes) (sym c.number.ensures) ∙ sym c.get.ensures ∙ ap option_copied c.in-Some.is) in
     let there = sym c.get_index.ensures.entry ∙ ap (option_map deref_pair) c.in-Some-get_index.is in (
       (λ yes.
-          key_from_entry c.self.inside.index.entries c.self.inside.nodes c.self.invariant c.args.self.now c.self.view_is c.args.key (node_view c.in-Some.node.now) (c.in-Some-get_index.field-0-0.now, c.in-Some-get_index.own.now) there
+          key_from_entry c.self.inside.index.entries c.self.inside.nodes c.self.invariant.linked c.args.self.now c.self.view_is c.args.key (node_view c.in-Some.node.now) (c.in-Some-get_index.field-0-0.now, c.in-Some-get_index.own.now) there
           (same_key c.args.key c.in-Some-get_index.own.now (eqb-true _ _ (sym c.eq.ensures ∙ yes)))),
       (λ key.
           c.eq.ensures
-          ∙ eq-eqb _ _ (ap (λ (k : NodeKey). k.0) (key_of_entry c.self.inside.index.entries c.self.inside.nodes c.self.invariant c.args.self.now c.self.view_is c.args.key (node_view c.in-Some.node.now) key at (c.in-Some-get_index.field-0-0.now, c.in-Some-get_index.own.now) there))),
+          ∙ eq-eqb _ _ (ap (λ (k : NodeKey). k.0) (key_of_entry c.self.inside.index.entries c.self.inside.nodes c.self.invariant.linked c.args.self.now c.self.view_is c.args.key (node_view c.in-Some.node.now) key at (c.in-Some-get_index.field-0-0.now, c.in-Some-get_index.own.now) there))),
     )
 
 pub returns-in-None : goal.returns-in-None
@@ -36,5 +36,5 @@ returns-in-None g c =
     let at = ap (option_map node_view) (ap (slab.get c.self.inside.nodes) (sym c.number.ensures) ∙ sym c.get.ensures ∙ ap option_copied c.in-Some.is) in
     let none = sym c.get_index.ensures.entry ∙ ap (option_map deref_pair) c.in-None.is in (
       (λ no. absurd (true≢false (sym no))),
-      (λ key. absurd (entry_there c.self.inside.index.entries c.self.inside.nodes c.self.invariant c.args.self.now c.self.view_is c.args.key (node_view c.in-Some.node.now) key at none)),
+      (λ key. absurd (entry_there c.self.inside.index.entries c.self.inside.nodes c.self.invariant.linked c.args.self.now c.self.view_is c.args.key (node_view c.in-Some.node.now) key at none)),
     )

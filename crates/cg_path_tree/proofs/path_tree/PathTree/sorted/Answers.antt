@@ -34,5 +34,5 @@ returns g c =
     let es = texts_of c.loop-i.found.items in
     let all : es ≡ entries = c.loop-i.invariant ∙ take_all c.loop-i.i entries (omega (arith, c.len-i-end.ensures.len)) in
     IfOk-weaker c.in_order.result _ _ (λ ks order.
-    all_in_order c.args.self.now.keys entries ks.items (have_one_path entries c.self.inside.nodes c.self.invariant c.args.self.now c.self.view_is) (entries_are_texts entries c.self.inside.nodes c.self.invariant c.args.self.now c.self.view_is)
-    (entries_once entries c.self.inside.nodes c.self.invariant c.args.self.now c.self.view_is) (subst (λ xs. AreInOrder xs ks.items) all order) (entries_all entries c.self.inside.nodes c.self.invariant c.args.self.now c.self.view_is)) c.in_order.ensures
+    all_in_order c.args.self.now.keys entries ks.items (have_one_path entries c.self.inside.nodes c.self.invariant.linked c.args.self.now c.self.view_is) (entries_are_texts entries c.self.inside.nodes c.self.invariant.linked c.args.self.now c.self.view_is)
+    (entries_once entries c.self.inside.nodes c.self.invariant.linked c.args.self.now c.self.view_is) (subst (λ xs. AreInOrder xs ks.items) all order) (entries_all entries c.self.inside.nodes c.self.invariant.linked c.args.self.now c.self.view_is)) c.in_order.ensures

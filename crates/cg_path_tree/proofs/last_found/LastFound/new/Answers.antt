@@ -1,0 +1,5 @@
+use Rattle.cg_path_tree.proofs.LastFound.{true_of_none}
+use Rattle.cg_path_tree.proofs.last_found.LastFound.new.Goals as goal
+
+pub returns : goal.returns
+returns c = true_of_none c.root.result
