@@ -7,6 +7,9 @@ ghost use Rattle.cg_model.specs.Opens.{among};
 
 use std::alloc::AllocError;
 
+// For how many records more than those that are due numbers are made at once.
+const AT_ONCE: usize = 256;
+
 // Makes room for so many places and ends more, and for the numbers of so many records. An error, where there is no memory, leaves
 // what can be seen as it was.
 pub(crate) fn make_room(
@@ -31,7 +34,7 @@ pub(crate) fn make_room(
     places.reserve(slots)?;
     ends.reserve(slots)?;
     if numbers.len() < size {
-        numbers.resize(size, 0)?;
+        numbers.resize(size.saturating_add(AT_ONCE), 0)?;
     }
     Ok(())
 }

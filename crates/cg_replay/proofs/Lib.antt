@@ -1,6 +1,7 @@
 pub mod Answered
 pub mod Endings
 pub mod HistoryReplays
+mod LastSession
 mod MachineOutputs
 pub mod OneOutput
 mod OwnHistories

@@ -1,5 +1,5 @@
 //! A schedule being played: its sessions' names and the machine.
-ghost use Rattle.std.specs.Prelude.{◌≡◌, ◌⊎◌, ◌≤◌, ◌<◌, ◌-◌, ◌++◌, List, ℕ, MatchOption, IfOk, IfErr, OnOk, OnErr, length, slice_get, take, true, false};
+ghost use Rattle.std.specs.Prelude.{◌≡◌, ◌⊎◌, ◌≤◌, ◌<◌, ◌+◌, ◌-◌, ◌++◌, List, ℕ, MatchOption, IfOk, IfErr, OnOk, OnErr, Some, length, slice_get, take, true, false};
 ghost use Rattle.cg_name.specs.declared.refusal.Refusal.TheVariants.{Syntax};
 ghost use Rattle.std.specs.Option.{option_map};
 ghost use Rattle.std.specs.Result.{IsErrOf};
@@ -37,12 +37,18 @@ const MOST_NAMES: usize = 4_096;
 pub struct Player {
     names: IndexSet<SessionName>,
     core: Core,
+    // The place among the names of the one that was asked for last, if there is one.
+    last: usize,
 }
 
 // By hand, so that whoever drops one calls this, and doesn't drop each thing in it: that makes proofs shorter.
 impl Drop for Player {
     fn drop(self) {
-        let Player { names: _, core: _ } = self;
+        let Player {
+            names: _,
+            core: _,
+            last: _,
+        } = self;
     }
 }
 
@@ -71,6 +77,7 @@ impl Player {
         Ok(Player {
             names: IndexSet::new(alloc),
             core: Core::open(alloc, world, limit)?,
+            last: 0,
         })
     }
 
@@ -104,7 +111,11 @@ impl Player {
     pub fn into_core(self) -> Core
         ensures { result ≡ self.core }
     {
-        let Player { names: _, core } = self;
+        let Player {
+            names: _,
+            core,
+            last: _,
+        } = self;
         core
     }
 
@@ -116,7 +127,11 @@ impl Player {
         ensures names { IfOk result (λ s. MatchOption s (self.new ≡ self.old) (λ _. self.new ≡ record self.old { names = with_name self.old.names name })) }
         ensures memory { OnErr result (self.new ≡ self.old) }
     {
+        if is_at(&self.names, self.last, name) {
+            return Ok(Some(SessionId(self.last as u32 + 1)));
+        }
         if let Some(index) = self.names.get_index_of(&name) {
+            self.last = index;
             return Ok(Some(SessionId(index as u32 + 1)));
         }
         let count = self.names.len();
@@ -124,6 +139,7 @@ impl Player {
             return Ok(None);
         }
         self.names.insert(name)?;
+        self.last = count;
         Ok(Some(SessionId(count as u32 + 1)))
     }
 
@@ -282,6 +298,20 @@ impl Answerer for Player {
 
     fn answer_long_line(&mut self, out: &mut Vec<u8>) -> Result<(), AllocError> {
         refuse(out)
+    }
+}
+
+// Whether this is the name at the place.
+#[inline(always)]
+fn is_at(names: &IndexSet<SessionName>, place: usize, name: SessionName) -> bool
+    ensures number { result ≡ true → session_number names.now.keys name ≡ Some (place + 1) }
+    ensures names { result ≡ true → with_name names.now.keys name ≡ names.now.keys }
+{
+    // Names tell that no two of them are equal when they are counted.
+    let _ = names.len();
+    match names.get_index(place) {
+        Some(there) => *there == name,
+        None => false,
     }
 }
 
