@@ -6,6 +6,7 @@ pub mod Indexed
 pub mod Kinship
 pub mod LastFound
 pub mod LastName
+pub mod Leading
 pub mod Linking
 pub mod ListChanges
 pub mod Listing
