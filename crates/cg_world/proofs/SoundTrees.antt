@@ -1,8 +1,9 @@
 -- Soundness, part by part.
-use Rattle.std.proofs.Common.{◌≡◌, ◌↔◌, suc, ◌-◌, Bool, true, false, IsTrue, cond, not, ◌||◌, ◌&&◌, List, [], ◌∷◌, take, length, Option, Some, None, IfSome, Bor, option_copied, refl, sym, ap, subst, ◌∙◌, true≢false, arith}
+use Rattle.std.proofs.Common.{◌≡◌, ◌↔◌, suc, nat_eq, ◌-◌, Bool, true, false, IsTrue, cond, not, ◌||◌, ◌&&◌, List, [], ◌∷◌, take, length, Option, Some, None, IfSome, Bor, refl, sym, ap, subst, ◌∙◌, true≢false, arith}
 use Rattle.std.specs.declared.cmp.Ordering.{Ordering}
 use Rattle.std.specs.Ordering.{eq_by_cmp}
 use Rattle.std.specs.Cmp.{IsTotalOrder}
+use Rattle.std.specs.Cmp.Lexicographic.{pointwise, pointwise_decides, bytes_decides}
 use Rattle.std.specs.Cmp.Derive.{both_true}
 use Rattle.std.specs.List.{AllByRecursion, list_all}
 use Rattle.std.specs.FinMap.{IsAntisymmetric}
@@ -11,10 +12,10 @@ use Rattle.std.proofs.lemmas.Bool.{and_parts}
 use Rattle.std.proofs.lemmas.Option.{none-some, same_Some}
 use Rattle.cg_maps.specs.FiniteMap.{FiniteMap, from_entries, get}
 use Rattle.cg_maps.specs.FiniteSet.{is_empty_set}
-use Rattle.cg_maps.proofs.Maps.{here, is_same, get-from_entries}
+use Rattle.cg_maps.proofs.Maps.{is_same, get-from_entries}
 use Rattle.cg_name.specs.Name.{Name, same_name}
-use Rattle.cg_name.specs.Path.{Path, is_root, is_parent, is_prefix}
-use Rattle.cg_name.specs.Order.{name_cmp_total, name_cmp_exact}
+use Rattle.cg_name.specs.Path.{Path, path_cmp, is_root, is_parent, is_prefix}
+use Rattle.cg_name.specs.Order.{path_cmp_total, path_cmp_exact}
 use Rattle.cg_name.proofs.Packing.{same_name-is, same_name-itself}
 use Rattle.cg_name.specs.declared.controller.Controller.{Controller}
 use Rattle.cg_name.specs.declared.controller.Controller.TheVariants.{Cpuset, Cpu, Io, Memory, Hugetlb, Pids, Rdma, Misc}
@@ -23,7 +24,7 @@ use Rattle.cg_text.specs.declared.controllers.Controllers.{Controllers}
 use Rattle.cg_text.specs.declared.settings.Settings.{Settings}
 use Rattle.cg_model.specs.Tree.{Tree, group}
 use Rattle.cg_model.specs.Sound.{Sound, IsChildOf, IsRootOf, admits}
-use Rattle.cg_world.specs.Soundness.{HasNoParent, HasParent, HasSoundRoot, HasSoundGroups, HasSoundPlaces, IsSoundGroup, IsSoundPlace}
+use Rattle.cg_world.specs.Soundness.{HasNoParent, HasParent, HasSoundRoot, HasSoundGroups, HasSoundPlaces, IsSoundGroup, IsSoundPlace, AreSoundPlaces, leads_to}
 
 -- ---- tests
 
@@ -184,13 +185,43 @@ only_none (Some x) h = absurd (h x refl)
 pub some_is : {X : Type 0} (P : X → Type 0) (o : Option X) (x : X) → o ≡ Some x → IfSome o P → P x
 some_is P o x e h = subst (λ o. IfSome o P) e h
 
-pub place_is : (T : Tree) (p : Path) (s : Settings) (r : Bool) → group T p ≡ Some s → admits p s ≡ r → IsTrue r ↔ IsSoundPlace T p
-place_is T p s r e a = (
-  λ t. (s, e, a ∙ t),
-  λ g. sym a ∙ ap (admits p) (sym (same_Some _ _ (sym g.1 ∙ e))) ∙ g.2,
-)
+-- ---- the paths where processes may be, collected group by group
 
--- what holds of what a reference leads to holds of what it is known to be
-pub copied_is : {X : Type 0} (P : X → Type 0) (o : Option (Bor X)) (x : X) → IfSome o (λ b. P b.now) → option_copied o ≡ Some x → P x
-copied_is P None x h e = absurd (none-some _ e)
-copied_is P (Some b) x h e = subst P (same_Some _ _ e) h
+-- the references lead to the path of each of the groups that may have processes
+abbrev LeadToAll : List (Bor Path) → List (Path × Settings) → Type 0
+LeadToAll ps es = AllByRecursion (λ e. admits e.0 e.1 ≡ true → leads_to ps e.0 ≡ true) es
+
+-- the references lead to no other paths, and to all once they also lead to those of the groups that are left
+pub record Collects (T : Tree) (ps : List (Bor Path)) (es : List (Path × Settings)) : Type 0 where
+  pub right : (p : Path) → leads_to ps p ≡ true → IsSoundPlace T p
+  pub whole : (more : List (Bor Path)) → ((p : Path) → leads_to ps p ≡ true → leads_to more p ≡ true) → LeadToAll more es → (p : Path) → IsSoundPlace T p → leads_to more p ≡ true
+
+pub collects_first : (T : Tree) (ps : List (Bor Path)) (es : List (Path × Settings)) → ps ≡ [] → from_entries path_cmp es ≡ T.groups → Collects T ps es
+collects_first T ps es none is = record {
+  right = λ p e. absurd (true≢false (sym e ∙ ap (λ l. leads_to l p) none));
+  whole = λ more _ all p place. each_answer path_cmp_total path_cmp_exact (λ q s. admits q s ≡ true → leads_to more q ≡ true) es T.groups is all p place.0 place.1 place.2;
+}
+
+pub collects_without : (T : Tree) (ps : List (Bor Path)) (p : Path) (s : Settings) (es : List (Path × Settings)) → Collects T ps ((p, s) ∷ es) → admits p s ≡ false → Collects T ps es
+collects_without T ps p s es h barred = record {
+  right = h.right;
+  whole = λ more covers all. h.whole more covers ((λ may. absurd (true≢false (sym may ∙ barred))), all);
+}
+
+pub collects_with : (T : Tree) (ps new : List (Bor Path)) (p : Path) (s : Settings) (es : List (Path × Settings)) → Collects T ps ((p, s) ∷ es) → group T p ≡ Some s → admits p s ≡ true
+    → ((q : Path) → leads_to new q ≡ cond (pointwise (pointwise nat_eq) p q) true (leads_to ps q)) → Collects T new es
+collects_with T ps new p s es h at may added = record {
+  right = λ q e. by q (pointwise (pointwise nat_eq) p q) refl (sym (added q) ∙ e);
+  whole = λ more covers all. h.whole more (λ q e. covers q (added q ∙ kept (pointwise (pointwise nat_eq) p q) e)) ((λ _. covers p (added p ∙ ap (λ b. cond b true (leads_to ps p)) ((pointwise_decides bytes_decides p p).1 refl))), all);
+}
+  where
+    by : (q : Path) (b : Bool) → pointwise (pointwise nat_eq) p q ≡ b → cond b true (leads_to ps q) ≡ true → IsSoundPlace T q
+    by q true is e = subst (IsSoundPlace T) ((pointwise_decides bytes_decides p q).0 is) (s, at, may)
+    by q false is e = h.right q e
+
+    kept : {r : Bool} (b : Bool) → r ≡ true → cond b true r ≡ true
+    kept true e = refl
+    kept false e = e
+
+pub collects_all : (T : Tree) (ps : List (Bor Path)) → Collects T ps [] → AreSoundPlaces T ps
+collects_all T ps h p = (h.right p, h.whole ps (λ _ e. e) tt p)

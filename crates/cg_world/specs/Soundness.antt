@@ -1,5 +1,8 @@
 -- The parts of a tree's soundness, each of which is one question of the code.
-use Rattle.std.specs.Prelude.{◌≡◌, ℕ, true, [], Some, None}
+use Rattle.std.specs.Prelude.{◌≡◌, ◌↔◌, ℕ, nat_eq, Bool, true, List, [], Some, None}
+use Rattle.std.specs.Borrow.{Bor}
+use Rattle.std.specs.Cmp.Lexicographic.{pointwise}
+use Rattle.std.specs.List.{list_any}
 use Rattle.cg_name.specs.Path.{Path, is_parent}
 use Rattle.cg_text.specs.declared.settings.Settings.{Settings}
 use Rattle.cg_model.specs.Tree.{Tree, group, place_of}
@@ -32,6 +35,14 @@ HasSoundGroups T = (p : Path) (s : Settings) → group T p ≡ Some s → IsSoun
 -- the path is that of a group that may have processes
 abbrev pub IsSoundPlace : Tree → Path → Type 0
 IsSoundPlace T p = (s : Settings) × (group T p ≡ Some s) × (admits p s ≡ true)
+
+-- whether one of the references leads to the path
+abbrev pub leads_to : List (Bor Path) → Path → Bool
+leads_to ps p = list_any (λ q. pointwise (pointwise nat_eq) p q.now) ps
+
+-- the references lead to the paths of the groups that may have processes, and to no others
+abbrev pub AreSoundPlaces : Tree → List (Bor Path) → Type 0
+AreSoundPlaces T ps = (p : Path) → (leads_to ps p ≡ true) ↔ IsSoundPlace T p
 
 -- each process may be where it is
 abbrev pub HasSoundPlaces : Tree → Type 0

@@ -1,26 +1,29 @@
 //! Whether a plain tree is sound.
-ghost use Rattle.std.specs.Prelude.{◌≡◌, ◌↔◌, false, length, IsTrue, IfOk, IfErr, IfSome, OnOk, Some, None, is_some};
-ghost use Rattle.std.specs.Option.{option_copied};
+ghost use Rattle.std.specs.Prelude.{◌≡◌, ◌↔◌, false, length, IsTrue, IfOk, IfErr, IfSome, OnOk, None, is_some};
 ghost use Rattle.std.specs.Result.{IsErrOf};
 ghost use Rattle.cg_name.specs.Path.{is_parent, is_root};
 ghost use Rattle.cg_name.specs.Refusal.{IsSyntaxOrMemory};
 ghost use Rattle.cg_name.specs.declared.refusal.Refusal.TheVariants.{Memory};
-ghost use Rattle.cg_model.specs.Sound.{Sound, IsChildOf, IsRootOf};
-ghost use Rattle.cg_world.specs.Soundness.{HasGroup, HasParent, HasNoParent, HasSoundRoot, HasSoundGroups, HasSoundPlaces, IsSoundGroup, IsSoundPlace};
+ghost use Rattle.cg_model.specs.Sound.{Sound, IsChildOf, IsRootOf, admits};
+ghost use Rattle.cg_world.specs.Soundness.{HasGroup, HasParent, HasNoParent, HasSoundRoot, HasSoundGroups, HasSoundPlaces, IsSoundGroup, AreSoundPlaces};
 
 use crate::plain::PlainTree;
 use cg_boxed::CompactSettings;
 use cg_name::{Path, Refusal};
+use indexmap::IndexSet;
 use std::alloc::{AllocError, Global};
 
 impl PlainTree {
-    /// Refuses with `Syntax` a tree that isn't sound. `Memory` comes where there is none for a parent's path.
+    /// Refuses with `Syntax` a tree that isn't sound. `Memory` comes where there is none to find that out.
     pub fn check_sound(&self, alloc: Global) -> Result<(), Refusal>
         ensures sound { OnOk result (Sound self.now) }
         ensures syntax { IsErrOf result Refusal.Syntax → ¬ (Sound self.now) }
         ensures refusals { IfErr result IsSyntaxOrMemory }
     {
-        if self.online().is_empty() || !has_sound_root(self, alloc) || !has_sound_places(self) {
+        if self.online().is_empty()
+            || !has_sound_root(self, alloc)
+            || !has_sound_places(self, alloc)?
+        {
             return Err(Refusal::Syntax);
         }
         if has_sound_groups(self, alloc)? {
@@ -160,36 +163,35 @@ fn may_be_child(parent: &CompactSettings, settings: &CompactSettings) -> bool
 }
 
 // Whether each process may be where it is.
-fn has_sound_places(tree: &PlainTree) -> bool
-    ensures { IsTrue result ↔ HasSoundPlaces tree.now }
+fn has_sound_places(tree: &PlainTree, alloc: Global) -> Result<bool, AllocError>
+    ensures { IfOk result (λ sound. IsTrue sound ↔ HasSoundPlaces tree.now) }
 {
-    // Processes of one group often stand together.
-    let mut before = None;
+    let allowed = sound_places(tree, alloc)?;
     for (_pid, path) in tree.places() {
-        if !is_same(before, path) && !is_sound_place(tree, path) {
-            return false;
+        if !allowed.contains(&path) {
+            return Ok(false);
         }
-        before = Some(path);
     }
-    true
+    Ok(true)
 }
 
-// Whether there is a path before, and it is this one.
-fn is_same(before: Option<&Path>, path: &Path) -> bool
-    ensures { IsTrue result → option_copied before.entry ≡ Some path.now }
+// The paths of the groups that may have processes. There a path is found by its hash, where the map of the groups would
+// compare it with a dozen others.
+fn sound_places(tree: &PlainTree, alloc: Global) -> Result<IndexSet<&Path>, AllocError>
+    ensures { IfOk result (λ paths. AreSoundPlaces tree.now paths.keys) }
 {
-    match before {
-        Some(before) => before == path,
-        None => false,
+    let mut paths = IndexSet::new(alloc);
+    for (path, settings) in tree.groups() {
+        if may_have_processes(path, settings) {
+            paths.insert(path)?;
+        }
     }
+    Ok(paths)
 }
 
-// Whether the path is that of a group that may have processes.
-fn is_sound_place(tree: &PlainTree, path: &Path) -> bool
-    ensures { IsTrue result ↔ IsSoundPlace tree.now path.now }
+// Whether the group at this path may have processes, with these settings.
+fn may_have_processes(path: &Path, settings: &CompactSettings) -> bool
+    ensures { result ≡ admits path.now settings.now }
 {
-    match tree.entry(path) {
-        Some((_, settings)) => path.is_root() || settings.control().is_empty(),
-        None => false,
-    }
+    path.is_root() || settings.control().is_empty()
 }

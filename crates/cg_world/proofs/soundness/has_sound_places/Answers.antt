@@ -8,38 +8,30 @@ use Rattle.cg_maps.specs.FiniteMap.{get}
 use Rattle.cg_maps.proofs.TreeMaps.{get-view}
 use Rattle.cg_model.specs.Tree.{place_of}
 use Rattle.cg_world.specs.Soundness.{IsSoundPlace}
-use Rattle.cg_world.proofs.SoundTrees.{copied_is, each_answer}
+use Rattle.cg_world.proofs.SoundTrees.{each_answer}
 use Rattle.cg_world.proofs.soundness.has_sound_places.Goals as goal
-use Rattle.cg_world.proofs.soundness.has_sound_places.Goals.{else-not-is_same-via-then-not-is_same+else-not-is_sound_place, else-not-is_same-via-else-not-is_same}
 
 pub loop-pid-init : goal.loop-pid-init
-loop-pid-init c = (
-  λ h. each_answer nat_cmp_total nat_cmp-IsAntisymmetric (λ _. IsSoundPlace c.args.tree.now) c.places-pid-items.result.now.entries c.args.tree.now.places c.places-pid-items.ensures
-      (subst (AllByRecursion (λ e. IsSoundPlace c.args.tree.now e.1)) c.into_iter-pid-iterator.ensures.into_iter_gives.0 h),
-  tt,
-)
+loop-pid-init c =
+    λ h. each_answer nat_cmp_total nat_cmp-IsAntisymmetric (λ _. IsSoundPlace c.args.tree.now) c.places-pid-items.result.now.entries c.args.tree.now.places c.places-pid-items.ensures
+    (subst (AllByRecursion (λ e. IsSoundPlace c.args.tree.now e.1)) c.into_iter-pid-iterator.ensures.into_iter_gives.0 h)
 
-pub returns-then-not-is_sound_place : goal.returns-then-not-is_sound_place
-returns-then-not-is_sound_place c =
+pub returns-then-not-contains : goal.returns-then-not-contains
+returns-then-not-contains c =
     let m = c.places-pid-items.result.now in
     let turn = btree_map_turn deref_pair _ _ _ _ _ _ c.loop-pid.yielded_by c.in-Some.is c.next.ensures.steps nat_cmp_total m c.into_iter-pid-iterator.ensures.into_iter_gives.0 c.into_iter-pid-iterator.ensures.into_iter_gives.5 in
     let here : place_of c.args.tree.now c.in-Some._pid.now ≡ Some c.in-Some.path.now =
     ap (λ g. get g c.in-Some._pid.now) (sym c.places-pid-items.ensures) ∙ get-view nat_cmp_total nat_cmp-IsAntisymmetric m c.in-Some._pid.now ∙ turn.1 in
-    (λ t. absurd (true≢false (sym t)), λ all. absurd (true≢false (sym (c.is_sound_place.ensures.1 (all _ _ here)) ∙ c.if-not-is_sound_place.true)))
+    (λ t. absurd (true≢false (sym t)), λ all. absurd (true≢false (sym ((c.in_ok-allowed.ensures c.in-Some.path.now).1 (all _ _ here)) ∙ sym c.contains.ensures ∙ c.if-not-contains.true)))
 
 pub loop-pid-preserved : goal.loop-pid-preserved
 loop-pid-preserved c =
-    let here : IsSoundPlace c.args.tree.now c.in-Some.path.now = elim c.else-not-is_same.branch [
-      | else-not-is_same-via-then-not-is_same+else-not-is_sound_place w ↦ w.is_sound_place.ensures.0 w.if-not-is_sound_place.false
-      | else-not-is_same-via-else-not-is_same w ↦ copied_is (IsSoundPlace c.args.tree.now) c.loop-pid.before _ c.loop-pid.invariant.1 (c.is_same.ensures w.if-not-is_same.false)
-    ] in (
-      λ h. c.loop-pid.invariant.0
-          (subst (AllByRecursion (λ e. IsSoundPlace c.args.tree.now e.1)) (sym (rest_more deref_pair _ _ _ _ c.in-Some.is c.next.ensures.steps)) (here, h)),
-      here,
-    )
+    let here : IsSoundPlace c.args.tree.now c.in-Some.path.now = (c.in_ok-allowed.ensures c.in-Some.path.now).0 (sym c.contains.ensures ∙ c.if-not-contains.false) in
+    λ h. c.loop-pid.invariant
+    (subst (AllByRecursion (λ e. IsSoundPlace c.args.tree.now e.1)) (sym (rest_more deref_pair _ _ _ _ c.in-Some.is c.next.ensures.steps)) (here, h))
 
 pub returns : goal.returns
 returns c = (
-  λ _. c.loop-pid.invariant.0 (subst (AllByRecursion (λ e. IsSoundPlace c.args.tree.now e.1)) (sym (rest_all deref_pair _ _ _ c.in-None.is c.next.ensures.steps)) tt),
+  λ _. c.loop-pid.invariant (subst (AllByRecursion (λ e. IsSoundPlace c.args.tree.now e.1)) (sym (rest_all deref_pair _ _ _ c.in-None.is c.next.ensures.steps)) tt),
   λ _. refl,
 )

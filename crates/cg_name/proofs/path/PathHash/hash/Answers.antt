@@ -8,5 +8,6 @@ use Rattle.cg_name.proofs.path.PathHash.hash.Goals as goal
 
 pub returns : goal.returns
 returns g c =
-    c.hash.ensures
-    ∙ ap (λ l. fold g.H.Hasher.write c.args.state.now (fed.slice fed.u8 l)) (c.as_slice.ensures ∙ sym (packed_text-names_in c.self.inside.text c.self.invariant.start) ∙ ap packed_text c.self.view_is)
+    c.write_u8.ensures
+    ∙ ap (λ s. fold g.H.Hasher.write s (fed.u8 255)) c.write.ensures
+    ∙ ap (λ l. fold g.H.Hasher.write c.args.state.now (fed.str l)) (c.as_slice.ensures ∙ sym (packed_text-names_in c.self.inside.text c.self.invariant.start) ∙ ap packed_text c.self.view_is)
