@@ -2,10 +2,12 @@
 #![tactic(auto)]
 
 mod asked;
+mod keyword;
 pub mod laws;
 mod reading;
 mod writing;
 
 pub use asked::commands_can_be_asked_for;
+pub use keyword::is_keyword;
 pub use reading::read_command;
 pub use writing::write_command;

@@ -16,6 +16,7 @@ ghost use Rattle.cg_command.specs.Meaning.{command_of};
 ghost use Rattle.cg_command_text.specs.CommandText.{SpellsCommand, SpellsCpuWords};
 ghost use Rattle.cg_command_text.specs.Read.{ReadsCommand};
 
+use crate::keyword::is_keyword;
 use cg_boxed::BoxedCpus;
 use cg_command::{Command, OnlineCpus, Pid};
 use cg_cpus::CpuSet;
@@ -33,19 +34,37 @@ pub fn read_command(alloc: Global, words: &[&str]) -> Result<Command, Refusal>
     let [keyword, others @ ..] = words else {
         return Err(Refusal::Syntax);
     };
-    match *keyword {
-        "create" => read_create(alloc, others),
-        "remove" => read_remove(alloc, others),
-        "migrate" => read_migrate(alloc, others),
-        "subtree" => read_subtree(alloc, others),
-        "freeze" => read_freeze(alloc, others),
-        "cpus" => read_cpus(alloc, others),
-        "show" => read_show(alloc, others),
-        "online" => read_online(alloc, others),
-        "maxdescendants" => read_max_descendants(alloc, others),
-        "maxdepth" => read_max_depth(alloc, others),
-        _ => Err(Refusal::Syntax),
+    if is_keyword(keyword, "create") {
+        return read_create(alloc, others);
     }
+    if is_keyword(keyword, "remove") {
+        return read_remove(alloc, others);
+    }
+    if is_keyword(keyword, "migrate") {
+        return read_migrate(alloc, others);
+    }
+    if is_keyword(keyword, "subtree") {
+        return read_subtree(alloc, others);
+    }
+    if is_keyword(keyword, "freeze") {
+        return read_freeze(alloc, others);
+    }
+    if is_keyword(keyword, "cpus") {
+        return read_cpus(alloc, others);
+    }
+    if is_keyword(keyword, "show") {
+        return read_show(alloc, others);
+    }
+    if is_keyword(keyword, "online") {
+        return read_online(alloc, others);
+    }
+    if is_keyword(keyword, "maxdescendants") {
+        return read_max_descendants(alloc, others);
+    }
+    if is_keyword(keyword, "maxdepth") {
+        return read_max_depth(alloc, others);
+    }
+    Err(Refusal::Syntax)
 }
 
 // What stands behind `create`.

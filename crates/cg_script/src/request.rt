@@ -10,7 +10,7 @@ ghost use Rattle.cg_model.specs.History as model;
 ghost use Rattle.cg_script.specs.Request.{CanBeAsked, SpellsCall, SpellsLine, SpellsRequest, request_line, request_text, OneCall, WrittenLinesAreSpelled};
 
 use crate::session::SessionName;
-use cg_command_text::{commands_can_be_asked_for, read_command, write_command};
+use cg_command_text::{commands_can_be_asked_for, is_keyword, read_command, write_command};
 use cg_history::Request;
 use cg_name::{Refusal, SaveName, or_truncate};
 use cg_text::{LineWords, read_words};
@@ -46,20 +46,23 @@ fn read_call(alloc: Global, words: &[&str]) -> Result<(SessionName, Request), Re
     Ok((name, request))
 }
 
-// The request that the words behind a session's name spell.
+/// The request that the words behind a session's name spell; `Syntax` where they spell none.
 #[inline(always)]
-pub(crate) fn read_request(alloc: Global, words: &[&str]) -> Result<Request, Refusal>
+pub fn read_request(alloc: Global, words: &[&str]) -> Result<Request, Refusal>
     ensures value { IfOk result (λ r. SpellsRequest (map (λ w. w.now) words.now) (request_of r)) }
     ensures syntax { IsErrOf result Refusal.Syntax → (r : model.Request cgroups) → SpellsRequest (map (λ w. w.now) words.now) r → ⊥ }
     ensures refusals { IfErr result IsSyntaxOrMemory }
 {
-    match words {
-        ["begin"] => Ok(Request::Begin),
-        ["save", name] => Ok(Request::Save(SaveName::read(name)?)),
-        ["back", name] => Ok(Request::Back(SaveName::read(name)?)),
-        ["undo"] => Ok(Request::Undo),
-        ["commit"] => Ok(Request::Commit),
-        ["abort"] => Ok(Request::Abort),
+    let [keyword, others @ ..] = words else {
+        return Err(Refusal::Syntax);
+    };
+    match others {
+        [] if is_keyword(keyword, "begin") => Ok(Request::Begin),
+        [] if is_keyword(keyword, "undo") => Ok(Request::Undo),
+        [] if is_keyword(keyword, "commit") => Ok(Request::Commit),
+        [] if is_keyword(keyword, "abort") => Ok(Request::Abort),
+        [name] if is_keyword(keyword, "save") => Ok(Request::Save(SaveName::read(name)?)),
+        [name] if is_keyword(keyword, "back") => Ok(Request::Back(SaveName::read(name)?)),
         _ => Ok(Request::Do(read_command(alloc, words)?)),
     }
 }
