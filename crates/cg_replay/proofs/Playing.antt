@@ -9,13 +9,13 @@ use Rattle.cg_model.specs.Cgroups.{cgroups}
 use Rattle.cg_model.specs.History.{Request}
 use Rattle.cg_model.specs.Tree.{Tree}
 use Rattle.cg_lines.specs.Device.{AppendsFront, AppendsTo}
-use Rattle.cg_text.specs.Words.{lines_of}
+use Rattle.cg_text.specs.Words.{lines_of, Says, Word}
 use Rattle.cg_script.specs.Request.{SpellsLine, newline}
 use Rattle.cg_replay.specs.Answering.{EachAnswers, FrontAnswers}
-use Rattle.cg_replay.specs.Replay.{Replay, Asked, Answers, IsOutputFrom, IsOutputAndHistory, IsOutputAndHistoryFrom, core_ended, ending_text, answer_line, opened}
+use Rattle.cg_replay.specs.Replay.{Replay, Answers, AnswersWords, IsOutputFrom, IsOutputAndHistory, IsOutputAndHistoryFrom, core_ended, ending_text, answer_line, opened}
 use Rattle.cg_script.specs.Turns.{session_number, with_name, IsOneTooMany}
 use Rattle.cg_lines.proofs.DeviceLemmas.{AppendsFront-nil, AppendsTo-front, AppendsTo-behind, AppendsTo-whole}
-use Rattle.cg_script.proofs.OneLine.{line_one}
+use Rattle.cg_script.proofs.OneLine.{call_of, line_one}
 use Rattle.cg_replay.proofs.Answered.{each_one, front_of_all}
 
 -- ---- a line has one answer
@@ -38,11 +38,17 @@ answers_one s t u line a b (inr (inr h)) (inl k) = absurd (h.0 None k.0)
 answers_one s t u line a b (inr (inr h)) (inr (inl k)) = absurd (none-some _ (sym (h.0 (Some (k.0, k.1)) k.3) ∙ k.4.0))
 answers_one s t u line a b (inr (inr h)) (inr (inr k)) = (h.1 ∙ sym k.1, h.2 ∙ sym k.2)
 
--- what a session's request is answered, the line is answered
-pub answers_asked : (s t : Replay) (line n out : List ℕ) (r : Request cgroups) → SpellsLine line (Some (n, r)) → Asked s n r out t → Answers s line out t
-answers_asked s t line n out r spelled (inl asked) = inr (inl (n, r, asked.0, spelled, asked.1))
-answers_asked s t line n out r spelled (inr many) =
-    inr (inr ((λ call h. subst (IsOneTooMany s.names) (line_one line (Some (n, r)) call spelled h) many.0), many.1, many.2))
+-- what the words of a line are answered, the line is answered
+pub answers_words : (s t : Replay) (line out : List ℕ) (ws : List Word) → Says line (Some ws) → AnswersWords s ws out t → Answers s line out t
+answers_words s t line out ws says (inl asked) = inr (inl (asked.0, asked.1, asked.2, (ws, says, asked.3), asked.4))
+answers_words s t line out ws says (inr refused) =
+    inr (inr (
+      (λ call h.
+          let c = call_of line ws call says h in
+          subst (IsOneTooMany s.names) (sym c.1) (refused.0 c.0.0 c.0.1 c.2)),
+      refused.1,
+      refused.2,
+    ))
 
 -- a line that is too long is refused
 pub long_answered : (s : Replay) (line : List ℕ) → 65536 < length line → Answers s line (refusal_text Syntax ++ newline) s

@@ -2,7 +2,7 @@
 use Rattle.std.specs.Prelude.{◌≡◌, ◌⊎◌, ℕ, List, [], ◌∷◌, ◌++◌, map, reverse, Option, Some, None}
 use Rattle.cg_name.specs.Refusal.{refusal_text}
 use Rattle.cg_name.specs.declared.refusal.Refusal.TheVariants.{Syntax}
-use Rattle.cg_text.specs.Words.{lines_of}
+use Rattle.cg_text.specs.Words.{lines_of, Word}
 use Rattle.cg_model.specs.Tree.{Tree}
 use Rattle.cg_model.specs.Cgroups.{cgroups}
 use Rattle.cg_model.specs.History.{Request, Answer, Abort, History}
@@ -13,7 +13,7 @@ use Rattle.cg_core.specs.State.{CoreState, machine, reply, after}
 use Rattle.cg_world_text.specs.World.{world_text}
 use Rattle.cg_replay.specs.Answering.{EachAnswers, PassedAnswers}
 use Rattle.cg_script.specs.Answer.{answer_text}
-use Rattle.cg_script.specs.Request.{SpellsLine, newline}
+use Rattle.cg_script.specs.Request.{SpellsCall, SpellsLine, newline}
 use Rattle.cg_script.specs.Turns.{IsOneTooMany, session_number, with_name}
 
 -- a schedule so far: the names of its sessions in the order in which they first stood in a line, and the machine, as a core
@@ -52,10 +52,20 @@ IsAnsweredAs s n r k answer t =
 abbrev pub IsAnswered : Replay → List ℕ → Request cgroups → Option Answer → Replay → Type 0
 IsAnswered s n r answer t = ((k : ℕ) × IsAnsweredAs s n r k answer t) ⊎ ((session_number s.names n ≡ None) × (answer ≡ None) × (t ≡ s))
 
--- a session's request is answered, or refused since its name is one too many
-abbrev pub Asked : Replay → List ℕ → Request cgroups → List ℕ → Replay → Type 0
-Asked s n r out t =
-    ((k : ℕ) × AsksAs s n r k out t) ⊎ ((session_number s.names n ≡ None) × (out ≡ refusal_text Syntax ++ newline) × (t ≡ s))
+-- the request of the session with this number is answered by the machine, as that of the definitions answers, and both go on
+abbrev pub IsStepped : Replay → ℕ → Request cgroups → Answer → Replay → Type 0
+IsStepped s k r answer t =
+    (answer ≡ reply s.core k r) × (t ≡ record s { core = after s.core k r }) × (step cgroups (machine s.core) k r ≡ (machine t.core, reply s.core k r))
+
+-- words are no session's request, or that of a session whose name is one too many
+abbrev pub AreRefused : Replay → List Word → Type 0
+AreRefused s ws = (n : List ℕ) (r : Request cgroups) → SpellsCall ws n r → session_number s.names n ≡ None
+
+-- the words of a line are a session's request, and the machine answers, or they are refused
+abbrev pub AnswersWords : Replay → List Word → List ℕ → Replay → Type 0
+AnswersWords s ws out t =
+    ((n : List ℕ) × (r : Request cgroups) × (k : ℕ) × SpellsCall ws n r × AsksAs s n r k out t)
+    ⊎ (AreRefused s ws × (out ≡ refusal_text Syntax ++ newline) × (t ≡ s))
 
 abbrev pub Answers : Replay → List ℕ → List ℕ → Replay → Type 0
 Answers s line out t = Skips s line out t ⊎ (Asks s line out t ⊎ Fails s line out t)

@@ -1,5 +1,5 @@
 //! A schedule being played: its sessions' names and the machine.
-ghost use Rattle.std.specs.Prelude.{◌≡◌, ◌⊎◌, ◌≤◌, ◌<◌, ◌+◌, ◌-◌, ◌++◌, List, ℕ, MatchOption, IfOk, IfErr, OnOk, OnErr, Some, length, slice_get, take, true, false};
+ghost use Rattle.std.specs.Prelude.{◌≡◌, ◌⊎◌, ◌≤◌, ◌<◌, ◌+◌, ◌-◌, ◌++◌, List, ℕ, map, MatchOption, IfOk, IfErr, OnOk, OnErr, Some, length, slice_get, take, true, false};
 ghost use Rattle.cg_name.specs.declared.refusal.Refusal.TheVariants.{Syntax};
 ghost use Rattle.std.specs.Option.{option_map};
 ghost use Rattle.std.specs.Result.{IsErrOf};
@@ -15,15 +15,18 @@ ghost use Rattle.cg_script.specs.Answer.{answer_text};
 ghost use Rattle.cg_core.specs.State.{after, machine, reply};
 ghost use Rattle.cg_model.specs.Cgroups.{cgroups};
 ghost use Rattle.cg_model.specs.History.{Abort};
-ghost use Rattle.cg_replay.specs.Replay.{Answers, Asked, IsAnswered, core_ended, ending_text, opened, tree_now};
-ghost use Rattle.cg_script.specs.Request.{newline};
+ghost use Rattle.cg_model.specs.History as model;
+ghost use Rattle.cg_name.specs.SaveName.{IsSaveName};
+ghost use Rattle.cg_replay.specs.Replay.{Answers, AnswersWords, AreRefused, IsAnswered, IsAnsweredAs, IsStepped, core_ended, ending_text, opened, tree_now};
+ghost use Rattle.cg_script.specs.Request.{newline, SpellsCall, SpellsRequest};
 ghost use Rattle.cg_script.specs.Turns.{session_number, with_name};
 
 use crate::answering::Answerer;
 use cg_core::{Answer, Core, Request, SessionId};
 use cg_lines::{Sink, write_all};
 use cg_name::{Refusal, or_truncate};
-use cg_script::{ScriptFault, SessionName, read_line, write_answer};
+use cg_script::{ScriptFault, SessionName, read_request, write_answer};
+use cg_text::{LineWords, read_words};
 use cg_world::World;
 use cg_world_text::WriteWorld;
 use indexmap::IndexSet;
@@ -92,12 +95,70 @@ impl Player {
         ensures ok { OnOk result ((written : List ℕ) × (out.new.items ≡ out.old.items ++ written) × Answers self.old line.now written self.new) }
         ensures err { OnErr result (out.new.items ≡ out.old.items) }
     {
-        match read_line(alloc, line) {
-            Ok(None) => Ok(()),
-            Ok(Some((name, request))) => self.tell(alloc, name, request, out),
+        let mut words = LineWords::new(alloc);
+        match read_words(line, &mut words) {
+            Ok(true) => self.answer_words(alloc, words.as_slice(), out),
+            Ok(false) => Ok(()),
             Err(Refusal::Syntax) => refuse(out),
             Err(_) => Err(AllocError),
         }
+    }
+
+    // The same for a line that has these words.
+    #[inline(always)]
+    fn answer_words(
+        &mut self,
+        alloc: Global,
+        words: &[&str],
+        out: &mut Vec<u8>,
+    ) -> Result<(), AllocError>
+        ensures ok { OnOk result ((written : List ℕ) × (out.new.items ≡ out.old.items ++ written) × AnswersWords self.old (map (λ w. w.now) words.now) written self.new) }
+        ensures err { OnErr result (out.new.items ≡ out.old.items) }
+    {
+        match self.ask_by(alloc, words) {
+            Ok(answer) => end_line(&answer, out),
+            Err(Refusal::Syntax) => refuse(out),
+            Err(_) => Err(AllocError),
+        }
+    }
+
+    // What is answered to a line that has these words; `Syntax` where they are no session's request, or that of one session too
+    // many. A refusal leaves all as it was.
+    #[inline(always)]
+    fn ask_by(&mut self, alloc: Global, words: &[&str]) -> Result<Answer, Refusal>
+        ensures asked { IfOk result (λ a. (n : List ℕ) × (r : model.Request cgroups) × (k : ℕ) × SpellsCall (map (λ w. w.now) words.now) n r × IsAnsweredAs self.old n r k (Some (answer_of a)) self.new) }
+        ensures syntax { IsErrOf result Syntax → AreRefused self.old (map (λ w. w.now) words.now) }
+        ensures err { OnErr result (self.new ≡ self.old) }
+    {
+        let [name, others @ ..] = words else {
+            return Err(Refusal::Syntax);
+        };
+        let count = self.names.len();
+        let Some(session) = self.session_called(name)? else {
+            return Err(Refusal::Syntax);
+        };
+        let answer = self.ask_as(alloc, session, others);
+        if answer.is_err() {
+            self.names.truncate(count);
+        }
+        answer
+    }
+
+    // Answers the request that the words spell, of the session with this number; `Syntax` where they spell none. A refusal
+    // leaves all as it was.
+    #[inline(always)]
+    fn ask_as(
+        &mut self,
+        alloc: Global,
+        session: SessionId,
+        words: &[&str],
+    ) -> Result<Answer, Refusal>
+        ensures asked { IfOk result (λ a. (r : model.Request cgroups) × SpellsRequest (map (λ w. w.now) words.now) r × IsStepped self.old session.0 r (answer_of a) self.new) }
+        ensures syntax { IsErrOf result Syntax → (r : model.Request cgroups) → SpellsRequest (map (λ w. w.now) words.now) r → ⊥ }
+        ensures err { OnErr result (self.new ≡ self.old) }
+    {
+        let request = read_request(alloc, words)?;
+        Ok(self.step(alloc, session, request)?)
     }
 
     /// The machine that answers.
@@ -119,6 +180,23 @@ impl Player {
         core
     }
 
+    // The session whose name the word spells, as `session` gives it; `Syntax` where it spells none. The session of the line before
+    // is told by the word, before that is read.
+    #[inline(always)]
+    fn session_called(&mut self, word: &str) -> Result<Option<SessionId>, Refusal>
+        ensures valid { OnOk result (IsSaveName word.now) }
+        ensures number { IfOk result (λ s. option_map (λ k. k.0) s ≡ session_number self.old.names word.now) }
+        ensures names { IfOk result (λ s. MatchOption s (self.new ≡ self.old) (λ _. self.new ≡ record self.old { names = with_name self.old.names word.now })) }
+        ensures syntax { IsErrOf result Syntax → ¬ (IsSaveName word.now) }
+        ensures err { OnErr result (self.new ≡ self.old) }
+    {
+        if is_at(&self.names, self.last, word.as_bytes()) {
+            return Ok(Some(SessionId(self.last as u32 + 1)));
+        }
+        let name = SessionName::read(word)?;
+        Ok(self.session_anew(name)?)
+    }
+
     /// The session of this name, which gets the next number where it is new: none where it is one too many. An error, where there is
     /// no memory, leaves all as it was.
     #[inline(always)]
@@ -127,9 +205,19 @@ impl Player {
         ensures names { IfOk result (λ s. MatchOption s (self.new ≡ self.old) (λ _. self.new ≡ record self.old { names = with_name self.old.names name })) }
         ensures memory { OnErr result (self.new ≡ self.old) }
     {
-        if is_at(&self.names, self.last, name) {
+        if is_at(&self.names, self.last, name.as_bytes()) {
             return Ok(Some(SessionId(self.last as u32 + 1)));
         }
+        self.session_anew(name)
+    }
+
+    // The same, by a look-up.
+    #[inline(never)]
+    fn session_anew(&mut self, name: SessionName) -> Result<Option<SessionId>, AllocError>
+        ensures number { IfOk result (λ s. option_map (λ k. k.0) s ≡ session_number self.old.names name) }
+        ensures names { IfOk result (λ s. MatchOption s (self.new ≡ self.old) (λ _. self.new ≡ record self.old { names = with_name self.old.names name })) }
+        ensures memory { OnErr result (self.new ≡ self.old) }
+    {
         if let Some(index) = self.names.get_index_of(&name) {
             self.last = index;
             return Ok(Some(SessionId(index as u32 + 1)));
@@ -264,24 +352,6 @@ impl Player {
         end_line(&answer, out)?;
         Ok(true)
     }
-
-    // Answers a session's request.
-    #[inline(always)]
-    fn tell(
-        &mut self,
-        alloc: Global,
-        name: SessionName,
-        request: Request,
-        out: &mut Vec<u8>,
-    ) -> Result<(), AllocError>
-        ensures ok { OnOk result ((written : List ℕ) × (out.new.items ≡ out.old.items ++ written) × Asked self.old name (request_of request) written self.new) }
-        ensures err { OnErr result (out.new.items ≡ out.old.items) }
-    {
-        match self.ask(alloc, name, request)? {
-            Some(answer) => end_line(&answer, out),
-            None => refuse(out),
-        }
-    }
 }
 
 impl Answerer for Player {
@@ -303,14 +373,15 @@ impl Answerer for Player {
 
 // Whether this is the name at the place.
 #[inline(always)]
-fn is_at(names: &IndexSet<SessionName>, place: usize, name: SessionName) -> bool
-    ensures number { result ≡ true → session_number names.now.keys name ≡ Some (place + 1) }
-    ensures names { result ≡ true → with_name names.now.keys name ≡ names.now.keys }
+fn is_at(names: &IndexSet<SessionName>, place: usize, name: &[u8]) -> bool
+    ensures valid { result ≡ true → IsSaveName name.now }
+    ensures number { result ≡ true → session_number names.now.keys name.now ≡ Some (place + 1) }
+    ensures names { result ≡ true → with_name names.now.keys name.now ≡ names.now.keys }
 {
     // Names tell that no two of them are equal when they are counted.
     let _ = names.len();
     match names.get_index(place) {
-        Some(there) => *there == name,
+        Some(there) => there.as_bytes() == name,
         None => false,
     }
 }

@@ -15,7 +15,7 @@ pub use cg_lines::{LineReader, Sink, Source};
 pub use fault::ScriptFault;
 pub use history::{histories_are_read, write_history};
 pub use request::{
-    a_line_says_one_thing_at_most, read_line, requests_can_be_asked_for, write_line,
+    a_line_says_one_thing_at_most, read_line, read_request, requests_can_be_asked_for, write_line,
     written_lines_are_spelled,
 };
 pub use script::Script;
