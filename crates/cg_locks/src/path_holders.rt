@@ -187,7 +187,7 @@ impl PathHolders {
         ensures { IsMarkedMore self.new kind path.now transaction.0 self.old }
     {
         self.nodes.laws();
-        let Some(key) = self.nodes.visit(path) else {
+        let Some(key) = self.nodes.find(path) else {
             return;
         };
         remove_mark(&mut self.nodes, key, kind, transaction);

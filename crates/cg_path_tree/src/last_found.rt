@@ -42,6 +42,7 @@ impl LastFound {
 
     // Remembers this path and what was found for it. Takes no memory; an error where the path's text is shared by too many
     // to count, and all is then as it was.
+    #[inline(always)]
     pub(crate) fn note(
         &mut self,
         alloc: Global,

@@ -128,6 +128,7 @@ impl<V: Drop> PathTree<V> {
     /// The node at the path, if there is one, as `find` gives it. The tree remembers what it found for this path, until
     /// another is visited or added: up to then `find`, `find_parent` and what goes through them find it by a comparison.
     /// Takes no memory.
+    #[inline(always)]
     pub fn visit(&mut self, path: &Path) -> Option<NodeKey>
         ensures found { result ≡ get self.old.keys path.now }
         ensures same { self.new ≡ self.old }

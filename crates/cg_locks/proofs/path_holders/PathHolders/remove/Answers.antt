@@ -8,5 +8,5 @@ pub returns-in_default : goal.returns-in_default
 returns-in_default c = λ j q u.
     let p = c.args.path.now in
     let nodes = c.self.inside.nodes in
-    let none = seen_nowhere c.args.kind nodes.values c.args.self.now c.self.view_is p c.args.transaction.0 (absent_value nodes p (c.laws.ensures.both p) (sym c.in_default.ensures.found)) in
+    let none = seen_nowhere c.args.kind nodes.values c.args.self.now c.self.view_is p c.args.transaction.0 (absent_value nodes p (c.laws.ensures.both p) (sym c.in_default.ensures)) in
     absurd (omega (arith, c.requires, none))
