@@ -3,9 +3,9 @@ use Rattle.std.proofs.Common.{◌≡◌, ◌≢◌, ℕ, ◌+◌, ◌-◌, ◌<�
 use Rattle.std.specs.Prelude.{Option, Some, None, ◌⊎◌}
 use Rattle.std.specs.List.{slice_range}
 use Rattle.std.specs.Io.KnownBytes.{prepend_known, Consumes, Keeps, IsAtEnd}
-use Rattle.std.proofs.lemmas.List.{drop-take}
+use Rattle.std.proofs.lemmas.List.{drop-take, take-take}
 use Rattle.std.proofs.lemmas.List.Elements.{All-append}
-use Rattle.cg_lines.specs.Lines.{HasNoNewline, IsLastLine, TakesLine, TakesKnownLine, LosesOfLine, Reading, pending, IsGathered, TakesPiece, IsFirstNewline, kind_where, ending_kind_where, last_kind_where}
+use Rattle.cg_lines.specs.Lines.{HasNoNewline, IsLastLine, TakesLine, TakesKnownLine, LosesOfLine, Reading, ChunkReading, pending, IsGathered, TakesPiece, IsFirstNewline, kind_where, ending_kind_where, last_kind_where}
 use Rattle.cg_lines.specs.declared.lines.LineKind.TheVariants.{End}
 
 -- nothing more is known than what is known
@@ -25,6 +25,24 @@ TakesPiece-found all start end n h =
     let range = slice_range all start end in
     let below : n + 1 ≤ end - start = omega (arith, h.0, length-take (end - start) (drop start all)) in
     h.2 ∙ ap (λ l. take n range ++ 10 ∷ l) (drop-slice_range all start end (n + 1) below)
+
+-- what is left of the front of the bytes past its first ones
+pub part_of : (bytes : List ℕ) (start end : ℕ) → start ≤ end → drop start (slice_range bytes 0 end) ≡ slice_range bytes start end
+part_of bytes start end within = drop-slice_range bytes 0 end start (omega (arith, within)) ∙ ap (λ i. slice_range bytes i end) (let e : 0 + start ≡ start = omega arith in e)
+
+-- a range within the front of the bytes
+pub range_of_front : (bytes : List ℕ) (end a b : ℕ) → a ≤ b → b ≤ end → slice_range (slice_range bytes 0 end) a b ≡ slice_range bytes a b
+range_of_front bytes end a b low high =
+    ap (take (b - a)) (part_of bytes a end (omega arith)) ∙ take-take (b - a) (end - a) (drop a bytes) (omega arith)
+
+-- the line before the first newline of a range, by its place in the front of the bytes
+pub line_found : (all : List ℕ) (start end n : ℕ) → IsFirstNewline (slice_range all start end) n → HasNoNewline (slice_range (slice_range all 0 end) start (start + n)) × (slice_range all start end ≡ slice_range (slice_range all 0 end) start (start + n) ++ 10 ∷ slice_range all (start + (n + 1)) end)
+line_found all start end n h =
+    let few : n < end - start = omega (arith, h.0, length-take (end - start) (drop start all)) in
+    let behind : n ≡ start + n - start = omega arith in
+    let same : take n (slice_range all start end) ≡ slice_range (slice_range all 0 end) start (start + n) =
+    take-take n (end - start) (drop start all) (omega arith) ∙ ap (λ k. take k (drop start all)) behind ∙ sym (range_of_front all end start (start + n) (omega arith) (omega arith)) in
+    subst (λ (l : List ℕ). HasNoNewline l × (slice_range all start end ≡ l ++ 10 ∷ slice_range all (start + (n + 1)) end)) same (h.1, TakesPiece-found all start end n h)
 
 -- two steps are one
 pub Consumes-append : (a b c : Option (List ℕ)) (x y : List ℕ) → Consumes a b x → Consumes b c y → Consumes a c (x ++ y)
@@ -89,37 +107,35 @@ Gathers old new fits fits' ended =
     → (bytes : List ℕ) × HasNoNewline bytes × TakesPiece old.buffered bytes ended new.buffered × IsGathered (front ++ bytes) fits' new.line
 
 -- what a step over the bytes that are read leaves
-pub record KeepsSource (old new : Reading) : Type 0 where
+pub record KeepsSource (old new : ChunkReading) : Type 0 where
   pub left : new.left ≡ old.left
   pub failed_before : new.failed_before ≡ old.failed_before
   pub failures : new.failures ≡ old.failures
   pub reads : new.reads ≡ old.reads
   pub is_broken : new.is_broken ≡ old.is_broken
 
-pub KeepsSource-gather : (r s : Reading) → s ≡ record r { buffered = s.buffered; line = s.line } → KeepsSource r s
-KeepsSource-gather r s e = record {
-  left = ap (λ (x : Reading). x.left) e;
-  failed_before = ap (λ (x : Reading). x.failed_before) e;
-  failures = ap (λ (x : Reading). x.failures) e;
-  reads = ap (λ (x : Reading). x.reads) e;
-  is_broken = ap (λ (x : Reading). x.is_broken) e;
+pub KeepsSource-step : (r s : ChunkReading) → s ≡ record r { buffered = s.buffered } → KeepsSource r s
+KeepsSource-step r s e = record {
+  left = ap (λ (x : ChunkReading). x.left) e;
+  failed_before = ap (λ (x : ChunkReading). x.failed_before) e;
+  failures = ap (λ (x : ChunkReading). x.failures) e;
+  reads = ap (λ (x : ChunkReading). x.reads) e;
+  is_broken = ap (λ (x : ChunkReading). x.is_broken) e;
 }
 
 -- what reading on leaves
-pub record KeepsLine (old new : Reading) : Type 0 where
-  pub line : new.line ≡ old.line
+pub record KeepsCounts (old new : ChunkReading) : Type 0 where
   pub failed_before : new.failed_before ≡ old.failed_before
   pub failures : new.failures ≡ old.failures
   pub reads : new.reads ≡ old.reads + 1
   pub is_broken : new.is_broken ≡ old.is_broken
 
-pub KeepsLine-fill : (r s : Reading) → s ≡ record r { buffered = s.buffered; left = s.left; reads = r.reads + 1 } → KeepsLine r s
-KeepsLine-fill r s e = record {
-  line = ap (λ (x : Reading). x.line) e;
-  failed_before = ap (λ (x : Reading). x.failed_before) e;
-  failures = ap (λ (x : Reading). x.failures) e;
-  reads = ap (λ (x : Reading). x.reads) e;
-  is_broken = ap (λ (x : Reading). x.is_broken) e;
+pub KeepsCounts-fill : (r s : ChunkReading) → s ≡ record r { read = s.read; buffered = s.buffered; left = s.left; reads = r.reads + 1 } → KeepsCounts r s
+KeepsCounts-fill r s e = record {
+  failed_before = ap (λ (x : ChunkReading). x.failed_before) e;
+  failures = ap (λ (x : ChunkReading). x.failures) e;
+  reads = ap (λ (x : ChunkReading). x.reads) e;
+  is_broken = ap (λ (x : ChunkReading). x.is_broken) e;
 }
 
 -- a state with the same bytes left, seen from the state before

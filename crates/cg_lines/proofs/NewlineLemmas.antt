@@ -6,7 +6,7 @@ use Rattle.std.proofs.lemmas.Bool.{eqb-true, eqb-false, eq-eqb}
 use Rattle.std.proofs.lemmas.List.Elements.{All-from_get_or, All-nil, All-cons, All-get_or, All-drop}
 use Rattle.memchr.specs.Find.{IsFirstByte, Nowhere, Passes, is_byte}
 use Rattle.cg_lines.specs.Lines.{HasNoNewline, IsFirstNewline, EndsWholeLines}
-use Rattle.cg_lines.proofs.LinesLemmas.{drop-slice_range}
+use Rattle.cg_lines.proofs.LinesLemmas.{part_of}
 
 -- no byte below place n is a newline
 before : (bytes : List ℕ) (n : ℕ) → n ≤ length bytes → Nowhere (Passes (is_byte 10) bytes) 0 n → HasNoNewline (take n bytes)
@@ -65,9 +65,6 @@ no_line_to_come bytes whole start h low =
     (All-drop (λ b. b ≢ 10) (start - whole) (drop whole bytes) h.last)
 
 -- the same of a part of the bytes
-part_of : (bytes : List ℕ) (start end : ℕ) → start ≤ end → drop start (slice_range bytes 0 end) ≡ slice_range bytes start end
-part_of bytes start end within = drop-slice_range bytes 0 end start (omega (arith, within)) ∙ ap (λ i. slice_range bytes i end) (let e : 0 + start ≡ start = omega arith in e)
-
 pub line_in_range : (bytes : List ℕ) (whole start end : ℕ) → EndsWholeLines (slice_range bytes 0 end) whole → start ≤ end → start < whole → (n : ℕ) × IsFirstNewline (slice_range bytes start end) n
 line_in_range bytes whole start end h within low =
     subst (λ l. (n : ℕ) × IsFirstNewline l n) (part_of bytes start end within) (line_to_come (slice_range bytes 0 end) whole start h low)

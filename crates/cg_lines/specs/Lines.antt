@@ -1,5 +1,6 @@
 -- What a reader of lines takes of a text.
 use Rattle.std.specs.Prelude.{◌≡◌, ◌≢◌, ℕ, ◌+◌, ◌-◌, ◌*◌, ◌≤◌, ◌<◌, ◌⊎◌, Bool, true, false, List, [], ◌∷◌, ◌++◌, length, take, drop, get_or, All, Option, Some, None, ⊤}
+use Rattle.std.specs.List.{slice_range}
 use Rattle.std.specs.Io.KnownBytes.{prepend_known, Consumes}
 use Rattle.cg_text.specs.Words.{lines_of}
 use Rattle.cg_lines.specs.Device.{Failed, more}
@@ -72,6 +73,44 @@ pub record Reading : Type 0 where
 -- the bytes that are to be given, where the source tells
 abbrev pub pending : Reading → Option (List ℕ)
 pending r = prepend_known r.buffered r.left
+
+-- a source that is read a chunk at a time
+pub record ChunkReading : Type 0 where
+  -- the bytes that the last read gave
+  pub read : List ℕ
+  -- those of them that are not given yet
+  pub buffered : List ℕ
+  -- the bytes that the source has left, where it tells
+  pub left : Option (List ℕ)
+  -- how many reads of the source had failed when reading began
+  pub failed_before : ℕ
+  -- how many have failed now
+  pub failures : ℕ
+  -- how many reads were made
+  pub reads : ℕ
+  -- a call has answered with a fault
+  pub is_broken : Bool
+
+-- a line that was given stands at its place in what was read, or else it was gathered over reads
+abbrev pub line_at : Option (ℕ × ℕ) → List ℕ → List ℕ → List ℕ
+line_at None read gathered = gathered
+line_at (Some place) read gathered = slice_range read place.0 place.1
+
+-- a reader of lines, by the source that it reads and the line that it gave last
+abbrev pub reading_of : ChunkReading → List ℕ → Reading
+reading_of r given = record {
+  buffered = r.buffered;
+  left = r.left;
+  line = given;
+  failed_before = r.failed_before;
+  failures = r.failures;
+  reads = r.reads;
+  is_broken = r.is_broken;
+}
+
+-- the bytes that are to be given, where the source tells
+abbrev pub pending_of : ChunkReading → Option (List ℕ)
+pending_of r = prepend_known r.buffered r.left
 
 -- how many more bytes a reader can give at most, each read counted as one
 abbrev pub bytes_to_come : Reading → ℕ

@@ -1,8 +1,8 @@
 //! The lines of a source, read through a buffer of fixed size.
-ghost use Rattle.std.specs.Prelude.{◌≡◌, ◌≢◌, ℕ, ◌+◌, ◌≤◌, ◌<◌, List, [], ◌∷◌, ◌++◌, length, take, drop, IfOk, IfErr, IfSome, OnOk, OnErr, IsOk, IsErr, IsTrue, MatchOption, is_err, true, false, vec_len, vec_capacity};
+ghost use Rattle.std.specs.Prelude.{◌≡◌, ◌≢◌, ℕ, ◌+◌, ◌≤◌, ◌<◌, List, [], ◌∷◌, ◌++◌, length, take, drop, slice_range, IfOk, IfErr, IfSome, IfNone, OnOk, OnErr, IsOk, IsErr, IsTrue, MatchOption, is_err, true, false, vec_len, vec_capacity};
 ghost use Rattle.std.specs.Io.KnownBytes.{Consumes, Keeps, IsAtEnd, ReadConsumes};
 ghost use Rattle.cg_lines.specs.Device.{Failed, more};
-ghost use Rattle.cg_lines.specs.Lines.{HasNoNewline, bytes_to_come, TakesKnownLine, LosesOfLine, pending, CanBreak, BreaksNow, IsGathered, TakesPiece, IsFirstNewline, EndsWholeLines, kind_where, last_kind_where, StepsAreLines};
+ghost use Rattle.cg_lines.specs.Lines.{HasNoNewline, bytes_to_come, TakesKnownLine, LosesOfLine, pending, pending_of, reading_of, CanBreak, BreaksNow, IsGathered, TakesPiece, IsFirstNewline, EndsWholeLines, kind_where, last_kind_where, StepsAreLines};
 
 use crate::device::{DeviceFault, Source};
 use cg_text::LONGEST_LINE;
@@ -43,10 +43,9 @@ pub enum LineKind {
     Last,
 }
 
-/// Reads lines from a source. A line ends before a newline or at the end of the input, where an
-/// empty one doesn't count; its bytes are given as they stand, a carriage return too.
+// A source that is read a chunk at a time.
 #[derive(Drop)]
-pub struct LineReader<S: Source> {
+struct ChunkReader<S: Source> {
     source: S,
     // `chunk[start..end]` is read and not given yet.
     chunk: Vec<u8>,
@@ -54,23 +53,21 @@ pub struct LineReader<S: Source> {
     end: usize,
     // The place behind the last newline of `chunk[..end]`, or 0: found once a read.
     whole: usize,
-    // It has room for the longest line from the start on, so that reading takes no memory.
-    line: Vec<u8>,
     failed_before: u64,
     reads: u32,
     is_broken: bool,
 }
 
-impl<S: Source> Model for LineReader<S> {
-    ghost use Rattle.std.specs.Prelude.{◌≡◌, ◌≤◌, slice_range, IsTrue, vec_len, vec_capacity};
-    ghost use Rattle.cg_lines.specs.Lines.{Reading, CanBreak, EndsWholeLines};
+impl<S: Source> Model for ChunkReader<S> {
+    ghost use Rattle.std.specs.Prelude.{◌≡◌, ◌≤◌, slice_range, IsTrue, vec_len};
+    ghost use Rattle.cg_lines.specs.Lines.{ChunkReading, CanBreak, EndsWholeLines};
 
-    ghost Value = { Reading };
+    ghost Value = { ChunkReading };
 
     ghost view = { λ r. record {
+      read = slice_range r.chunk.items 0 r.end;
       buffered = slice_range r.chunk.items r.start r.end;
       left = S.left r.source;
-      line = r.line.items;
       failed_before = r.failed_before;
       failures = S.failed r.source;
       reads = r.reads;
@@ -78,8 +75,30 @@ impl<S: Source> Model for LineReader<S> {
     } };
 
     ghost invariant = { λ r. (vec_len r.chunk ≡ 65536) × (r.start ≤ r.end) × (r.end ≤ 65536)
-        × EndsWholeLines (slice_range r.chunk.items 0 r.end) r.whole × (65536 ≤ vec_capacity r.line) × (r.reads ≤ 67108864) × (r.failed_before ≤ S.failed r.source)
+        × EndsWholeLines (slice_range r.chunk.items 0 r.end) r.whole × (r.reads ≤ 67108864) × (r.failed_before ≤ S.failed r.source)
         × (IsTrue r.is_broken → CanBreak r.failed_before (S.failed r.source) r.reads) };
+}
+
+/// Reads lines from a source. A line ends before a newline or at the end of the input, where an
+/// empty one doesn't count; its bytes are given as they stand, a carriage return too.
+#[derive(Drop)]
+pub struct LineReader<S: Source> {
+    reader: ChunkReader<S>,
+    // Where in the chunk the line that was given last begins and ends. None where it is in `gathered`.
+    place: Option<(usize, usize)>,
+    // It has room for the longest line from the start on, so that reading takes no memory.
+    gathered: Vec<u8>,
+}
+
+impl<S: Source> Model for LineReader<S> {
+    ghost use Rattle.std.specs.Prelude.{◌≤◌, IfSome, length, vec_capacity};
+    ghost use Rattle.cg_lines.specs.Lines.{Reading, reading_of, line_at};
+
+    ghost Value = { Reading };
+
+    ghost view = { λ r. reading_of r.reader (line_at r.place r.reader.read r.gathered.items) };
+
+    ghost invariant = { λ r. IfSome r.place (λ p. (p.0 ≤ p.1) × (p.1 ≤ length r.reader.read)) × (65536 ≤ vec_capacity r.gathered) };
 }
 
 impl From<AllocError> for LineFault {
@@ -116,17 +135,21 @@ impl<S: Source> LineReader<S> {
     {
         let failed_before = source.failures();
         let chunk = zeros(alloc, CHUNK)?;
-        let line = Vec::with_capacity(alloc, LONGEST_LINE)?;
-        Ok(LineReader {
+        let gathered = Vec::with_capacity(alloc, LONGEST_LINE)?;
+        let reader = ChunkReader {
             source,
             chunk,
             start: 0,
             end: 0,
             whole: 0,
-            line,
             failed_before,
             reads: 0,
             is_broken: false,
+        };
+        Ok(LineReader {
+            reader,
+            place: None,
+            gathered,
         })
     }
 
@@ -135,7 +158,10 @@ impl<S: Source> LineReader<S> {
     pub fn line(&self) -> &[u8]
         ensures { result.now ≡ self.now.line }
     {
-        self.line.as_slice()
+        match self.place {
+            Some((from, to)) => self.reader.bytes(from, to),
+            None => self.gathered.as_slice(),
+        }
     }
 
     /// How many times the source was read, at most 67,108,864.
@@ -143,7 +169,7 @@ impl<S: Source> LineReader<S> {
         ensures value { result ≡ self.now.reads }
         ensures bound { self.now.reads ≤ 67108864 }
     {
-        self.reads
+        self.reader.reads()
     }
 
     /// Whether the next line can be given without a read of the source: a newline ends it in what was read.
@@ -151,7 +177,7 @@ impl<S: Source> LineReader<S> {
         ensures line { result ≡ true → (n : ℕ) × IsFirstNewline self.now.buffered n }
         ensures none { result ≡ false → HasNoNewline self.now.buffered }
     {
-        self.start < self.whole
+        self.reader.has_line()
     }
 
     /// Goes on to the next line. `Read` comes only where the source has failed since the reader was
@@ -180,37 +206,111 @@ impl<S: Source> LineReader<S> {
         // Each line that is given leaves fewer bytes to come.
         ensures progress { IfOk result (λ kind. kind ≢ LineKind.End → bytes_to_come self.new < bytes_to_come self.old) }
     {
-        if self.is_broken {
+        if self.reader.is_broken() {
             return Err(LineFault::Read);
         }
-        self.line.clear();
+        // A line that isn't whole is gathered, and no place is noted while the chunk is read over again.
+        self.place = self.reader.take_line();
+        if self.place.is_some() {
+            return Ok(LineKind::Text);
+        }
+        self.reader.gather_line(&mut self.gathered)
+    }
+}
+
+impl<S: Source> ChunkReader<S> {
+    // A part of what was read last.
+    fn bytes(&self, from: usize, to: usize) -> &[u8]
+        requires order { from ≤ to }
+        requires bound { to ≤ length self.now.read }
+        ensures { result.now ≡ slice_range self.now.read from to }
+    {
+        &self.chunk[from..to]
+    }
+
+    fn is_broken(&self) -> bool
+        ensures value { result ≡ self.now.is_broken }
+        ensures cause { IsTrue self.now.is_broken → CanBreak self.now.failed_before self.now.failures self.now.reads }
+    {
+        self.is_broken
+    }
+
+    fn reads(&self) -> u32
+        ensures value { result ≡ self.now.reads }
+        ensures bound { self.now.reads ≤ 67108864 }
+    {
+        self.reads
+    }
+
+    // Whether a newline stands in what is read and not given.
+    fn has_line(&self) -> bool
+        ensures line { result ≡ true → (n : ℕ) × IsFirstNewline self.now.buffered n }
+        ensures none { result ≡ false → HasNoNewline self.now.buffered }
+    {
+        self.start < self.whole
+    }
+
+    // Takes the next line and its newline, where that was read, and gives where in what was read the line begins and ends.
+    fn take_line(&mut self) -> Option<(usize, usize)>
+        ensures line { IfSome result (λ p. HasNoNewline (slice_range self.old.read p.0 p.1)
+            × (self.old.buffered ≡ slice_range self.old.read p.0 p.1 ++ 10 ∷ self.new.buffered)) }
+        ensures bounds { IfSome result (λ p. (p.0 ≤ p.1) × (p.1 ≤ length self.old.read) × (p.1 ≤ 65536)) }
+        ensures none { IfNone result (self.new ≡ self.old) }
+        ensures rest { self.new ≡ record self.old { buffered = self.new.buffered } }
+    {
+        let from = self.start;
+        let n = newline_in(&self.chunk[from..self.end])?;
+        self.start += n + 1;
+        Some((from, from + n))
+    }
+
+    // Goes on to the next line, and gathers its bytes in `line` over reads of the source.
+    fn gather_line(&mut self, line: &mut Vec<u8>) -> Result<LineKind, LineFault>
+        requires room { 65536 ≤ vec_capacity line.old }
+        requires unbroken { self.old.is_broken ≡ false }
+        ensures room { 65536 ≤ vec_capacity line.new }
+        ensures takes { IfOk result (λ kind. TakesKnownLine (pending_of self.old) kind line.new.items (pending_of self.new)) }
+        ensures loses { OnErr result (LosesOfLine (pending_of self.old) (pending_of self.new)) }
+        ensures plain { OnOk result (HasNoNewline line.new.items × (length line.new.items ≤ 65536)) }
+        ensures err { IfErr result (λ e. e ≡ LineFault.Read) }
+        ensures cause { OnErr result (CanBreak self.new.failed_before self.new.failures self.new.reads) }
+        ensures first { OnErr result (BreaksNow (reading_of self.old []) (reading_of self.new [])) }
+        ensures breaks { self.new.is_broken ≡ is_err result }
+        ensures failed_before { self.new.failed_before ≡ self.old.failed_before }
+        ensures failures { OnOk result (self.new.failures ≡ self.old.failures) }
+        ensures reads { self.old.reads ≤ self.new.reads }
+        ensures progress { IfOk result (λ kind. kind ≢ LineKind.End → bytes_to_come (reading_of self.new []) < bytes_to_come (reading_of self.old [])) }
+    {
+        line.clear();
         let mut fits = true;
         'pieces: loop {
-            if self.gather(&mut fits) {
+            if self.gather(line, &mut fits) {
                 return Ok(kind_of(fits));
             }
             if !self.fill()? {
-                return Ok(last_kind(fits, &self.line));
+                return Ok(last_kind(fits, line));
             }
         }
     }
 
     // Takes the bytes that are read up to the first newline, with it, or all where there is none.
-    fn gather(&mut self, fits: &mut bool) -> bool
-        ensures taken { (front : List ℕ) → IsGathered front fits.old self.old.line → (bytes : List ℕ) × HasNoNewline bytes
+    fn gather(&mut self, line: &mut Vec<u8>, fits: &mut bool) -> bool
+        requires { 65536 ≤ vec_capacity line.old }
+        ensures room { 65536 ≤ vec_capacity line.new }
+        ensures taken { (front : List ℕ) → IsGathered front fits.old line.old.items → (bytes : List ℕ) × HasNoNewline bytes
             × TakesPiece self.old.buffered bytes result self.new.buffered
-            × IsGathered (front ++ bytes) fits.new self.new.line }
-        ensures rest { self.new ≡ record self.old { buffered = self.new.buffered; line = self.new.line } }
+            × IsGathered (front ++ bytes) fits.new line.new.items }
+        ensures rest { self.new ≡ record self.old { buffered = self.new.buffered } }
     {
         let bytes = &self.chunk[self.start..self.end];
         match newline_in(bytes) {
             Some(n) => {
-                *fits = append_fitting(&mut self.line, *fits, &bytes[..n]);
+                *fits = append_fitting(line, *fits, &bytes[..n]);
                 self.start += n + 1;
                 true
             }
             None => {
-                *fits = append_fitting(&mut self.line, *fits, bytes);
+                *fits = append_fitting(line, *fits, bytes);
                 self.start = self.end;
                 false
             }
@@ -223,6 +323,7 @@ impl<S: Source> LineReader<S> {
         ensures bytes { OnOk result (Consumes self.old.left self.new.left self.new.buffered) }
         ensures end { IfOk result (λ more. more ≡ false → (self.new.buffered ≡ []) × IsAtEnd self.new.left) }
         ensures ok { OnOk result (self.new ≡ record self.old {
+          read = self.new.read;
           buffered = self.new.buffered;
           left = self.new.left;
           reads = self.old.reads + 1;
@@ -232,7 +333,7 @@ impl<S: Source> LineReader<S> {
         ensures err { IfErr result (λ e. e ≡ LineFault.Read) }
         ensures loses { OnErr result ((self.new.buffered ≡ []) × Keeps self.old.left self.new.left) }
         ensures cause { OnErr result (CanBreak self.new.failed_before self.new.failures self.new.reads) }
-        ensures first { OnErr result (BreaksNow self.old self.new) }
+        ensures first { OnErr result (BreaksNow (reading_of self.old []) (reading_of self.new [])) }
         ensures breaks { OnErr result (self.new.is_broken ≡ true) }
         ensures failed_before { self.new.failed_before ≡ self.old.failed_before }
         ensures reads { self.old.reads ≤ self.new.reads }

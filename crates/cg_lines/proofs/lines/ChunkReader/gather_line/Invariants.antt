@@ -1,15 +1,16 @@
-use Rattle.std.proofs.Common.{◌≡◌, ◌-◌, ◌≤◌, false}
+use Rattle.std.proofs.Common.{◌≡◌, ◌-◌, ◌≤◌, [], false, vec_capacity}
 use Rattle.cg_lines.proofs.LinesLemmas.{Gathered}
-use Rattle.cg_lines.specs.Lines.{bytes_to_come}
-use Rattle.cg_lines.proofs.lines.LineReader.next_line.Given as goal
+use Rattle.cg_lines.specs.Lines.{bytes_to_come, reading_of}
+use Rattle.cg_lines.proofs.lines.ChunkReader.gather_line.Given as goal
 
 abbrev pub invariant-pieces : goal.invariant-pieces
 invariant-pieces g l = record {
-  gathered : Gathered l.fn.self l.self l.fits;
+  gathered : Gathered (reading_of l.fn.self []) (reading_of l.self l.line.items) l.fits;
   failed_before : l.self.failed_before ≡ l.fn.self.failed_before;
   failures : l.self.failures ≡ l.fn.self.failures;
   reads : l.fn.self.reads ≤ l.self.reads;
-  room : bytes_to_come l.self ≤ bytes_to_come l.fn.self;
+  room : 65536 ≤ vec_capacity l.line;
+  to_come : bytes_to_come (reading_of l.self []) ≤ bytes_to_come (reading_of l.fn.self []);
   unbroken : l.self.is_broken ≡ false;
 }
 
