@@ -80,30 +80,38 @@ fn freezes(at: &Ancestor) -> bool
 pub(crate) fn effective_cpus(tree: &Tree, path: &Path) -> CpuSet
     ensures { result ≡ effective_cpus tree.now.tree path.now }
 {
-    narrowed_upward(tree.ancestors(path), tree.online())
+    let mut cpus = tree.online();
+    narrow_upward(tree.ancestors(path), &mut cpus);
+    cpus
 }
 
-// The CPUs, narrowed by each of these groups below the root. The last one is the first to narrow them, so that the way back
-// from the root is that of the calls.
-fn narrowed_upward(mut groups: Ancestors<'_>, online: CpuSet) -> CpuSet
-    ensures { result ≡ narrowed_upward online groups.entry }
+// Narrows the CPUs by each of these groups below the root. The last one is the first to narrow them, so that the way back from the
+// root is that of the calls.
+fn narrow_upward(mut groups: Ancestors<'_>, cpus: &mut CpuSet)
+    ensures { cpus.new ≡ narrowed_upward cpus.old groups.entry }
 {
     let Some(at) = groups.next() else {
-        return online;
+        return;
     };
     if at.depth() == 0 {
-        return online;
+        return;
     }
-    narrowed(narrowed_upward(groups, online), at.settings())
+    narrow_upward(groups, cpus);
+    narrow(cpus, at.settings());
 }
 
-// Those of the parent's CPUs that the group asks for, or all of these where there are none.
-fn narrowed(cpus: CpuSet, group: Option<&CompactSettings>) -> CpuSet
-    ensures { result ≡ narrowed cpus (option_copied group.entry) }
+// Leaves those of the parent's CPUs that the group asks for, or all of these where there are none.
+fn narrow(cpus: &mut CpuSet, group: Option<&CompactSettings>)
+    ensures { cpus.new ≡ narrowed cpus.old (option_copied group.entry) }
 {
     let Some(settings) = group else {
-        return cpus;
+        return;
     };
-    let both = settings.cpus().intersect(cpus);
-    if both.is_empty() { cpus } else { both }
+    if settings.cpus().is_empty() {
+        return;
+    }
+    let both = settings.cpus().intersect(*cpus);
+    if !both.is_empty() {
+        *cpus = both;
+    }
 }

@@ -6,6 +6,6 @@ use Rattle.cg_derive.proofs.values.effective_cpus.Goals as goal
 
 pub returns : goal.returns
 returns c =
-    c.narrowed_upward.ensures
-    ∙ (λ i. narrowed_upward (c.online.ensures i) (c.ancestors.ensures i))
+    c.narrow_upward.ensures
+    ∙ (λ i. narrowed_upward (c.online-cpus.ensures i) (c.ancestors.ensures i))
     ∙ narrowed_on_way c.args.tree.now.tree c.args.path.now
