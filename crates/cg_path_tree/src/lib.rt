@@ -4,6 +4,7 @@
 mod entering;
 mod index_text;
 mod last_found;
+mod looking_up;
 mod node;
 mod path_text;
 mod path_tree;

@@ -1,5 +1,5 @@
 //! Trees of paths.
-ghost use Rattle.std.specs.Prelude.{◌≡◌, [], ◌↔◌, ◌==◌, Bool, false, true, ◌<◌, ◌≤◌, ℕ, List, Contains, length, take, slice_get, not, is_some, IsTrue, IfOk, IfErr, IfNone, IfSome, OnOk, OnErr, None, Some};
+ghost use Rattle.std.specs.Prelude.{◌≡◌, ◌↔◌, ◌==◌, Bool, false, true, ◌<◌, ℕ, List, Contains, length, slice_get, not, is_some, IsTrue, IfOk, IfErr, IfSome, OnOk, OnErr, None, Some};
 ghost use Rattle.std.specs.Borrow.{sem};
 ghost use Rattle.std.specs.Fn.{FnReturnsAt};
 ghost use Rattle.cg_maps.specs.FiniteMap.{empty, entries, get, len, retain, set_at};
@@ -11,7 +11,6 @@ use crate::entering::{enter, leave};
 use crate::index_text::IndexText;
 use crate::last_found::LastFound;
 use crate::node::{Node, NodeKey, add_child, make_room, remove_child};
-use crate::path_text::{parent_text, prefix_text, text};
 use crate::sorting::in_order;
 use cg_name::{Path, PathRef};
 use indexmap::IndexMap;
@@ -26,10 +25,10 @@ const WORTH_SHARING: usize = 16;
 /// path in one look-up, and then known by its key, from which its value and its parent are a step away.
 pub struct PathTree<V> {
     // The node of each path, by its text. The texts stand here alone, and a node knows the number of its entry.
-    index: IndexMap<IndexText<'static>, NodeKey>,
-    nodes: Slab<Node<V>>,
+    pub(crate) index: IndexMap<IndexText<'static>, NodeKey>,
+    pub(crate) nodes: Slab<Node<V>>,
     // What was found for the path that was looked up last.
-    last: LastFound,
+    pub(crate) last: LastFound,
 }
 
 // By hand, so that whoever drops one calls this, and doesn't drop each thing in it: that makes proofs shorter.
@@ -96,173 +95,6 @@ impl<V: Drop> PathTree<V> {
         ensures { result ≡ (len self.now.keys == 0) }
     {
         self.len() == 0
-    }
-
-    // The node at the path of this text, if there is one.
-    fn find_text(&self, text: &str) -> Option<NodeKey>
-        requires { IsPacked text.now }
-        ensures { result ≡ get self.now.keys (names_in text.now) }
-    {
-        let entry = IndexText::lent(text);
-        self.index.get(&entry).copied()
-    }
-
-    /// The node at the path, if there is one. Takes no memory.
-    pub fn find(&self, path: &Path) -> Option<NodeKey>
-        ensures { result ≡ get self.now.keys path.now }
-    {
-        if self.last.is_of(path) {
-            return self.last.node;
-        }
-        self.find_anew(path)
-    }
-
-    // The same, by a look-up.
-    #[inline(never)]
-    fn find_anew(&self, path: &Path) -> Option<NodeKey>
-        ensures { result ≡ get self.now.keys path.now }
-    {
-        self.find_text(text(path))
-    }
-
-    /// The node at the path, if there is one, as `find` gives it. The tree remembers what it found for this path, until
-    /// another is visited or added: up to then `find`, `find_parent` and what goes through them find it by a comparison.
-    /// Takes no memory.
-    #[inline(always)]
-    pub fn visit(&mut self, path: &Path) -> Option<NodeKey>
-        ensures found { result ≡ get self.old.keys path.now }
-        ensures same { self.new ≡ self.old }
-    {
-        if self.last.is_of(path) {
-            return self.last.node;
-        }
-        self.visit_anew(path)
-    }
-
-    // The same, by a look-up.
-    #[inline(never)]
-    fn visit_anew(&mut self, path: &Path) -> Option<NodeKey>
-        ensures found { result ≡ get self.old.keys path.now }
-        ensures same { self.new ≡ self.old }
-    {
-        let node = self.find_anew(path);
-        let parent = match node {
-            Some(key) => self.parent(key),
-            // It is asked next: a node is put in.
-            None => self.find_parent_anew(path),
-        };
-        let alloc = *self.index.allocator();
-        // Where too many share the text, the path before stays remembered.
-        let _ = self.last.note(alloc, path, node, parent);
-        node
-    }
-
-    /// The node at the path of the first `depth` names, or of all where there are fewer, if there is one. Takes no memory.
-    pub fn find_prefix(&self, path: &Path, depth: u32) -> Option<NodeKey>
-        ensures { result ≡ get self.now.keys (take depth path.now) }
-    {
-        self.find_text(prefix_text(path, depth))
-    }
-
-    /// The node of the path one name shorter, if there is one; `None` for the root's. Takes no memory.
-    pub fn find_parent(&self, path: &Path) -> Option<NodeKey>
-        ensures root { is_root path.now ≡ true → result ≡ None }
-        ensures value { is_root path.now ≡ false → result ≡ get self.now.keys (parent_path path.now) }
-    {
-        if self.last.is_of(path) {
-            return self.last.parent;
-        }
-        self.find_parent_anew(path)
-    }
-
-    // The same, by a look-up.
-    #[inline(never)]
-    fn find_parent_anew(&self, path: &Path) -> Option<NodeKey>
-        ensures root { is_root path.now ≡ true → result ≡ None }
-        ensures value { is_root path.now ≡ false → result ≡ get self.now.keys (parent_path path.now) }
-    {
-        if path.is_root() {
-            return None;
-        }
-        self.find_text(parent_text(path))
-    }
-
-    /// The root's node, if there is any node. Takes no memory.
-    pub fn root(&self) -> Option<NodeKey>
-        ensures { result ≡ get self.now.keys [] }
-    {
-        // It is the first that is put in, and the last that goes: its entry stays the first.
-        if let Some((text, key)) = self.index.get_index(0) {
-            if text.as_str().is_empty() {
-                return Some(*key);
-            }
-        }
-        self.find_text("")
-    }
-
-    /// The deepest node on the path, and how many names it has, if there is any. Looks at few prefixes, by halving, and
-    /// takes no memory.
-    pub fn deepest(&self, path: &Path) -> Option<(NodeKey, u32)>
-        ensures none { IfNone result ((d : ℕ) → get self.now.keys (take d path.now) ≡ None) }
-        ensures within { IfSome result (λ r. r.1 ≤ length path.now) }
-        ensures found { IfSome result (λ r. get self.now.keys (take r.1 path.now) ≡ Some r.0) }
-        ensures deepest { IfSome result (λ r. (d : ℕ) → r.1 < d → d ≤ length path.now → get self.now.keys (take d path.now) ≡ None) }
-    {
-        self.laws();
-        if let Some(key) = self.find(path) {
-            return Some((key, self.depth(key)));
-        }
-        self.deepest_above(path)
-    }
-
-    /// The same for a path that has no node itself.
-    pub fn deepest_above(&self, path: &Path) -> Option<(NodeKey, u32)>
-        requires absent { get self.now.keys path.now ≡ None }
-        ensures none { IfNone result ((d : ℕ) → get self.now.keys (take d path.now) ≡ None) }
-        ensures within { IfSome result (λ r. r.1 ≤ length path.now) }
-        ensures found { IfSome result (λ r. get self.now.keys (take r.1 path.now) ≡ Some r.0) }
-        ensures deepest { IfSome result (λ r. (d : ℕ) → r.1 < d → d ≤ length path.now → get self.now.keys (take d path.now) ≡ None) }
-    {
-        self.laws();
-        // Most often it is the parent's.
-        if let Some(key) = self.find_parent(path) {
-            return Some((key, self.depth(key)));
-        }
-        self.deepest_by_halving(path)
-    }
-
-    /// The same as `deepest`, by halving at once: for a path that has neither a node nor a parent's.
-    pub fn deepest_by_halving(&self, path: &Path) -> Option<(NodeKey, u32)>
-        ensures none { IfNone result ((d : ℕ) → get self.now.keys (take d path.now) ≡ None) }
-        ensures within { IfSome result (λ r. r.1 ≤ length path.now) }
-        ensures found { IfSome result (λ r. get self.now.keys (take r.1 path.now) ≡ Some r.0) }
-        ensures deepest { IfSome result (λ r. (d : ℕ) → r.1 < d → d ≤ length path.now → get self.now.keys (take d path.now) ≡ None) }
-    {
-        self.laws();
-        let mut found = self.root()?;
-        let mut depth = 0;
-        let mut above = path.depth() + 1;
-        // There is a node at `depth` names, and none from `above` on.
-        while above - depth > 1 {
-            let middle = depth + (above - depth) / 2;
-            match self.find_prefix(path, middle) {
-                Some(key) => {
-                    found = key;
-                    depth = middle;
-                }
-                None => {
-                    above = middle;
-                }
-            }
-        }
-        Some((found, depth))
-    }
-
-    /// Whether the path is the root's, or there is a node at the path one name shorter. Takes no memory.
-    pub fn has_parent(&self, path: &Path) -> bool
-        ensures { IsTrue result ↔ HasParent self.now.keys path.now }
-    {
-        path.is_root() || self.find_parent(path).is_some()
     }
 
     /// Whether the key is that of a node. One that `find` gave is, until its node is removed.
@@ -389,7 +221,7 @@ impl<V: Drop> PathTree<V> {
     }
 
     // The path of the node with that key, as the index keeps it.
-    fn own_path(&self, key: NodeKey) -> Option<&Path>
+    pub(crate) fn own_path(&self, key: NodeKey) -> Option<&Path>
         requires { IsKey self.now.keys key }
         ensures { IfSome result (λ p. get self.now.keys p.now ≡ Some key) }
     {
