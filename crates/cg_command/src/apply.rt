@@ -22,10 +22,8 @@ pub(crate) fn create(
     requires { IsAccepted (effect (model.Create path.now) tree.old.tree) }
     ensures { IsCarriedOut (model.Create path.now) tree.old result tree.new }
 {
-    let change = Change::Group {
+    let change = Change::Made {
         path: path.copy(alloc)?,
-        before: None,
-        left: Some(BoxedSettings::fresh()),
     };
     tree.make_group(alloc, path, CompactSettings::fresh())?;
     Ok((Outcome::Done, Inverse::of_one(alloc, change)))
@@ -56,11 +54,7 @@ pub(crate) fn remove(
             return Err(AllocError);
         }
     };
-    let change = Change::Group {
-        path: own,
-        before: Some(before),
-        left: None,
-    };
+    let change = Change::Removed { path: own, before };
     Ok((Outcome::Done, Inverse::of_one(alloc, change)))
 }
 

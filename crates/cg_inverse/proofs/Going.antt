@@ -1,6 +1,5 @@
 -- Going back by a list of changes.
-use Rattle.std.proofs.Common.{◌≡◌, ℕ, ◌<◌, Bool, true, false, List, [], ◌∷◌, ◌++◌, length, map, Option, Some, None, IsSome, is_some, refl, sym, ap, subst, ◌∙◌, true≢false}
-use Rattle.std.proofs.lemmas.Bool.{false≢true}
+use Rattle.std.proofs.Common.{◌≡◌, ℕ, ◌<◌, Bool, List, [], ◌∷◌, ◌++◌, length, map, is_some, refl, sym, ap, subst, ◌∙◌}
 use Rattle.std.proofs.lemmas.Iterator.Search.{true_from_All}
 use Rattle.std.proofs.lemmas.List.{map-append}
 use Rattle.std.proofs.lemmas.List.Elements.{All-from_all_within, All-from_recursion, recursion_from_All}
@@ -8,10 +7,9 @@ use Rattle.std.specs.Bool.{Decides, MatchBool}
 use Rattle.std.specs.List.{AllByRecursion, AllWithin, HoldsAt}
 use Rattle.cg_maps.specs.FiniteMap.{get}
 use Rattle.cg_name.specs.Path.{Path}
-use Rattle.cg_text.specs.declared.settings.Settings.{Settings}
 use Rattle.cg_model.specs.Change as model
 use Rattle.cg_model.specs.Change.{undone, Fits}
-use Rattle.cg_model.specs.Key.{put, Group}
+use Rattle.cg_model.specs.Key.{put}
 use Rattle.cg_model.specs.Room.{room_for, RoomFor}
 use Rattle.cg_model.specs.Tree.{Tree}
 use Rattle.cg_tree.specs.Room.{TreeWithRoom, has_entry}
@@ -22,16 +20,6 @@ use Rattle.cg_inverse.specs.declared.change.Change.{Change}
 pub undone-last : (cs : List model.Change) (c : model.Change) (T : Tree) → undone (cs ++ c ∷ []) T ≡ undone cs (put c.key c.before T)
 undone-last [] c T = refl
 undone-last (d ∷ cs) c T = ap (put d.key d.before) (undone-last cs c T)
-
--- where no group was before, none is put back, and else an entry is needed
-module _ (E : Path → Bool) (p : Path) where
-  pub none_put_back : (b : Option Settings) → is_some b ≡ false → room_for E (Group p) b
-  none_put_back None e = tt
-  none_put_back (Some s) e = absurd (true≢false e)
-
-  pub some_put_back : (b : Option Settings) (r : Bool) → is_some b ≡ true → r ≡ E p → Decides r (room_for E (Group p) b)
-  some_put_back None r e h = absurd (false≢true e)
-  some_put_back (Some s) r e h = (λ k. sym h ∙ k, λ k. h ∙ k)
 
 -- all changes can go back where each can
 module _ (t : TreeWithRoom) where
@@ -54,11 +42,6 @@ module _ (t : TreeWithRoom) where
     λ e. all_from_each xs (recursion_from_All May xs (All-from_all_within May xs (subst (λ b. MatchBool b (AllWithin May xs 0 (length xs)) ((k : ℕ) × (k < length xs) × HoldsAt (λ x. ¬ May x) xs k)) e h))),
     λ a. true_from_All May (λ x. ¬ May x) r xs (λ x p n. n p) h (All-from_recursion May xs (each_from_all xs a)),
   )
-
--- a group that is put back or made has its entry
-pub group_room : (t : TreeWithRoom) (p : Path) (s v : Option Settings) → room_for (has_entry t) (Group p) v → s ≡ v → IsSome s → has_entry t p ≡ true
-group_room t p s None room same some = absurd (false≢true (sym (ap is_some same) ∙ some))
-group_room t p s (Some w) room same some = room
 
 -- the tree with the key put back
 abbrev pub with_before : Change → Tree → Tree

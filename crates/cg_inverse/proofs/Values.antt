@@ -1,5 +1,5 @@
 -- Values of keys are compared exactly.
-use Rattle.std.proofs.Common.{◌≡◌, Bool, true, false, Option, Some, None, sym, ap, subst, ◌∙◌}
+use Rattle.std.proofs.Common.{◌≡◌, Bool, true, false, not, Option, Some, None, is_some, refl, sym, ap, subst, ◌∙◌}
 use Rattle.std.proofs.lemmas.Bool.{false≢true}
 use Rattle.std.proofs.lemmas.Bool.Decides.{Decides-like}
 use Rattle.std.proofs.lemmas.Option.{none-some, same_Some}
@@ -14,6 +14,11 @@ use Rattle.cg_model.specs.Derived.{is_in}
 use Rattle.cg_model.specs.Key.{Field, Setting, setting, Part}
 use Rattle.cg_model.specs.Tree.{Tree, group}
 use Rattle.cg_inverse.specs.Meaning.{FitsIn}
+
+-- a group that is not there
+pub absence_decides : (o : Option Settings) → Decides (not (is_some o)) (o ≡ None)
+absence_decides None = (λ _. refl, λ _. refl)
+absence_decides (Some s) = (λ e. absurd (false≢true e), λ e. absurd (none-some s (sym e)))
 
 -- the group of a process that may be there
 pub places_decide : (q : Path) (o : Option Path) → Decides (is_in q o) (o ≡ Some q)

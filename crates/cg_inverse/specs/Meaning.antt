@@ -9,11 +9,13 @@ use Rattle.cg_model.specs.Room.{room_for}
 use Rattle.cg_inverse.specs.declared.change.Change.{Change}
 use Rattle.cg_inverse.specs.declared.change.Change.TheVariants as changes
 use Rattle.cg_model.specs.Tree.{Tree}
+use Rattle.cg_text.specs.Settings.{fresh}
 use Rattle.cg_text.specs.declared.settings.Settings.{Settings}
 use Rattle.cg_tree.specs.Room.{TreeWithRoom, has_entry}
 
 abbrev pub change_of : Change → model.Change
-change_of (changes.Group p b l) = change (keys.Group p) b l
+change_of (changes.Made p) = change (keys.Group p) None (Some fresh)
+change_of (changes.Removed p b) = change (keys.Group p) (Some b) None
 change_of (changes.Place k b l) = change (keys.Place k) (Some b) (Some l)
 change_of (changes.Control p b l) = change (keys.Part p keys.Control) (Some b) (Some l)
 change_of (changes.Freeze p b l) = change (keys.Part p keys.Freeze) (Some b) (Some l)

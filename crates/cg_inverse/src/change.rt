@@ -1,7 +1,8 @@
 //! Changes: a key of the tree, what it held before a command, and what the command left there.
-ghost use Rattle.std.specs.Prelude.{◌≡◌, ◌↔◌, IfOk, IsOk, IsTrue, OnErr, OnOk, option_copied};
-ghost use Rattle.cg_inverse.specs.Meaning.{change_of, AsksForNone, FitsIn, HasRoomIn, HasRoomToMake, LeavesNoCpus, MayGoBack};
+ghost use Rattle.std.specs.Prelude.{◌≡◌, ◌↔◌, IsOk, IsTrue, OnErr, OnOk, Some, option_copied};
+ghost use Rattle.cg_inverse.specs.Meaning.{change_of, FitsIn, HasRoomIn, HasRoomToMake, LeavesNoCpus, MayGoBack};
 ghost use Rattle.cg_model.specs.Key.{put};
+ghost use Rattle.cg_text.specs.Settings.{fresh};
 
 use cg_boxed::{BoxedCpus, BoxedSettings, CompactSettings};
 use cg_name::Path;
@@ -12,14 +13,17 @@ use std::default::MadeWith;
 
 /// One key of a tree, with what it held before a command and what the command left.
 pub enum Change {
-    /// The group at the path, where there is one.
-    Group {
+    /// A group that was made: there was none at the path, and the one left has the settings of a new group.
+    Made {
         /// Where.
         path: Path,
-        /// The settings before; `None` where there was no group.
-        before: Option<BoxedSettings>,
-        /// The settings left; `None` where there is no group any more.
-        left: Option<BoxedSettings>,
+    },
+    /// A group that was removed: there is none at the path any more.
+    Removed {
+        /// Where.
+        path: Path,
+        /// The settings before.
+        before: BoxedSettings,
     },
     /// The group of a process.
     Place {
@@ -84,15 +88,15 @@ pub enum Change {
     },
 }
 
+// It is handed on with each command.
+const _: () = prove!(size_of::<Change>() == 56);
+
 // By hand, so that whoever drops one calls this, and doesn't drop each thing in it: that makes proofs shorter.
 impl Drop for Change {
     fn drop(self) {
         match self {
-            Change::Group {
-                path: _,
-                before: _,
-                left: _,
-            } => {}
+            Change::Made { path: _ } => {}
+            Change::Removed { path: _, before: _ } => {}
             Change::Place {
                 pid: _,
                 before: _,
@@ -146,11 +150,10 @@ impl Change {
         ensures entries { tree.new.entries ≡ tree.old.entries }
     {
         match self {
-            Change::Group {
-                path,
-                before,
-                left: _,
-            } => tree.put_group(&path, unboxed(before)),
+            Change::Made { path } => tree.put_group(&path, None),
+            Change::Removed { path, before } => {
+                tree.put_group(&path, Some(before.into_settings()));
+            }
             Change::Place {
                 pid,
                 before,
@@ -195,7 +198,8 @@ impl Change {
         ensures without_cpus { LeavesNoCpus (change_of self.now) → IsOk result }
     {
         match self {
-            Change::Group { path, left, .. } => tree.put_group(path, copied(left, alloc)?),
+            Change::Made { path } => tree.put_group(path, Some(CompactSettings::fresh())),
+            Change::Removed { path, .. } => tree.put_group(path, None),
             Change::Place { pid, left, .. } => tree.put_place(*pid, left),
             Change::Control { path, left, .. } => tree.put_value(path, NewValue::Control(*left)),
             Change::Freeze { path, left, .. } => tree.put_value(path, NewValue::Freeze(*left)),
@@ -218,7 +222,8 @@ impl Change {
         ensures { IsTrue result ↔ FitsIn tree.now.tree (change_of self.now) }
     {
         match self {
-            Change::Group { path, left, .. } => is_left(tree.settings(path), left),
+            Change::Made { path } => is_new(tree.settings(path)),
+            Change::Removed { path, .. } => !tree.find(path),
             Change::Place { pid, left, .. } => tree.is_at(*pid, left),
             Change::Control { path, left, .. } => match tree.settings(path) {
                 Some(settings) => settings.control() == *left,
@@ -249,7 +254,7 @@ impl Change {
         ensures { IsTrue result ↔ HasRoomIn tree.now (change_of self.now) }
     {
         match self {
-            Change::Group { path, before, .. } => before.is_none() || tree.has_entry(path),
+            Change::Removed { path, .. } => tree.has_entry(path),
             Change::Place { before, .. } => tree.has_entry(before),
             _ => true,
         }
@@ -263,39 +268,12 @@ impl Change {
     }
 }
 
-// The settings of a group, where there are any, out of their box.
-fn unboxed(settings: Option<BoxedSettings>) -> Option<CompactSettings>
-    ensures { result ≡ settings }
+// Whether there is a group, with the settings of a new one.
+fn is_new(settings: Option<&CompactSettings>) -> bool
+    ensures { IsTrue result ↔ (option_copied settings.entry ≡ Some fresh) }
 {
     match settings {
-        Some(settings) => Some(settings.into_settings()),
-        None => None,
-    }
-}
-
-// The same of settings that stay in their box.
-fn copied(
-    settings: &Option<BoxedSettings>,
-    alloc: Global,
-) -> Result<Option<CompactSettings>, AllocError>
-    ensures value { IfOk result (λ s. s ≡ settings.now) }
-    ensures without_cpus { AsksForNone settings.now → IsOk result }
-{
-    match settings {
-        Some(settings) => Ok(Some(settings.copy(alloc)?)),
-        None => Ok(None),
-    }
-}
-
-// Whether these are the settings that were left, where there are any.
-fn is_left(settings: Option<&CompactSettings>, left: &Option<BoxedSettings>) -> bool
-    ensures { IsTrue result ↔ (option_copied settings.entry ≡ left.now) }
-{
-    match settings {
-        Some(settings) => match left {
-            Some(left) => left.is(settings),
-            None => false,
-        },
-        None => left.is_none(),
+        Some(settings) => *settings == CompactSettings::fresh(),
+        None => false,
     }
 }

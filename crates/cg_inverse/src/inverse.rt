@@ -92,9 +92,30 @@ impl Inverse {
         ensures tree { tree.new.tree ≡ undone self tree.old.tree }
         ensures entries { tree.new.entries ≡ tree.old.entries }
     {
-        let Inverse { mut changes } = self;
-        while let Some(change) = changes.pop() {
-            change.put_before(tree);
+        let Inverse { changes } = self;
+        // One change, as most commands make, is moved out of its place, and leaves nothing there to drop.
+        match changes.into_inner() {
+            Ok(only) => the_one(only).put_before(tree),
+            Err(changes) => put_all_before(changes, tree),
         }
+    }
+}
+
+// The change, out of its array.
+fn the_one(only: [Change; 1]) -> Change
+    ensures { result ∷ [] ≡ only }
+{
+    let [change] = only;
+    change
+}
+
+// Puts the keys of any number of changes back, the last one first.
+fn put_all_before(mut changes: SmallVec<Change, 1>, tree: &mut Tree)
+    requires { RoomFor (has_entry tree.old) (map change_of changes.items) }
+    ensures tree { tree.new.tree ≡ undone (map change_of changes.items) tree.old.tree }
+    ensures entries { tree.new.entries ≡ tree.old.entries }
+{
+    while let Some(change) = changes.pop() {
+        change.put_before(tree);
     }
 }

@@ -1,18 +1,25 @@
 -- What is compared is what the key holds.
-use Rattle.std.proofs.Common.{◌≡◌, Some, sym, subst, ap, ◌∙◌}
+use Rattle.std.proofs.Common.{◌≡◌, not, Some, None, sym, subst, ap, ◌∙◌}
 use Rattle.std.proofs.lemmas.Bool.Decides.{Decides-at, Decides-like}
 use Rattle.std.proofs.lemmas.Option.{same_Some}
 use Rattle.std.specs.Bool.{Decides}
 use mathlib.Core.Bool.{beq}
 use Rattle.cg_inverse.specs.Meaning.{change_of, FitsIn}
+use Rattle.cg_model.specs.Tree.{group}
+use Rattle.cg_text.specs.Settings.{fresh}
 use Rattle.cg_boxed.proofs.Deciding.{bools_decide, controllers_decide, limits_decide, sets_decide}
-use Rattle.cg_inverse.proofs.Values.{places_decide, part_there, part_absent}
+use Rattle.cg_inverse.proofs.Values.{absence_decides, places_decide, part_there, part_absent}
 use Rattle.cg_inverse.proofs.change.Change.fits.Goals as goal
 
-pub returns-in-Group : goal.returns-in-Group
-returns-in-Group c =
-    subst (λ x. Decides c.is_left.result (FitsIn c.args.tree.now.tree (change_of x))) (sym c.in-Group.is)
-    (subst (λ o. Decides c.is_left.result (o ≡ c.in-Group.left)) c.settings.ensures c.is_left.ensures)
+pub returns-in-Made : goal.returns-in-Made
+returns-in-Made c =
+    subst (λ x. Decides c.is_new.result (FitsIn c.args.tree.now.tree (change_of x))) (sym c.in-Made.is)
+    (subst (λ o. Decides c.is_new.result (o ≡ Some fresh)) c.settings.ensures c.is_new.ensures)
+
+pub returns-in-Removed : goal.returns-in-Removed
+returns-in-Removed c =
+    subst (λ x. Decides (not c.find.result) (FitsIn c.args.tree.now.tree (change_of x))) (sym c.in-Removed.is)
+    (subst (λ r. Decides (not r) (group c.args.tree.now.tree c.in-Removed.path ≡ None)) (sym c.find.ensures.value) (absence_decides _))
 
 pub returns-in-Place : goal.returns-in-Place
 returns-in-Place c =

@@ -1,20 +1,23 @@
 -- Each variant is one write.
 use Rattle.std.proofs.Common.{Some, sym, ap, subst, ◌∙◌}
 use Rattle.cg_inverse.specs.Meaning.{change_of, HasRoomIn}
-use Rattle.cg_inverse.proofs.Going.{group_room, with_before}
+use Rattle.cg_inverse.proofs.Going.{with_before}
 use Rattle.cg_inverse.proofs.change.Change.put_before.Goals as goal
 use Rattle.cg_model.specs.Key as keys
 use Rattle.cg_model.specs.Key.{put}
 
-pub put_group-requires : goal.put_group-requires
-put_group-requires c = group_room c.args.tree.now c.in-Group.path c.unboxed.result c.in-Group.before (subst (λ x. HasRoomIn c.args.tree.now (change_of x)) c.in-Group.is c.requires) c.unboxed.ensures
+pub put_group-requires-in-Removed : goal.put_group-requires-in-Removed
+put_group-requires-in-Removed c _ = subst (λ x. HasRoomIn c.args.tree.now (change_of x)) c.in-Removed.is c.requires
 
 pub put_place-requires : goal.put_place-requires
 put_place-requires c = subst (λ x. HasRoomIn c.args.tree.now (change_of x)) c.in-Place.is c.requires
 
-pub returns-in-Group-clause-tree : goal.returns-in-Group-clause-tree
-returns-in-Group-clause-tree c =
-    c.put_group.ensures.tree ∙ ap (λ s. put (keys.Group c.in-Group.path) s c.args.tree.now.tree) c.unboxed.ensures ∙ ap (λ x. with_before x c.args.tree.now.tree) (sym c.in-Group.is)
+pub returns-in-Made-clause-tree : goal.returns-in-Made-clause-tree
+returns-in-Made-clause-tree c = c.put_group.ensures.tree ∙ ap (λ x. with_before x c.args.tree.now.tree) (sym c.in-Made.is)
+
+pub returns-in-Removed-clause-tree : goal.returns-in-Removed-clause-tree
+returns-in-Removed-clause-tree c =
+    c.put_group-in-Removed.ensures.tree ∙ ap (λ s. put (keys.Group c.in-Removed.path) (Some s) c.args.tree.now.tree) c.into_settings.ensures ∙ ap (λ x. with_before x c.args.tree.now.tree) (sym c.in-Removed.is)
 
 pub returns-in-Place-clause-tree : goal.returns-in-Place-clause-tree
 returns-in-Place-clause-tree c = c.put_place.ensures.tree ∙ ap (λ x. with_before x c.args.tree.now.tree) (sym c.in-Place.is)

@@ -2,20 +2,23 @@
 use Rattle.std.proofs.Common.{Some, sym, ap, subst, ◌∙◌}
 use Rattle.std.proofs.lemmas.Bool.{false≢true}
 use Rattle.cg_inverse.specs.Meaning.{change_of, HasRoomToMake, LeavesNoCpus}
-use Rattle.cg_inverse.proofs.Going.{group_room, with_left}
+use Rattle.cg_inverse.proofs.Going.{with_left}
 use Rattle.cg_inverse.proofs.change.Change.put_left.Goals as goal
 use Rattle.cg_model.specs.Key as keys
 use Rattle.cg_model.specs.Key.{put}
 
 pub put_group-requires : goal.put_group-requires
-put_group-requires c = group_room c.args.tree.now c.in-Group.path c.in_ok-copied-in-Group.field-0 c.in-Group.left (subst (λ x. HasRoomToMake c.args.tree.now (change_of x)) c.in-Group.is c.requires) c.in_ok-copied-in-Group.ensures.value
+put_group-requires c _ = subst (λ x. HasRoomToMake c.args.tree.now (change_of x)) c.in-Made.is c.requires
 
 pub put_place-requires : goal.put_place-requires
 put_place-requires c = subst (λ x. HasRoomToMake c.args.tree.now (change_of x)) c.in-Place.is c.requires
 
-pub returns-in_ok-copied-in-Group-clause-tree : goal.returns-in_ok-copied-in-Group-clause-tree
-returns-in_ok-copied-in-Group-clause-tree c =
-    c.put_group.ensures.tree ∙ ap (λ s. put (keys.Group c.in-Group.path) s c.args.tree.now.tree) c.in_ok-copied-in-Group.ensures.value ∙ ap (λ x. with_left x c.args.tree.now.tree) (sym c.in-Group.is)
+pub returns-in-Made-clause-tree : goal.returns-in-Made-clause-tree
+returns-in-Made-clause-tree c =
+    c.put_group.ensures.tree ∙ ap (λ s. put (keys.Group c.in-Made.path) (Some s) c.args.tree.now.tree) c.fresh.ensures ∙ ap (λ x. with_left x c.args.tree.now.tree) (sym c.in-Made.is)
+
+pub returns-in-Removed-clause-tree : goal.returns-in-Removed-clause-tree
+returns-in-Removed-clause-tree c = c.put_group-in-Removed.ensures.tree ∙ ap (λ x. with_left x c.args.tree.now.tree) (sym c.in-Removed.is)
 
 pub returns-in-Place-clause-tree : goal.returns-in-Place-clause-tree
 returns-in-Place-clause-tree c = c.put_place.ensures.tree ∙ ap (λ x. with_left x c.args.tree.now.tree) (sym c.in-Place.is)
@@ -43,10 +46,6 @@ returns-in-Online-clause-tree c =
     c.put_online.ensures.tree ∙ ap (λ v. put keys.Online (Some v) c.args.tree.now.tree) c.get.ensures ∙ ap (λ x. with_left x c.args.tree.now.tree) (sym c.in-Online.is)
 
 -- an error says that there are CPUs
-
-pub returns-in_err-copied-in-Group-clause-without_cpus : goal.returns-in_err-copied-in-Group-clause-without_cpus
-returns-in_err-copied-in-Group-clause-without_cpus c = λ none.
-    absurd (false≢true (c.in_err-copied-in-Group.ensures.without_cpus (subst (λ x. LeavesNoCpus (change_of x)) c.in-Group.is none)))
 
 pub returns-in_err-copy-in-Cpus-clause-without_cpus : goal.returns-in_err-copy-in-Cpus-clause-without_cpus
 returns-in_err-copy-in-Cpus-clause-without_cpus c = λ none.

@@ -1,7 +1,7 @@
 -- Each turn puts the last change back.
 use Rattle.std.proofs.Common.{◌∙◌}
 use Rattle.cg_inverse.proofs.Going.{room_for_last, room_for_rest, last_back}
-use Rattle.cg_inverse.proofs.inverse.Inverse.undo.Goals as goal
+use Rattle.cg_inverse.proofs.inverse.put_all_before.Goals as goal
 
 pub put_before-requires : goal.put_before-requires
 put_before-requires c = room_for_last c.loop-change.tree c.loop-change.changes.items c.pop.new.self.items c.in-Some.change c.in-Some.ensures.items c.loop-change.invariant.room
