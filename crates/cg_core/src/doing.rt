@@ -27,7 +27,7 @@ pub(crate) fn carry_out(
     txn: &mut Txn,
     place: u32,
     command: &Command,
-    footprint: Footprint,
+    mut footprint: Footprint,
     copies: &mut Copies,
 ) -> Result<Outcome, AllocError>
     requires { IsAccepted (effect (command_of command.now) tree.old.tree) }
@@ -39,7 +39,7 @@ pub(crate) fn carry_out(
     ensures items { OnErr result (txn.new.items ≡ txn.old.items) }
 {
     txn.reserve()?;
-    locks.take(alloc, txn.number(), &footprint)?;
+    locks.take(alloc, txn.number(), &mut footprint)?;
     match apply(alloc, tree, command, copies) {
         Ok((outcome, inverse)) => {
             txn.push_reserved(Entry {

@@ -9,7 +9,7 @@ use Rattle.cg_path_tree.proofs.Parents.{length-parent}
 use Rattle.cg_path_tree.specs.declared.node.NodeKey.{NodeKey}
 use Rattle.cg_path_tree.specs.Nodes.{parent_path, path_of, HaveOnePath, Nodes}
 
-abbrev Keys : Type 0
+abbrev pub Keys : Type 0
 Keys = FiniteMap path_cmp NodeKey
 
 pub below_root : (p : Path) → true ≡ not (is_root p) → is_root p ≡ false

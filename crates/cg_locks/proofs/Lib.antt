@@ -2,6 +2,7 @@ mod Above
 mod Alone
 mod Branches
 mod Clashes
+mod Climbing
 mod Counting
 mod CountedMarks
 mod CountedNodes

@@ -4,11 +4,13 @@ ghost use Rattle.cg_command.specs.Meaning.{command_of};
 ghost use Rattle.cg_locks.specs.Counts.{counts_at, limited_depths, prefixes, AreDescending};
 ghost use Rattle.cg_locks.specs.Marks.{times};
 ghost use Rattle.cg_locks.specs.Meaning.{counts_of, mark_of};
+ghost use Rattle.cg_locks.specs.Together.{counts_above, HaveDepths};
 ghost use Rattle.cg_model.specs.Footprint as model;
 ghost use Rattle.cg_model.specs.Footprint.{changed, counts, footprint, is_limited, old_place};
 ghost use Rattle.cg_model.specs.Tree.{place_of};
 
 use crate::mark::Mark;
+use crate::taken_at::TakenAt;
 use cg_command::Command;
 use cg_name::Path;
 use cg_text::Limit;
@@ -16,15 +18,32 @@ use cg_tree::{Ancestor, Ancestors, Tree};
 use smallvec::SmallVec;
 use std::alloc::{AllocError, Global};
 use std::marker::Model;
+use std::slice::from_ref;
 
 /// The marks of one command, in the order of its definition. Most commands have one, which is kept without an allocation
 /// but its path's. Those on numbers of descendants have no paths of their own: their groups are above the path of the first.
 #[derive(Drop)]
 pub struct Footprint {
-    marks: SmallVec<Mark, 1>,
-    // How many names the paths of these groups have, the deepest first. There are none where the first mark isn't of a
-    // subtree to be changed.
-    depths: Vec<u32>,
+    kept: Kept,
+    // It tells nothing but where to look first.
+    taken_at: TakenAt,
+}
+
+// Most footprints are of one mark, and these are made, moved and dropped with each command: what the others have besides lies
+// in memory of its own.
+#[derive(Drop)]
+enum Kept {
+    One(Mark),
+    Many(Vec<Mark>),
+    Counted(Box<WithCounts>),
+}
+
+// A mark of a subtree to be changed, with those on the numbers of descendants of groups above it.
+#[derive(Drop)]
+struct WithCounts {
+    mark: Mark,
+    // How many names the paths of these groups have, the deepest first.
+    depths: SmallVec<u32, 4>,
 }
 
 /// Marks on the numbers of descendants of groups above a path.
@@ -40,16 +59,16 @@ impl Model for Footprint {
     ghost use Rattle.std.specs.Prelude.{List};
     ghost use Rattle.std.specs.Coded.{coded_list};
     ghost use Rattle.cg_locks.specs.Marks.{mark_code};
-    ghost use Rattle.cg_locks.specs.Together.{marks_of, HaveDepths};
+    ghost use Rattle.cg_locks.specs.Together.{marks_of, HasDepths};
     ghost use Rattle.cg_model.specs.Footprint as model;
 
     ghost Value = { List model.Mark };
 
     ghost coded = { coded_list mark_code };
 
-    ghost view = { λ f. marks_of f.marks.items f.depths.items };
+    ghost view = { λ f. marks_of f.kept };
 
-    ghost invariant = { λ f. HaveDepths f.marks.items f.depths.items };
+    ghost invariant = { λ f. HasDepths f.kept };
 }
 
 impl Footprint {
@@ -65,8 +84,8 @@ impl Footprint {
             Command::Subtree { path, .. } => of_change(alloc, path),
             Command::Freeze { path, .. } => of_change(alloc, path),
             Command::Cpus { path, .. } => of_change(alloc, path),
-            Command::Show { path, .. } => Ok(Footprint::one(alloc, Mark::Read(path.copy(alloc)?))),
-            Command::Online { .. } => Ok(Footprint::one(alloc, Mark::Changed(Path::root(alloc)))),
+            Command::Show { path, .. } => Ok(Footprint::one(Mark::Read(path.copy(alloc)?))),
+            Command::Online { .. } => Ok(Footprint::one(Mark::Changed(Path::root(alloc)))),
             Command::MaxDescendants { path, .. } => of_change(alloc, path),
             Command::MaxDepth { path, .. } => of_change(alloc, path),
         }
@@ -77,16 +96,10 @@ impl Footprint {
         ensures marks { map mark_of result.0.now ++ counts_of result.1 ≡ self.now }
         ensures descending { IfSome result.1 (λ c. AreDescending (length c.path.now) c.depths.now) }
     {
-        let marks = self.marks.as_slice();
-        if self.depths.is_empty() {
-            return (marks, None);
-        }
-        match marks.first() {
-            Some(Mark::Changed(path)) => {
-                let depths = self.depths.as_slice();
-                (marks, Some(Counted { path, depths }))
-            }
-            _ => (marks, None),
+        match &self.kept {
+            Kept::One(mark) => (from_ref(mark), None),
+            Kept::Many(marks) => (marks.as_slice(), None),
+            Kept::Counted(more) => (from_ref(&more.mark), more.counted()),
         }
     }
 
@@ -95,20 +108,51 @@ impl Footprint {
     pub fn changed(&self) -> Option<&Path>
         ensures { option_copied result ≡ changed self.now }
     {
-        match self.marks.as_slice().first() {
-            Some(Mark::Changed(path)) => Some(path),
-            _ => None,
+        match &self.kept {
+            Kept::One(mark) => mark.changed(),
+            Kept::Many(marks) => match marks.as_slice().first() {
+                Some(mark) => mark.changed(),
+                None => None,
+            },
+            Kept::Counted(more) => more.mark.changed(),
         }
     }
 
+    // The nodes at which its marks were taken.
+    pub(crate) fn taken_at(&self) -> TakenAt {
+        self.taken_at
+    }
+
+    // Notes the nodes at which its marks were taken. It stays the same footprint.
+    pub(crate) fn note(&mut self, taken_at: TakenAt)
+        ensures { self.new ≡ self.old }
+    {
+        self.taken_at = taken_at;
+    }
+
     // That with this mark alone.
-    fn one(alloc: Global, mark: Mark) -> Footprint
+    fn one(mark: Mark) -> Footprint
         ensures { result ≡ mark_of mark ∷ [] }
     {
         Footprint {
-            marks: SmallVec::from_buf(alloc, [mark]),
-            depths: Vec::new(alloc),
+            kept: Kept::One(mark),
+            taken_at: TakenAt::new(),
         }
+    }
+}
+
+impl WithCounts {
+    // Those on numbers of descendants.
+    fn counted(&self) -> Option<Counted<'_>>
+        requires { HaveDepths self.now.mark self.now.depths.items }
+        ensures counts { counts_of result ≡ counts_above self.now.mark self.now.depths.items }
+        ensures descending { IfSome result (λ c. AreDescending (length c.path.now) c.depths.now) }
+    {
+        let Mark::Changed(path) = &self.mark else {
+            return None;
+        };
+        let depths = self.depths.as_slice();
+        Some(Counted { path, depths })
     }
 }
 
@@ -123,34 +167,41 @@ pub(crate) fn times_in(marks: &[Mark], mark: &Mark) -> usize
 fn of_change(alloc: Global, path: &Path) -> Result<Footprint, AllocError>
     ensures { IfOk result (λ f. f ≡ model.X path.now ∷ []) }
 {
-    Ok(Footprint::one(alloc, Mark::Changed(path.copy(alloc)?)))
+    Ok(Footprint::one(Mark::Changed(path.copy(alloc)?)))
 }
 
 // That of a command which makes a group or takes one away: it changes the number of descendants of each group above.
 fn with_counts(alloc: Global, path: &Path, tree: &Tree) -> Result<Footprint, AllocError>
     ensures { IfOk result (λ f. f ≡ model.X path.now ∷ counts tree.now.tree path.now) }
 {
+    if !tree.may_limit() {
+        return of_change(alloc, path);
+    }
     let depths = limited_above(alloc, path, tree)?;
-    let marks = SmallVec::from_buf(alloc, [Mark::Changed(path.copy(alloc)?)]);
-    Ok(Footprint { marks, depths })
+    let mark = Mark::Changed(path.copy(alloc)?);
+    if depths.is_empty() {
+        return Ok(Footprint::one(mark));
+    }
+    let more = Box::new(alloc, WithCounts { mark, depths })?;
+    Ok(Footprint {
+        kept: Kept::Counted(more),
+        taken_at: TakenAt::new(),
+    })
 }
 
 // How many names the paths of those groups above have that are limited in the number of their descendants, the deepest
 // first.
-fn limited_above(alloc: Global, path: &Path, tree: &Tree) -> Result<Vec<u32>, AllocError>
+fn limited_above(alloc: Global, path: &Path, tree: &Tree) -> Result<SmallVec<u32, 4>, AllocError>
     ensures counts { IfOk result (λ depths. counts_at (prefixes path.now depths.items) ≡ counts tree.now.tree path.now) }
     ensures descending { IfOk result (λ depths. AreDescending (length path.now) depths.items) }
 {
-    let mut depths = Vec::new(alloc);
-    if !tree.may_limit() {
-        return Ok(depths);
-    }
+    let mut depths = SmallVec::new(alloc);
     push_limited(&mut depths, tree.above(path))?;
     Ok(depths)
 }
 
 // Adds those of these groups.
-fn push_limited(depths: &mut Vec<u32>, above: Ancestors<'_>) -> Result<(), AllocError>
+fn push_limited(depths: &mut SmallVec<u32, 4>, above: Ancestors<'_>) -> Result<(), AllocError>
     ensures { OnOk result (depths.new.items ≡ depths.old.items ++ limited_depths above.entry) }
 {
     for group in above {
@@ -165,15 +216,15 @@ fn push_limited(depths: &mut Vec<u32>, above: Ancestors<'_>) -> Result<(), Alloc
 fn of_migration(alloc: Global, pid: u32, path: &Path, tree: &Tree) -> Result<Footprint, AllocError>
     ensures { IfOk result (λ f. f ≡ model.Pid pid ∷ model.N path.now ∷ old_place (place_of tree.now.tree pid)) }
 {
-    let mut marks = SmallVec::with_capacity(alloc, 3)?;
+    let mut marks = Vec::with_capacity(alloc, 3)?;
     marks.push(Mark::Process(pid))?;
     marks.push(Mark::Stays(path.copy(alloc)?))?;
     if let Some(place) = tree.location(alloc, pid)? {
         marks.push(Mark::Stays(place))?;
     }
     Ok(Footprint {
-        marks,
-        depths: Vec::new(alloc),
+        kept: Kept::Many(marks),
+        taken_at: TakenAt::new(),
     })
 }
 

@@ -12,6 +12,7 @@ mod other_holders;
 mod path_holders;
 mod pid_holders;
 mod table;
+mod taken_at;
 mod upward;
 
 pub use clashing::AnyMark;

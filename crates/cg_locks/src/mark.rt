@@ -1,13 +1,12 @@
 //! Marks: what a command has until its transaction ends or it is taken off (this project's own choice: two-phase locking of
 //! subtrees, of single groups and processes, and of numbers of descendants).
-ghost use Rattle.std.specs.Prelude.{◌≡◌};
+ghost use Rattle.std.specs.Prelude.{◌≡◌, ◌∷◌, List, option_copied};
 ghost use Rattle.cg_locks.specs.Marks.{same_mark};
 ghost use Rattle.cg_locks.specs.Meaning.{mark_of};
-ghost use Rattle.cg_model.specs.Footprint.{clash};
+ghost use Rattle.cg_model.specs.Footprint as model;
+ghost use Rattle.cg_model.specs.Footprint.{changed, clash};
 
 use cg_name::Path;
-use std::alloc::Global;
-use std::default::MadeWith;
 
 /// What a command locks, of the tree; but for numbers of descendants, for which a footprint has `Counted`.
 #[derive(Drop)]
@@ -22,14 +21,18 @@ pub enum Mark {
     Process(u32),
 }
 
-// What fills the place of a footprint that has no mark yet.
-impl MadeWith<Global> for Mark {
-    fn made_with(_alloc: Global) -> Mark {
-        Mark::Process(0)
-    }
-}
-
 impl Mark {
+    // The path of the group whose subtree this marks to be changed, if it marks one. So it is told of a footprint whose first
+    // this is.
+    pub(crate) fn changed(&self) -> Option<&Path>
+        ensures { (f : List model.Mark) → option_copied result ≡ changed (mark_of self.now ∷ f) }
+    {
+        match self {
+            Mark::Changed(path) => Some(path),
+            _ => None,
+        }
+    }
+
     // Whether the two are one mark.
     #[tactic(auto, using(crate::proofs::Marks::compared))]
     pub(crate) fn is_same(&self, other: &Mark) -> bool

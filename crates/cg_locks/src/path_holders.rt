@@ -10,7 +10,7 @@ use crate::held::{Held, Kind, Part};
 use crate::holders::lesser;
 use crate::upward::{add_mark, drop_unheld, least_above, reach, remove_mark};
 use cg_name::{Path, TxnNumber};
-use cg_path_tree::PathTree;
+use cg_path_tree::{NodeKey, PathTree};
 use std::alloc::{AllocError, Global};
 use std::marker::Model;
 
@@ -166,28 +166,30 @@ impl PathHolders {
         }
     }
 
-    // One holding more by the transaction. An error, where there is no memory for it, leaves what was held.
+    // One holding more by the transaction, and the node where it is. An error, where there is no memory for it, leaves what
+    // was held.
     pub(crate) fn add(
         &mut self,
         alloc: Global,
         kind: Kind,
         path: &Path,
         transaction: TxnNumber,
-    ) -> Result<(), AllocError>
+    ) -> Result<NodeKey, AllocError>
         ensures ok { OnOk result (IsMarkedMore self.old kind path.now transaction.0 self.new) }
         ensures err { OnErr result (IsMarkedAlike self.old self.new) }
     {
         let key = reach(&mut self.nodes, alloc, path)?;
-        add_mark(&mut self.nodes, key, kind, transaction)
+        add_mark(&mut self.nodes, key, kind, transaction)?;
+        Ok(key)
     }
 
-    // One holding less by the transaction, which has one. Takes no memory.
-    pub(crate) fn remove(&mut self, kind: Kind, path: &Path, transaction: TxnNumber)
+    // One holding less by the transaction, which has one, most likely at the node with this key. Takes no memory.
+    pub(crate) fn remove(&mut self, kind: Kind, path: &Path, near: NodeKey, transaction: TxnNumber)
         requires { 0 < held_at (of_kind self.old kind) path.now transaction.0 }
         ensures { IsMarkedMore self.new kind path.now transaction.0 self.old }
     {
         self.nodes.laws();
-        let Some(key) = self.nodes.find(path) else {
+        let Some(key) = self.nodes.find_near(path, near) else {
             return;
         };
         remove_mark(&mut self.nodes, key, kind, transaction);

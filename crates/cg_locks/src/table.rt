@@ -14,7 +14,9 @@ use crate::holders::{Holders, lesser};
 use crate::mark::Mark;
 use crate::path_holders::PathHolders;
 use crate::pid_holders;
+use crate::taken_at::TakenAt;
 use cg_name::{Path, TxnNumber};
+use cg_path_tree::NodeKey;
 use indexmap::IndexMap;
 use std::alloc::{AllocError, Global};
 use std::marker::Model;
@@ -177,24 +179,27 @@ impl LockTable {
     }
 
     /// Adds one holding by the transaction of each mark of the footprint. An error, where there is no memory for them, leaves
-    /// the table as it was.
+    /// the table as it was. The footprint stays the same: it is noted where its marks are, so that they are let go faster.
     pub fn take(
         &mut self,
         alloc: Global,
         transaction: TxnNumber,
-        footprint: &Footprint,
+        footprint: &mut Footprint,
     ) -> Result<(), AllocError>
-        ensures ok { OnOk result ((u : ℕ) (m : model.Mark) → holdings self.new u m ≡ holdings self.old u m + cond (u == transaction.0) (times m footprint.now) 0) }
+        ensures ok { OnOk result ((u : ℕ) (m : model.Mark) → holdings self.new u m ≡ holdings self.old u m + cond (u == transaction.0) (times m footprint.old) 0) }
         ensures err { OnErr result (self.new ≡ self.old) }
+        ensures footprint { footprint.new ≡ footprint.old }
     {
         self.tell();
         let (marks, counted) = footprint.parts();
-        self.take_all(alloc, transaction, marks)?;
+        let taken_at = self.take_all(alloc, transaction, marks)?;
         let taken = self.take_counted(alloc, transaction, counted);
         if taken.is_err() {
-            self.release_all(transaction, marks);
+            self.release_all(transaction, marks, taken_at);
             self.tell();
+            return taken;
         }
+        footprint.note(taken_at);
         taken
     }
 
@@ -205,7 +210,7 @@ impl LockTable {
     {
         let (marks, counted) = footprint.parts();
         self.release_counted(transaction, counted);
-        self.release_all(transaction, marks);
+        self.release_all(transaction, marks, footprint.taken_at());
     }
 
     // A table tells what holds of it when a part of it is looked at: who holds a mark never isn't named.
@@ -215,26 +220,30 @@ impl LockTable {
         let _ = &self.marks;
     }
 
-    // Adds one holding of each of the marks. An error, where there is no memory for them, leaves the table as it was.
+    // Adds one holding of each of the marks, and gives where they are. An error, where there is no memory for them, leaves the
+    // table as it was.
     fn take_all(
         &mut self,
         alloc: Global,
         transaction: TxnNumber,
         marks: &[Mark],
-    ) -> Result<(), AllocError>
+    ) -> Result<TakenAt, AllocError>
         ensures ok { OnOk result ((u : ℕ) (m : model.Mark) → holdings self.new u m ≡ holdings self.old u m + cond (u == transaction.0) (times m (map mark_of marks.now)) 0) }
         ensures err { OnErr result (self.new ≡ self.old) }
     {
         self.tell();
+        let mut taken_at = TakenAt::new();
         for index in 0..marks.len() {
-            let taken = self.take_mark(alloc, transaction, &marks[index]);
-            if taken.is_err() {
-                self.release_all(transaction, &marks[..index]);
-                self.tell();
-                return taken;
+            match self.take_mark(alloc, transaction, &marks[index]) {
+                Ok(node) => taken_at.note(index, node),
+                Err(error) => {
+                    self.release_all(transaction, &marks[..index], taken_at);
+                    self.tell();
+                    return Err(error);
+                }
             }
         }
-        Ok(())
+        Ok(taken_at)
     }
 
     // And of those on numbers of descendants, if there are any.
@@ -266,23 +275,25 @@ impl LockTable {
         }
     }
 
-    // Takes away one holding of each of the marks, which the transaction holds.
-    fn release_all(&mut self, transaction: TxnNumber, marks: &[Mark])
+    // Takes away one holding of each of the marks, which the transaction holds, most likely there.
+    fn release_all(&mut self, transaction: TxnNumber, marks: &[Mark], taken_at: TakenAt)
         requires { HoldsAll self.old transaction.0 (map mark_of marks.now) }
         ensures { (u : ℕ) (m : model.Mark) → holdings self.new u m + cond (u == transaction.0) (times m (map mark_of marks.now)) 0 ≡ holdings self.old u m }
     {
+        let mut taken_at = taken_at;
         for mark in marks {
-            self.release_mark(transaction, mark);
+            self.release_mark(transaction, mark, taken_at.next());
         }
     }
 
-    // Adds one holding of the mark. An error, where there is no memory for it, leaves the table as it was.
+    // Adds one holding of the mark, and gives the node where it is; any, where that isn't at a path. An error, where there is
+    // no memory for it, leaves the table as it was.
     fn take_mark(
         &mut self,
         alloc: Global,
         transaction: TxnNumber,
         mark: &Mark,
-    ) -> Result<(), AllocError>
+    ) -> Result<NodeKey, AllocError>
         ensures ok { OnOk result (IsHeldOnceMore self.old transaction.0 (mark_of mark.now) self.new) }
         ensures err { OnErr result (self.new ≡ self.old) }
     {
@@ -291,20 +302,21 @@ impl LockTable {
             Mark::Read(path) => self.marks.add(alloc, Kind::Read, path, transaction),
             Mark::Stays(path) => self.marks.add(alloc, Kind::Stays, path, transaction),
             Mark::Process(pid) => {
-                pid_holders::add(&mut self.processes, alloc, *pid, transaction)
+                pid_holders::add(&mut self.processes, alloc, *pid, transaction)?;
+                Ok(NodeKey::new(0))
             }
         }
     }
 
-    // Takes away one holding of the mark, which the transaction holds.
-    fn release_mark(&mut self, transaction: TxnNumber, mark: &Mark)
+    // Takes away one holding of the mark, which the transaction holds: if it is at a path, most likely at this node.
+    fn release_mark(&mut self, transaction: TxnNumber, mark: &Mark, near: NodeKey)
         requires { 0 < holdings self.old transaction.0 (mark_of mark.now) }
         ensures { IsHeldOnceMore self.new transaction.0 (mark_of mark.now) self.old }
     {
         match mark {
-            Mark::Changed(path) => self.marks.remove(Kind::Changed, path, transaction),
-            Mark::Read(path) => self.marks.remove(Kind::Read, path, transaction),
-            Mark::Stays(path) => self.marks.remove(Kind::Stays, path, transaction),
+            Mark::Changed(path) => self.marks.remove(Kind::Changed, path, near, transaction),
+            Mark::Read(path) => self.marks.remove(Kind::Read, path, near, transaction),
+            Mark::Stays(path) => self.marks.remove(Kind::Stays, path, near, transaction),
             Mark::Process(pid) => {
                 pid_holders::remove(&mut self.processes, *pid, transaction);
             }

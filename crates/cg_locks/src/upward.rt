@@ -25,10 +25,14 @@ pub(crate) fn least_above(
     ensures { (p : List (List ℕ)) → get nodes.now.keys p ≡ Some key → IsLeastOther transaction.0 (weighed_above (above_of kind) nodes.now.values p) (option_map number_of result) }
 {
     nodes.laws();
-    let own = nodes.get(key).least_above(kind, transaction);
-    match nodes.parent(key) {
-        Some(parent) => lesser(own, least_above(nodes, parent, kind, transaction)),
-        None => own,
+    let mut at = key;
+    let mut least = None;
+    'up: loop {
+        least = lesser(least, nodes.get(at).least_above(kind, transaction));
+        let Some(parent) = nodes.parent(at) else {
+            return least;
+        };
+        at = parent;
     }
 }
 
@@ -106,12 +110,16 @@ fn remove_up(nodes: &mut PathTree<Held>, key: NodeKey, part: Part, transaction: 
     ensures less { (p : List (List ℕ)) → get nodes.old.keys p ≡ Some key → IsOneMoreUp nodes.new.values part p transaction.0 nodes.old.values }
 {
     nodes.laws();
-    let left = remove_at(nodes, key, part, transaction);
-    if left > 0 {
-        return;
-    }
-    if let Some(parent) = nodes.parent(key) {
-        remove_up(nodes, parent, part, transaction);
+    let mut at = key;
+    'up: loop {
+        let left = remove_at(nodes, at, part, transaction);
+        if left > 0 {
+            return;
+        }
+        let Some(parent) = nodes.parent(at) else {
+            return;
+        };
+        at = parent;
     }
 }
 

@@ -102,11 +102,11 @@ impl Tally {
     }
 }
 
-// A footprint, and its marks.
+// Footprints, and the marks of each.
 #[derive(Drop)]
 struct Marked {
-    footprint: Footprint,
-    marks: Vec<PlainMark>,
+    footprints: Vec<Footprint>,
+    marks: Vec<Vec<PlainMark>>,
 }
 
 // Both take the marks.
@@ -116,12 +116,11 @@ fn take_both<'m>(
     list: &mut Vec<Holding<'m>>,
     transaction: TxnNumber,
     place: usize,
-    marked: &'m Marked,
-    tally: &mut Tally,
+    footprint: &mut Footprint,
+    marks: &'m [PlainMark],
 ) -> Result<bool, AllocError> {
-    tally.count_taken(marked.marks.as_slice());
-    table.take(alloc, transaction, &marked.footprint)?;
-    take(list, transaction, place, marked.marks.as_slice())?;
+    table.take(alloc, transaction, footprint)?;
+    take(list, transaction, place, marks)?;
     Ok(true)
 }
 
@@ -130,15 +129,16 @@ fn release_both(
     table: &mut LockTable,
     list: &mut Vec<Holding>,
     transaction: TxnNumber,
-    marked: &Marked,
+    footprint: &Footprint,
+    marks: &[PlainMark],
 ) -> bool {
-    let is_held = table.holds(transaction, &marked.footprint);
-    if is_held != holds(list, transaction, marked.marks.as_slice()) {
+    let is_held = table.holds(transaction, footprint);
+    if is_held != holds(list, transaction, marks) {
         return false;
     }
     if is_held {
-        table.release(transaction, &marked.footprint);
-        release(list, transaction, marked.marks.as_slice());
+        table.release(transaction, footprint);
+        release(list, transaction, marks);
     }
     true
 }
@@ -148,16 +148,24 @@ fn release_both(
 fn release_some(
     table: &mut LockTable,
     list: &mut Vec<Holding>,
-    footprints: &[Marked],
+    footprints: &[Footprint],
+    marks: &[Vec<PlainMark>],
     at: usize,
 ) -> bool {
     let Some(holding) = list.get(at).copied() else {
         return list.is_empty();
     };
-    match footprints.get(holding.place) {
-        Some(marked) => release_both(table, list, holding.transaction, marked),
-        None => false,
-    }
+    let (Some(footprint), Some(marks)) = (footprints.get(holding.place), marks.get(holding.place))
+    else {
+        return false;
+    };
+    release_both(
+        table,
+        list,
+        holding.transaction,
+        footprint,
+        marks.as_slice(),
+    )
 }
 
 // The least other transaction that holds a mark which clashes with one of these. What is found is counted.
@@ -206,22 +214,26 @@ fn answers_alike<'m>(
     alloc: Global,
     table: &mut LockTable,
     list: &mut Vec<Holding<'m>>,
-    footprints: &'m [Marked],
+    footprints: &mut [Footprint],
+    all: &'m [Vec<PlainMark>],
     generator: &mut Generator,
     tally: &mut Tally,
 ) -> Result<bool, AllocError> {
     let transaction = generator.transaction();
     let place = generator.below(footprints.len());
-    let Some(marked) = footprints.get(place) else {
+    let Some(marks) = all.get(place) else {
         return Ok(false);
     };
-    let footprint = &marked.footprint;
-    let marks = marked.marks.as_slice();
+    let marks = marks.as_slice();
+    let footprint = &mut footprints[place];
     match generator.below(20) {
-        0..6 => take_both(alloc, table, list, transaction, place, marked, tally),
+        0..6 => {
+            tally.count_taken(marks);
+            take_both(alloc, table, list, transaction, place, footprint, marks)
+        }
         6..11 => {
             let at = generator.below(list.len());
-            Ok(release_some(table, list, footprints, at))
+            Ok(release_some(table, list, footprints, all, at))
         }
         11..16 => {
             let found = table.clash(transaction, footprint);
@@ -241,14 +253,23 @@ const CALLS: usize = 40;
 fn agrees_on(
     alloc: Global,
     table: &mut LockTable,
-    footprints: &[Marked],
+    footprints: &mut [Footprint],
+    marks: &[Vec<PlainMark>],
     seed: u64,
     tally: &mut Tally,
 ) -> Result<bool, AllocError> {
     let mut generator = Generator::new(seed);
     let mut list = Vec::new(alloc);
     for _ in 0..CALLS {
-        if !answers_alike(alloc, table, &mut list, footprints, &mut generator, tally)? {
+        if !answers_alike(
+            alloc,
+            table,
+            &mut list,
+            footprints,
+            marks,
+            &mut generator,
+            tally,
+        )? {
             return Ok(false);
         }
     }
@@ -258,22 +279,30 @@ fn agrees_on(
 // So they do, from a new table on.
 fn agrees(
     alloc: Global,
-    footprints: &[Marked],
+    marked: &mut Marked,
     seed: u64,
     tally: &mut Tally,
 ) -> Result<bool, AllocError> {
     let mut table = LockTable::new(alloc);
-    agrees_on(alloc, &mut table, footprints, seed, tally)
+    let Marked { footprints, marks } = marked;
+    agrees_on(
+        alloc,
+        &mut table,
+        footprints.as_mut_slice(),
+        marks.as_slice(),
+        seed,
+        tally,
+    )
 }
 
 // The first seed on whose list they don't.
 fn first_wrong_seed(
     alloc: Global,
-    footprints: &[Marked],
+    marked: &mut Marked,
     tally: &mut Tally,
 ) -> Result<Option<u64>, AllocError> {
     for seed in 1..=LISTS {
-        if !agrees(alloc, footprints, seed, tally)? {
+        if !agrees(alloc, marked, seed, tally)? {
             return Ok(Some(seed));
         }
     }
@@ -301,32 +330,35 @@ static COMMANDS: [(Asked, &str); 16] = [
 ];
 
 // The footprint of the command at the path that a word spells.
-fn footprint(alloc: Global, tree: &Tree, asked: Asked, word: &str) -> Result<Marked, Refusal> {
+fn footprint(alloc: Global, tree: &Tree, asked: Asked, word: &str) -> Result<Footprint, Refusal> {
     let command = command(alloc, asked, word)?;
-    let footprint = Footprint::of(alloc, &command, tree)?;
-    let marks = marks_of(alloc, &footprint)?;
-    Ok(Marked { footprint, marks })
+    Ok(Footprint::of(alloc, &command, tree)?)
 }
 
 // Appends those of all commands.
-fn fill(alloc: Global, tree: &Tree, footprints: &mut Vec<Marked>) -> Result<(), Refusal> {
+fn fill(alloc: Global, tree: &Tree, marked: &mut Marked) -> Result<(), Refusal> {
     for (asked, word) in &COMMANDS {
-        footprints.push(footprint(alloc, tree, *asked, word)?)?;
+        let footprint = footprint(alloc, tree, *asked, word)?;
+        marked.marks.push(marks_of(alloc, &footprint)?)?;
+        marked.footprints.push(footprint)?;
     }
     Ok(())
 }
 
 // Appends those over the tree of the world of the tests of locks.
-fn fill_of_world(alloc: Global, footprints: &mut Vec<Marked>) -> Result<(), Refusal> {
+fn fill_of_world(alloc: Global, marked: &mut Marked) -> Result<(), Refusal> {
     let tree = tree(alloc, WORLD)?;
-    fill(alloc, &tree, footprints)
+    fill(alloc, &tree, marked)
 }
 
 // The first seed on whose list the two differ.
 fn first_wrong(alloc: Global, tally: &mut Tally) -> Result<Option<u64>, Refusal> {
-    let mut footprints = Vec::new(alloc);
-    fill_of_world(alloc, &mut footprints)?;
-    Ok(first_wrong_seed(alloc, footprints.as_slice(), tally)?)
+    let mut marked = Marked {
+        footprints: Vec::new(alloc),
+        marks: Vec::new(alloc),
+    };
+    fill_of_world(alloc, &mut marked)?;
+    Ok(first_wrong_seed(alloc, &mut marked, tally)?)
 }
 
 // What is counted comes half as often at least as the shares of the calls and of the footprints let expect. A mark of each

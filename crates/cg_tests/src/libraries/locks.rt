@@ -137,7 +137,7 @@ fn take(
     alloc: Global,
     table: &mut LockTable,
     transaction: TxnNumber,
-    marks: &Footprint,
+    marks: &mut Footprint,
 ) -> Result<Option<TxnNumber>, AllocError> {
     table.take(alloc, transaction, marks)?;
     Ok(None)
@@ -171,7 +171,7 @@ fn found(
     table: &mut LockTable,
     call: LockCall,
     transaction: TxnNumber,
-    marks: &Footprint,
+    marks: &mut Footprint,
 ) -> Result<Option<TxnNumber>, AllocError> {
     match call {
         LockCall::Take => take(alloc, table, transaction, marks),
@@ -195,8 +195,8 @@ fn found_of(
     transaction: TxnNumber,
     command: &Command,
 ) -> Result<Option<TxnNumber>, AllocError> {
-    let marks = Footprint::of(alloc, command, tree)?;
-    found(alloc, table, call, transaction, &marks)
+    let mut marks = Footprint::of(alloc, command, tree)?;
+    found(alloc, table, call, transaction, &mut marks)
 }
 
 // What it finds for those of the command at the path that a word spells.

@@ -1,13 +1,8 @@
--- There are none where no group has a limit.
+-- Those of the groups with a limit are all.
 use Rattle.std.proofs.Common.{◌++◌, length, sym, subst, ap, ◌∙◌}
 use Rattle.cg_locks.specs.Counts.{counts_at, limited_depths, prefixes, AreDescending}
-use Rattle.cg_locks.proofs.Counting.{all_limited, limited_descending, none_counted}
+use Rattle.cg_locks.proofs.Counting.{all_limited, limited_descending}
 use Rattle.cg_locks.proofs.footprint.limited_above.Goals as goal
-
-pub returns-then-not-may_limit-clause-counts : goal.returns-then-not-may_limit-clause-counts
-returns-then-not-may_limit-clause-counts c =
-    ap (λ ds. counts_at (prefixes c.args.path.now ds)) c.new-depths.ensures.items
-    ∙ sym (none_counted c.args.tree.now.tree (c.may_limit.ensures c.if-not-may_limit.true) c.args.path.now)
 
 pub returns-clause-counts : goal.returns-clause-counts
 returns-clause-counts c =

@@ -6,6 +6,7 @@ use Rattle.cg_model.specs.Footprint.{X, S, N, Pid}
 use Rattle.cg_locks.specs.Meaning.{mark_of}
 use Rattle.cg_locks.specs.Table.{by_kind}
 use Rattle.cg_locks.proofs.OfKinds.{alike_marked, alike_processes, kinds, more_for, more_marked, more_processes}
+use Rattle.cg_locks.proofs.Results.{after_err}
 use Rattle.cg_locks.proofs.Tables.{same_table}
 use Rattle.cg_locks.proofs.table.LockTable.take_mark.Goals as goal
 
@@ -45,12 +46,12 @@ returns-in-Stays-clause-err c =
     let es = c.self.inside.processes.entries in
     on_err_weaker c.add-in-Stays.result (λ h. same_table (by_kind c.add-in-Stays.new.self es) (kinds c.self.inside) (alike_marked c.self.inside.marks c.add-in-Stays.new.self es h) ∙ c.self.view_is) c.add-in-Stays.ensures.err
 
-pub returns-in-Process-clause-ok : goal.returns-in-Process-clause-ok
-returns-in-Process-clause-ok c =
+pub returns-in_ok-add-in-Process-clause-ok : goal.returns-in_ok-add-in-Process-clause-ok
+returns-in_ok-add-in-Process-clause-ok c =
     let K = kinds c.self.inside in
-    on_ok_weaker c.add-in-Process.result (λ h. more_for K (by_kind c.self.inside.marks c.add-in-Process.new.holders.entries) c.args.self.now _ c.args.transaction.0 c.args.mark.now (Pid c.in-Process.pid) (ap mark_of c.in-Process.is) c.self.view_is refl
-    (more_processes c.self.inside.marks c.self.inside.processes.entries c.add-in-Process.new.holders.entries c.in-Process.pid c.args.transaction.0 h)) c.add-in-Process.ensures.ok
+    more_for K (by_kind c.self.inside.marks c.add-in-Process.new.holders.entries) c.args.self.now _ c.args.transaction.0 c.args.mark.now (Pid c.in-Process.pid) (ap mark_of c.in-Process.is) c.self.view_is refl
+    (more_processes c.self.inside.marks c.self.inside.processes.entries c.add-in-Process.new.holders.entries c.in-Process.pid c.args.transaction.0 c.in_ok-add-in-Process.ensures.ok)
 
-pub returns-in-Process-clause-err : goal.returns-in-Process-clause-err
-returns-in-Process-clause-err c =
-    on_err_weaker c.add-in-Process.result (λ h. same_table (by_kind c.self.inside.marks c.add-in-Process.new.holders.entries) (kinds c.self.inside) (alike_processes c.self.inside.marks c.self.inside.processes.entries c.add-in-Process.new.holders.entries h) ∙ c.self.view_is) c.add-in-Process.ensures.err
+pub returns-in_err-add-in-Process-clause-err : goal.returns-in_err-add-in-Process-clause-err
+returns-in_err-add-in-Process-clause-err c =
+    after_err c.from_residual.result (same_table (by_kind c.self.inside.marks c.add-in-Process.new.holders.entries) (kinds c.self.inside) (alike_processes c.self.inside.marks c.self.inside.processes.entries c.add-in-Process.new.holders.entries c.in_err-add-in-Process.ensures.err) ∙ c.self.view_is)
