@@ -33,8 +33,8 @@ impl Core {
         ensures { self.new ≡ self.old }
     {
         if let Some(path) = command.path() {
-            self.tree.visit(path);
-            self.locks.visit(path);
+            let number = self.tree.visit(path);
+            self.locks.visit(path, number);
         }
     }
 

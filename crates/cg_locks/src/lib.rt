@@ -8,6 +8,7 @@ mod footprint;
 mod held;
 mod holders;
 mod mark;
+mod numbered;
 mod other_holders;
 mod path_holders;
 mod pid_holders;

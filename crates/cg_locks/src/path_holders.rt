@@ -8,6 +8,7 @@ ghost use Rattle.cg_locks.specs.declared.held.Kind.{Kind};
 use crate::counted;
 use crate::held::{Held, Kind, Part};
 use crate::holders::lesser;
+use crate::numbered::Numbered;
 use crate::upward::{add_mark, drop_unheld, least_above, reach, remove_mark};
 use cg_name::{Path, TxnNumber};
 use cg_path_tree::{NodeKey, PathTree};
@@ -21,12 +22,14 @@ const KEPT: usize = 4096;
 // Who holds marks at paths. Where there is a node, there is one at each prefix.
 pub(crate) struct PathHolders {
     nodes: PathTree<Held>,
+    // It tells nothing but where to look first.
+    found: Numbered,
 }
 
 // By hand, so that whoever drops one calls this, and doesn't drop each thing in it: that makes proofs shorter.
 impl Drop for PathHolders {
     fn drop(self) {
-        let PathHolders { nodes: _ } = self;
+        let PathHolders { nodes: _, found: _ } = self;
     }
 }
 
@@ -51,6 +54,7 @@ impl PathHolders {
     {
         PathHolders {
             nodes: PathTree::new(alloc),
+            found: Numbered::new(alloc),
         }
     }
 
@@ -59,6 +63,26 @@ impl PathHolders {
         ensures { self.new ≡ self.old }
     {
         let _ = self.nodes.visit(path);
+    }
+
+    // The same of a path with a number of its own: what was found for that number before is looked at first.
+    pub(crate) fn visit_numbered(&mut self, path: &Path, number: u32)
+        ensures { self.new ≡ self.old }
+    {
+        let near = self.found.get(number);
+        if let Some(key) = self.nodes.visit_near(path, near) {
+            if key != near {
+                self.found.note(number, key);
+            }
+        }
+    }
+
+    // Makes room for what visits are to note. An error, where there is no memory for it, leaves all as it was.
+    #[inline(always)]
+    pub(crate) fn make_room(&mut self) -> Result<(), AllocError>
+        ensures { self.new ≡ self.old }
+    {
+        self.found.make_room()
     }
 
     // How often the transaction holds the mark of this kind at the path.

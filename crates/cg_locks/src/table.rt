@@ -60,12 +60,16 @@ impl LockTable {
         }
     }
 
-    /// Looks the path up once, so that the calls that follow find a mark at the same path by a comparison. That is for speed
-    /// alone. Takes no memory.
-    pub fn visit(&mut self, path: &Path)
+    /// Looks the path up once, so that the calls that follow find a mark at the same path by a comparison. Where it comes with a
+    /// number of its own, as `Tree::visit` gives it, what was found for that number before is looked at first: any number may come.
+    /// That is for speed alone. Takes no memory: what it notes has room made for it as marks are taken.
+    pub fn visit(&mut self, path: &Path, number: Option<u32>)
         ensures { self.new ≡ self.old }
     {
-        self.marks.visit(path);
+        match number {
+            Some(number) => self.marks.visit_numbered(path, number),
+            None => self.marks.visit(path),
+        }
     }
 
     /// The least other transaction that holds a mark which clashes with one of the footprint. Takes no memory.
@@ -190,6 +194,7 @@ impl LockTable {
         ensures err { OnErr result (self.new ≡ self.old) }
         ensures footprint { footprint.new ≡ footprint.old }
     {
+        self.make_room()?;
         self.tell();
         let (marks, counted) = footprint.parts();
         let taken_at = self.take_all(alloc, transaction, marks)?;
@@ -211,6 +216,13 @@ impl LockTable {
         let (marks, counted) = footprint.parts();
         self.release_counted(transaction, counted);
         self.release_all(transaction, marks, footprint.taken_at());
+    }
+
+    // Makes room for what visits are to note. An error, where there is no memory for it, leaves the table as it was.
+    fn make_room(&mut self) -> Result<(), AllocError>
+        ensures { self.new ≡ self.old }
+    {
+        self.marks.make_room()
     }
 
     // A table tells what holds of it when a part of it is looked at: who holds a mark never isn't named.

@@ -115,11 +115,12 @@ impl Groups {
         root.settings.is_none() || self.nodes.len() != root.below as usize + 1
     }
 
-    // Looks the path up once, so that the calls that follow with the same path find it by a comparison. Takes no memory.
-    pub(crate) fn visit(&mut self, path: &Path)
+    // Looks the path up once, so that the calls that follow with the same path find it by a comparison, and gives its node, where it
+    // has one. Takes no memory.
+    pub(crate) fn visit(&mut self, path: &Path) -> Option<NodeKey>
         ensures { self.new ≡ self.old }
     {
-        let _ = self.nodes.visit(path);
+        self.nodes.visit(path)
     }
 
     // The path gets the text of its node, where it has one, and stays the same.

@@ -217,11 +217,16 @@ impl Tree {
         self.groups.has_dead()
     }
 
-    /// Looks the path up once, so that the calls that follow with the same path find it by a comparison. Takes no memory.
-    pub fn visit(&mut self, path: &Path)
+    /// Looks the path up once, so that the calls that follow with the same path find it by a comparison. Gives the number of its entry,
+    /// where it has one: below 2^32, and the same, and no other path's, for as long as the entry stays. That is for speed alone, and
+    /// no clause tells of it. Takes no memory.
+    pub fn visit(&mut self, path: &Path) -> Option<u32>
         ensures { self.new ≡ self.old }
     {
-        self.groups.visit(path);
+        match self.groups.visit(path) {
+            Some(key) => Some(key.number()),
+            None => None,
+        }
     }
 
     /// Where the path's text is long and it has an entry, it shares the text of that from now on, and lets go of its own: so what

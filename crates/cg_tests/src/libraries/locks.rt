@@ -179,7 +179,8 @@ fn found(
         LockCall::Holds => Ok(holder(table, transaction, marks)),
         LockCall::Clash => {
             if let Some(path) = marks.changed() {
-                table.visit(path);
+                // One number for many paths: what was found for it is of another one, as a rule.
+                table.visit(path, Some(transaction.0));
             }
             Ok(table.clash(transaction, marks))
         }
