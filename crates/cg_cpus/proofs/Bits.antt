@@ -1,5 +1,5 @@
 -- What reading and setting a bit does to the set in the words.
-use Rattle.std.proofs.Common.{◌≡◌, ◌≢◌, ℕ, zero, suc, true≢false, ◌+◌, ◌*◌, ◌/◌, ◌%◌, ◌^◌, ◌<◌, ◌≤◌, Bool, true, false, ◌==◌, ◌&&◌, ◌||◌, IsTrue, nat_eq, nat_lt, List, [], ◌∷◌, length, get_or, set, bit_and, bit_or, refl, sym, ap, subst, ◌∙◌, arith, ◌↔◌, ◌⊎◌, inl, inr}
+use Rattle.std.proofs.Common.{◌≡◌, ◌≢◌, ℕ, zero, suc, true≢false, ◌*◌, ◌/◌, ◌%◌, ◌^◌, ◌<◌, ◌≤◌, Bool, true, false, ◌==◌, ◌&&◌, ◌||◌, IsTrue, nat_eq, nat_lt, List, [], ◌∷◌, length, get_or, set, bit_and, bit_or, refl, sym, ap, subst, ◌∙◌, arith}
 use Rattle.std.specs.Int.{bit_at}
 use Rattle.std.specs.List.{AllByRecursion, list_all}
 use Rattle.std.proofs.lemmas.Nat.{or_lt}
@@ -8,7 +8,7 @@ use Rattle.std.proofs.lemmas.List.{get_or-set_same, get_or-set_other, length-set
 use Rattle.std.proofs.lemmas.Bool.{and_parts}
 use Rattle.std.proofs.lemmas.Bool.Decides.{nat_tests}
 use Rattle.std.specs.Int.{w64}
-use Rattle.cg_maps.specs.FiniteSet.{FiniteSet, has, members, is_empty_set, no_members, with_member}
+use Rattle.cg_maps.specs.FiniteSet.{has, members, is_empty_set, no_members, with_member}
 use Rattle.cg_maps.specs.FiniteMap.{empty, get, keys}
 use Rattle.cg_maps.proofs.Sets.{same_set, has-no_members, has-with_member, empty_set-is}
 use Rattle.cg_cpus.specs.Words.{has_bit, set_in, AreWords, word_of_bits, words_of}
@@ -57,24 +57,25 @@ not_below words cpu l =
 abbrev pub with_bit : ℕ → ℕ → ℕ
 with_bit w k = bit_or w (1 * 2 ^ k % 18446744073709551616)
 
-pub words_with_bit : (words : List ℕ) (i k : ℕ) → AreWords words → AreWords (set words i (with_bit (get_or words i 0) k))
-words_with_bit words i k h = record {
-  count = length-set words i _ ∙ h.count;
-  width = λ j. elim (j == i) as (λ b. (j == i) ≡ b → get_or (set words i (with_bit (get_or words i 0) k)) j 0 < 2 ^ 64) [
+-- words of which one is another
+pub words_with : (words : List ℕ) (i w : ℕ) → AreWords words → w < 2 ^ 64 → AreWords (set words i w)
+words_with words i w h small = record {
+  count = length-set words i w ∙ h.count;
+  width = λ j. elim (j == i) as (λ b. (j == i) ≡ b → get_or (set words i w) j 0 < 2 ^ 64) [
     | true ↦ λ e. let is : j ≡ i = grind (arith, nat_tests) in inside j is
-    | false ↦ λ e. let ne : j ≢ i = grind (arith, nat_tests) in subst (λ x. x < 2 ^ 64) (sym (get_or-set_other words i j (with_bit (get_or words i 0) k) 0 ne)) (h.width j)
+    | false ↦ λ e. let ne : j ≢ i = grind (arith, nat_tests) in subst (λ x. x < 2 ^ 64) (sym (get_or-set_other words i j w 0 ne)) (h.width j)
   ] refl;
 }
   where
-    small : with_bit (get_or words i 0) k < 2 ^ 64
-    small = or_lt 64 (get_or words i 0) (1 * 2 ^ k % 18446744073709551616) (h.width i) (omega arith)
-
     -- where i is past the end nothing was set
-    inside : (j : ℕ) → j ≡ i → get_or (set words i (with_bit (get_or words i 0) k)) j 0 < 2 ^ 64
-    inside j is = subst (λ x. get_or (set words i (with_bit (get_or words i 0) k)) x 0 < 2 ^ 64) (sym is) (elim (nat_lt i (length words)) as (λ b. nat_lt i (length words) ≡ b → get_or (set words i (with_bit (get_or words i 0) k)) i 0 < 2 ^ 64) [
-      | true ↦ λ e. let l : i < length words = grind (arith, nat_tests) in subst (λ x. x < 2 ^ 64) (sym (get_or-set_same words i (with_bit (get_or words i 0) k) 0 l)) small
-      | false ↦ λ e. let l : length words ≤ i = grind (arith, nat_tests) in subst (λ x. x < 2 ^ 64) (sym (get_or_past (set words i (with_bit (get_or words i 0) k)) i 0 (omega (arith, l, length-set words i (with_bit (get_or words i 0) k))))) (omega arith)
+    inside : (j : ℕ) → j ≡ i → get_or (set words i w) j 0 < 2 ^ 64
+    inside j is = subst (λ x. get_or (set words i w) x 0 < 2 ^ 64) (sym is) (elim (nat_lt i (length words)) as (λ b. nat_lt i (length words) ≡ b → get_or (set words i w) i 0 < 2 ^ 64) [
+      | true ↦ λ e. let l : i < length words = grind (arith, nat_tests) in subst (λ x. x < 2 ^ 64) (sym (get_or-set_same words i w 0 l)) small
+      | false ↦ λ e. let l : length words ≤ i = grind (arith, nat_tests) in subst (λ x. x < 2 ^ 64) (sym (get_or_past (set words i w) i 0 (omega (arith, l, length-set words i w)))) (omega arith)
     ] refl)
+
+pub words_with_bit : (words : List ℕ) (i k : ℕ) → AreWords words → AreWords (set words i (with_bit (get_or words i 0) k))
+words_with_bit words i k h = words_with words i (with_bit (get_or words i 0) k) h (or_lt 64 (get_or words i 0) (1 * 2 ^ k % 18446744073709551616) (h.width i) (omega arith))
 
 module _ (words : List ℕ) (cpu i : ℕ) (h : AreWords words) (e : i ≡ cpu / 64) (l : cpu < 1024) where
   abbrev after : List ℕ
@@ -148,35 +149,3 @@ empty_test words h = elim (is_empty_set (set_in words)) as (λ b. is_empty_set (
     | false ↦ λ z. refl
   ] refl
 ] refl
-
--- one more number in a range
-pub range_more : (P : Type 0) (s : FiniteSet) (first cpu n : ℕ) → first ≤ cpu → IsTrue (has s n) ↔ (P ⊎ ((first ≤ n) × (n < cpu))) → IsTrue (has (with_member s cpu) n) ↔ (P ⊎ ((first ≤ n) × (n < cpu + 1)))
-range_more P s first cpu n l h = (
-  (λ t. to (n == cpu) refl (subst IsTrue (has-with_member s cpu n) t)),
-  (λ p. subst IsTrue (sym (has-with_member s cpu n)) (from (n == cpu) refl p)),
-)
-  where
-    wider : P ⊎ ((first ≤ n) × (n < cpu)) → P ⊎ ((first ≤ n) × (n < cpu + 1))
-    wider (inl p) = inl p
-    wider (inr r) = inr (r.0, omega (arith, r.1))
-
-    to : (b : Bool) → (n == cpu) ≡ b → IsTrue (b || has s n) → P ⊎ ((first ≤ n) × (n < cpu + 1))
-    to true e t = let is : n ≡ cpu = grind (arith, nat_tests) in inr (omega arith, omega arith)
-    to false e t = wider (h.0 t)
-
-    from : (b : Bool) → (n == cpu) ≡ b → P ⊎ ((first ≤ n) × (n < cpu + 1)) → IsTrue (b || has s n)
-    from true e p = refl
-    from false e (inl p) = h.1 (inl p)
-    from false e (inr r) = let ne : n ≢ cpu = grind (arith, nat_tests) in h.1 (inr (r.0, omega (arith, r.1)))
-
--- a range that is done
-pub range_done : (A P : Type 0) (first last cpu n : ℕ) → cpu ≡ last + 1 → A ↔ (P ⊎ ((first ≤ n) × (n < cpu))) → A ↔ (P ⊎ ((first ≤ n) × (n ≤ last)))
-range_done A P first last cpu n e h = ((λ a. to (h.0 a)), (λ p. h.1 (from p)))
-  where
-    to : P ⊎ ((first ≤ n) × (n < cpu)) → P ⊎ ((first ≤ n) × (n ≤ last))
-    to (inl p) = inl p
-    to (inr r) = inr (r.0, omega (arith, r.1))
-
-    from : P ⊎ ((first ≤ n) × (n ≤ last)) → P ⊎ ((first ≤ n) × (n < cpu))
-    from (inl p) = inl p
-    from (inr r) = inr (r.0, omega (arith, r.1))

@@ -1,4 +1,5 @@
 pub mod Bits
+pub mod Filling
 pub mod Ranges
 pub mod Runs
 pub mod Grammar

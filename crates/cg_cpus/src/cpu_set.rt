@@ -1,5 +1,5 @@
 //! Sets of CPU numbers.
-ghost use Rattle.std.specs.Prelude.{◌≡◌, ◌∷◌, [], not, ◌++◌, ◌+◌, ◌-◌, ◌%◌, ◌<◌, ◌≤◌, ◌↔◌, ◌⊎◌, IsTrue, IfOk, IfErr, IfNone, IfSome, OnOk, OnErr, ℕ};
+ghost use Rattle.std.specs.Prelude.{◌≡◌, ◌∷◌, [], not, ◌++◌, ◌+◌, ◌-◌, ◌*◌, ◌/◌, ◌%◌, ◌<◌, ◌≤◌, ◌↔◌, ◌⊎◌, IsTrue, IfOk, IfErr, IfNone, IfSome, OnOk, OnErr, ℕ};
 ghost use Rattle.std.proofs.Common.{nat_eq, rules};
 ghost use Rattle.std.specs.Cmp.Lexicographic.{pointwise};
 ghost use Rattle.std.specs.Cmp.Rules.{comparing};
@@ -115,8 +115,8 @@ impl CpuSet {
         requires below { last < 1024 }
         ensures { (n : ℕ) → IsTrue (has self.new n) ↔ (IsTrue (has self.old n) ⊎ ((first ≤ n) × (n ≤ last))) }
     {
-        for cpu in first..last + 1 {
-            self.insert(cpu);
+        for index in first / 64..last / 64 + 1 {
+            self.words[usize::from(index)] |= bits_of_range(first, last, index);
         }
     }
 
@@ -217,4 +217,15 @@ impl CpuSet {
         let written = list::append_runs(self, out);
         or_truncate(written, start, out)
     }
+}
+
+// The numbers from the first to the last that stand in the word of this index, a bit set for each.
+fn bits_of_range(first: u16, last: u16, index: u16) -> u64
+    requires { (first / 64 ≤ index) × (index ≤ last / 64) }
+    ensures { (k : ℕ) → k < 64 → (bit_at result k ≡ 1) ↔ ((first ≤ index * 64 + k) × (index * 64 + k ≤ last)) }
+{
+    let start = index * 64;
+    let low = first.saturating_sub(start);
+    let high = (last - start).min(63);
+    (u64::MAX << low) & (u64::MAX >> (63 - high))
 }

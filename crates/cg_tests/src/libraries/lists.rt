@@ -7,7 +7,7 @@ use std::alloc::{AllocError, Global};
 // A text, and what is written for what it says; nothing where it says nothing.
 type Row = (&'static str, Option<&'static str>);
 
-const CPUS: [Row; 14] = [
+const CPUS: [Row; 20] = [
     ("3,1-2,2,0", Some("0-3")),
     ("8-10,0-4,6", Some("0-4,6,8-10")),
     ("4,5", Some("4-5")),
@@ -16,6 +16,12 @@ const CPUS: [Row; 14] = [
     ("127", Some("127")),
     ("128", Some("128")),
     ("1023", Some("1023")),
+    ("5-5", Some("5")),
+    ("0-63", Some("0-63")),
+    ("63-64", Some("63-64")),
+    ("64-127", Some("64-127")),
+    ("1-1023", Some("1-1023")),
+    ("2,60-130,191", Some("2,60-130,191")),
     ("5-3", None),
     ("1,,2", None),
     ("1,", None),
