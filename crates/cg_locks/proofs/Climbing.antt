@@ -15,7 +15,7 @@ use Rattle.cg_locks.proofs.Walks.{more_above, up_last, up_root, up_stop}
 
 -- ---- the least on the way
 
-lesser_lesser : (a b c : Option ℕ) → lesser_of (lesser_of a b) c ≡ lesser_of a (lesser_of b c)
+pub lesser_lesser : (a b c : Option ℕ) → lesser_of (lesser_of a b) c ≡ lesser_of a (lesser_of b c)
 lesser_lesser None b c = refl
 lesser_lesser (Some n) None c = refl
 lesser_lesser (Some n) (Some k) None = elim (nat_lt k n) as (λ x. lesser_of (cond x (Some k) (Some n)) None ≡ cond x (Some k) (Some n)) [ true ↦ refl | false ↦ refl ]

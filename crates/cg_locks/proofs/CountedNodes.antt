@@ -1,23 +1,24 @@
 -- Marks on numbers of descendants at the nodes on one way up.
-use Rattle.std.proofs.Common.{◌≡◌, ℕ, ◌+◌, ◌<◌, ◌≤◌, ◌==◌, ◌&&◌, Bool, true, false, cond, List, [], ◌∷◌, length, take, ◌-◌, Option, Some, refl, sym, ap, subst, ◌∙◌, arith}
+use Rattle.std.proofs.Common.{◌≡◌, ℕ, ◌+◌, ◌<◌, ◌≤◌, ◌==◌, ◌&&◌, Bool, true, false, cond, List, [], ◌∷◌, ◌++◌, length, take, ◌-◌, Option, Some, refl, sym, ap, subst, ◌∙◌, arith}
 use Rattle.std.proofs.lemmas.Bool.{eq-eqb}
 use Rattle.std.proofs.lemmas.List.{length-take, take-take, take_all}
-use Rattle.std.proofs.lemmas.List.Sums.{sum_by-cons}
+use Rattle.std.proofs.lemmas.List.Sums.{sum_by-cons, sum_by_push}
 use Rattle.cg_maps.specs.FiniteMap.{get}
 use Rattle.cg_name.specs.Path.{Path, is_root, same_path}
 use Rattle.cg_model_laws.proofs.Paths.{same_path-is, same_path-itself}
 use Rattle.cg_path_tree.specs.Nodes.{parent_path}
 use Rattle.cg_locks.specs.Counts.{prefixes, AreDescending}
 use Rattle.cg_locks.specs.declared.held.Held.{Held}
-use Rattle.cg_locks.specs.declared.held.Kind.{Kind}
 use Rattle.cg_locks.specs.declared.held.Kind.TheVariants as kinds
+use Rattle.cg_locks.specs.declared.held.Part.{Part}
 use Rattle.cg_locks.specs.declared.held.Part.TheVariants.{CountedAt}
-use Rattle.cg_locks.specs.Held.{here_of, same_kind}
-use Rattle.cg_locks.specs.HeldByPath.{in_part, AreCountsMore, HasCounts, HeldByPath, IsMarkMore, IsOneMoreIn}
+use Rattle.cg_locks.specs.Held.{here_of, same_kind, same_part, AreCountedMore, Marked}
+use Rattle.cg_locks.specs.HeldByPath.{in_part, AreCountsMore, HasCounts, HeldByPath, IsMarkMore, IsOneMoreIn, IsSameHeld}
 use Rattle.cg_locks.specs.Holders.{held_at, held_on, lesser_of, one, times_on, IsLeastOther, PathCounts}
 use Rattle.cg_locks.proofs.Counting.{prefixes_from, prefixes_same}
 use Rattle.cg_locks.proofs.Counts.{least_alike, least_of_sum}
 use Rattle.cg_locks.proofs.HeldMaps.{held_there}
+use Rattle.cg_locks.proofs.Summed.{same_branches}
 use Rattle.cg_locks.proofs.Walks.{alone_more}
 
 -- ---- the way up
@@ -37,6 +38,12 @@ first_of_root (n ∷ p) d root = absurd (false_true root)
 
 pub times-cons : (q p : Path) (ps : List Path) → times_on q (p ∷ ps) ≡ cond (same_path q p) 1 0 + times_on q ps
 times-cons q p ps = sum_by-cons (λ x. cond (same_path q x) 1 0) p ps
+
+times-pushed : (q p : Path) (ps : List Path) → times_on q (ps ++ p ∷ []) ≡ times_on q (p ∷ ps)
+times-pushed q p ps =
+    let a : times_on q (ps ++ p ∷ []) ≡ times_on q ps + cond (same_path q p) 1 0 = sum_by_push (λ x. cond (same_path q x) 1 0) ps p in
+    let b = times-cons q p ps in
+    omega (arith, a, b)
 
 -- one more here, and as many as there are on
 joined : (a b c : Bool) (n : ℕ) → one (a && (b && c)) + cond (a && c) n 0 ≡ cond (a && c) (cond b 1 0 + n) 0
@@ -60,31 +67,32 @@ first_is_held C t p ps all =
 module _ (t : ℕ) where
   pub counts_none : (T : HeldByPath) → AreCountsMore T [] t T
   counts_none T = record {
-    at = λ j q u. let z = none_on (same_kind j kinds.Descendants && (u == t)) in omega (arith, z);
+    at = λ r q u. let z = none_on (same_part r CountedAt && (u == t)) in omega (arith, z);
     summed = λ h. h;
     back = λ h. h;
   }
 
   module _ (p : Path) (ps : List Path) where
-    both : (j : Kind) (q : Path) (u : ℕ) → one (same_kind j kinds.Descendants && (same_path q p && (u == t))) + cond (same_kind j kinds.Descendants && (u == t)) (times_on q ps) 0 ≡ cond (same_kind j kinds.Descendants && (u == t)) (times_on q (p ∷ ps)) 0
-    both j q u = joined (same_kind j kinds.Descendants) (same_path q p) (u == t) (times_on q ps) ∙ ap (λ n. cond (same_kind j kinds.Descendants && (u == t)) n 0) (sym (times-cons q p ps))
-
-    pub counts_first : (T M T' : HeldByPath) → IsOneMoreIn T CountedAt p t M → AreCountsMore M ps t T' → AreCountsMore T (p ∷ ps) t T'
-    counts_first T M T' first rest =
-        let more : IsMarkMore T kinds.Descendants p t M = alone_more T M kinds.Descendants p t refl first in
-        record {
-          at = λ j q u. let a = more.at j q u in let b = rest.at j q u in let c = both j q u in omega (arith, a, b, c);
-          summed = λ h. rest.summed (more.summed h);
-          back = λ h. more.back (rest.back h);
-        }
+    both : (r : Part) (q : Path) (u : ℕ) → one (same_part r CountedAt && (same_path q p && (u == t))) + cond (same_part r CountedAt && (u == t)) (times_on q ps) 0 ≡ cond (same_part r CountedAt && (u == t)) (times_on q (p ∷ ps)) 0
+    both r q u = joined (same_part r CountedAt) (same_path q p) (u == t) (times_on q ps) ∙ ap (λ n. cond (same_part r CountedAt && (u == t)) n 0) (sym (times-cons q p ps))
 
     pub counts_last : (T M T' : HeldByPath) → AreCountsMore T ps t M → IsOneMoreIn M CountedAt p t T' → AreCountsMore T (p ∷ ps) t T'
     counts_last T M T' rest last =
         let more : IsMarkMore M kinds.Descendants p t T' = alone_more M T' kinds.Descendants p t refl last in
         record {
-          at = λ j q u. let a = more.at j q u in let b = rest.at j q u in let c = both j q u in omega (arith, a, b, c);
+          at = λ r q u. let a = last.at r q u in let b = rest.at r q u in let c = both r q u in omega (arith, a, b, c);
           summed = λ h. more.summed (rest.summed h);
           back = λ h. rest.back (more.back h);
+        }
+
+    -- the same, where it stands behind the others
+    pub counts_next : (T M T' : HeldByPath) → AreCountsMore T ps t M → IsOneMoreIn M CountedAt p t T' → AreCountsMore T (ps ++ p ∷ []) t T'
+    counts_next T M T' rest last =
+        let all = counts_last T M T' rest last in
+        record {
+          at = λ r q u. all.at r q u ∙ ap (λ n. held_at (in_part r T) q u + cond (same_part r CountedAt && (u == t)) n 0) (sym (times-pushed q p ps));
+          summed = all.summed;
+          back = all.back;
         }
 
     -- what is held of all is held of the others when the first is gone
@@ -99,6 +107,16 @@ module _ (t : ℕ) where
         as_one : (b : Bool) → one (b && true) ≡ cond b 1 0
         as_one true = refl
         as_one false = refl
+
+  -- what is added and taken away again leaves what was held
+  pub counts_undone : (ps : List Path) (T M T' : HeldByPath) → AreCountsMore T ps t M → AreCountsMore T' ps t M → IsSameHeld T T'
+  counts_undone ps T M T' more less = record {
+    at = as_it_was;
+    branched = λ r q u. same_branches (in_part r T) (in_part r T') q u (λ p. as_it_was r p u);
+  }
+    where
+      as_it_was : (r : Part) (q : Path) (u : ℕ) → held_at (in_part r T') q u ≡ held_at (in_part r T) q u
+      as_it_was r q u = let a = more.at r q u in let b = less.at r q u in omega (arith, a, b)
 
 -- ---- whether all are held
 
@@ -144,6 +162,15 @@ module _ (C : PathCounts) (t : ℕ) (p : Path) (d : ℕ) (ds : List ℕ) (within
       let enough : times_on q (prefixes p (d ∷ ds)) ≤ held_at C q t = all q in
       let times = times_here q in
       omega (arith, enough, times)
+
+-- where the first isn't held, there is none to take away
+pub none_to_take : (m : Marked) (t : ℕ) (p : Path) (ds : List ℕ) → ((q : Path) → times_on q (prefixes p ds) ≤ held_at m.descendants q t) → ((d : ℕ) (es : List ℕ) → ds ≡ d ∷ es → held_at m.descendants (take d p) t ≡ 0)
+    → AreCountedMore m (prefixes p ds) t m
+none_to_take m t p [] all none = λ j q u. let z = none_on (same_kind j kinds.Descendants && (u == t)) in omega (arith, z)
+none_to_take m t p (d ∷ ds) all none =
+    let low = first_is_held m.descendants t (take d p) (prefixes (take d p) ds) all in
+    let first = none d ds refl in
+    absurd (omega (arith, low, first))
 
 -- ---- the least other
 

@@ -9,9 +9,10 @@ use Rattle.cg_name.specs.Order.{path_cmp_total, path_cmp_exact}
 use Rattle.cg_name.specs.Path.{Path, path_cmp, is_parent, same_path}
 use Rattle.cg_locks.specs.declared.held.Held.{Held}
 use Rattle.cg_locks.specs.declared.held.Part.{Part}
+use Rattle.cg_locks.specs.declared.held.Part.TheVariants.{ChangedAt, ReadAt, StaysAt, ChangedBelow, ReadBelow, StaysBelow}
 use Rattle.cg_locks.specs.Held.{part_of, same_part, IsHeldMore}
-use Rattle.cg_locks.specs.HeldByPath.{in_part, HeldByPath, IsOneMoreIn, IsSameHeld}
-use Rattle.cg_locks.specs.Holders.{Counts, PathCounts, branches, held_at, held_by, held_if, one}
+use Rattle.cg_locks.specs.HeldByPath.{in_part, AreSummedUp, HeldByPath, IsOneMoreIn, IsSameHeld}
+use Rattle.cg_locks.specs.Holders.{Counts, PathCounts, branches, held_at, held_by, held_if, one, IsSummedUp}
 use Rattle.cg_locks.proofs.Summed.{as_before, changed_at, changed_branches, found_branch, neither}
 
 -- ---- one part, by paths
@@ -156,6 +157,18 @@ alike_then T M T' a b = record {
   at = λ r q u. b.at r q u ∙ a.at r q u;
   branched = λ r q u. b.branched r q u ∙ a.branched r q u;
 }
+
+pub still_summed : (T T' : HeldByPath) → IsSameHeld T T' → AreSummedUp T → AreSummedUp T'
+still_summed T T' same h = record {
+  changed = sums ChangedAt ChangedBelow h.changed;
+  read = sums ReadAt ReadBelow h.read;
+  stays = sums StaysAt StaysBelow h.stays;
+}
+  where
+    sums : (a b : Part) → IsSummedUp (in_part a T) (in_part b T) → IsSummedUp (in_part a T') (in_part b T')
+    sums a b sum q u =
+        let x = same.at a q u in let y = same.at b q u in let z = same.branched b q u in let w = sum q u in
+        omega (arith, x, y, z, w)
 
 -- what is added and taken away again
 pub undone : (T M M' T' : HeldByPath) (s : Part) (p : Path) (t : ℕ) → IsOneMoreIn T s p t M → IsSameHeld M M' → IsOneMoreIn T' s p t M' → IsSameHeld T T'

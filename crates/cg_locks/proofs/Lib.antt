@@ -6,6 +6,7 @@ mod Climbing
 mod Counting
 mod CountedMarks
 mod CountedNodes
+mod CountedWalks
 mod Counts
 mod Enough
 mod FirstClash

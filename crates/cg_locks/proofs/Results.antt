@@ -16,3 +16,8 @@ went_wrong (Err x) e h = h
 pub after_err : {A E P : Type 0} (r : Result A E) → P → OnErr r P
 after_err (Ok x) h = tt
 after_err (Err x) h = h
+
+-- what comes of both
+pub either_way : {A E P Q S : Type 0} (r : Result A E) → OnOk r P → OnErr r Q → (P → S) → (Q → S) → S
+either_way (Ok x) h k f g = f h
+either_way (Err x) h k f g = g k

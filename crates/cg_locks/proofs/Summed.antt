@@ -222,6 +222,39 @@ found_branch T q u low =
     let both = found_branch_term q u w.0 w.2 in
     (w.0.0, both.0, subst (λ r. 0 < held_if r u) (sym w.1) both.1)
 
+-- what is held at each path tells the branches: as long as there is one, it goes from both
+same_number : (q : Path) (u n : ℕ) (T T' : PathCounts) → ((p : Path) → held_at T' p u ≡ held_at T p u) → branches T q u ≡ n → branches T' q u ≡ n
+same_number q u zero T T' same none = by (branches T' q u) refl
+  where
+    by : (m : ℕ) → branches T' q u ≡ m → m ≡ 0
+    by zero e = refl
+    by (suc m) e =
+        let w = found_branch T' q u (omega (arith, e)) in
+        let there = w.2 in
+        let is = same w.0 in
+        let low = branch_counts T q w.0 u w.1 (omega (arith, there, is)) in
+        absurd (omega (arith, low, none))
+same_number q u (suc n) T T' same some =
+    let w = found_branch T q u (omega (arith, some)) in
+    let p = w.0 in
+    let there : 0 < held_at T p u = w.2 in
+    let there' : 0 < held_at T' p u = (let is = same p in omega (arith, there, is)) in
+    let less : branches (set_at T p None) q u ≡ n = (let a = one_less T p w.1 there in omega (arith, a, some)) in
+    let less' = same_number q u n (set_at T p None) (set_at T' p None) (λ r. at_set T' p None r u ∙ ap (cond (same_path r p) 0) (same r) ∙ sym (at_set T p None r u)) less in
+    let b = one_less T' p w.1 there' in
+    omega (arith, less', b)
+  where
+    one_less : (C : PathCounts) (p : Path) → is_parent q p ≡ true → 0 < held_at C p u → branches (set_at C p None) q u + 1 ≡ branches C q u
+    one_less C p child low =
+        let first : nat_lt 0 (held_at C p u) ≡ true = grind (arith, nat_tests, low) in
+        let all = branches_set C p None q u in
+        let here : cond (is_parent q p) (one (nat_lt 0 (held_at C p u))) 0 ≡ 1 = (λ i. cond (child i) (one (first i)) 0) in
+        let none : cond (is_parent q p) (one (nat_lt 0 (held_if None u))) 0 ≡ 0 = sym (neither (is_parent q p)) in
+        omega (arith, all, here, none)
+
+pub same_branches : (T T' : PathCounts) (q : Path) (u : ℕ) → ((p : Path) → held_at T' p u ≡ held_at T p u) → branches T' q u ≡ branches T q u
+same_branches T T' q u same = same_number q u (branches T q u) T T' same refl
+
 -- no path at which something is held is longer than all of them
 unfoldable pub longest : PathCounts → ℕ
 longest T = sum_by (λ e. length e.0) (entries T)

@@ -4,7 +4,6 @@ use Rattle.cg_maps.specs.FiniteMap.{FiniteMap, entries, from_entries, get}
 use Rattle.cg_name.specs.Path.{Path, path_cmp, is_parent, same_path}
 use Rattle.cg_locks.specs.declared.held.Held.{Held}
 use Rattle.cg_locks.specs.declared.held.Kind.{Kind}
-use Rattle.cg_locks.specs.declared.held.Kind.TheVariants as kinds
 use Rattle.cg_locks.specs.declared.held.Part.{Part}
 use Rattle.cg_locks.specs.declared.held.Part.TheVariants.{ChangedAt, ReadAt, StaysAt, CountedAt, ChangedBelow, ReadBelow, StaysBelow}
 use Rattle.cg_locks.specs.Held.{at_path, part_of, same_kind, same_part, Marked}
@@ -55,9 +54,9 @@ pub record IsMarkMore (T : HeldByPath) (k : Kind) (p : Path) (t : ℕ) (T' : Hel
   pub summed : AreSummedUp T → AreSummedUp T'
   pub back : AreSummedUp T' → AreSummedUp T
 
--- the same of the numbers of descendants at these paths, each as often as it stands there
+-- the same of the numbers of descendants at these paths, each as often as it stands there; of every other part the same is held
 pub record AreCountsMore (T : HeldByPath) (ps : List Path) (t : ℕ) (T' : HeldByPath) : Type 0 where
-  pub at : (j : Kind) (q : Path) (u : ℕ) → held_at (in_part (at_path j) T') q u ≡ held_at (in_part (at_path j) T) q u + cond (same_kind j kinds.Descendants && (u == t)) (times_on q ps) 0
+  pub at : (r : Part) (q : Path) (u : ℕ) → held_at (in_part r T') q u ≡ held_at (in_part r T) q u + cond (same_part r CountedAt && (u == t)) (times_on q ps) 0
   pub summed : AreSummedUp T → AreSummedUp T'
   pub back : AreSummedUp T' → AreSummedUp T
 

@@ -21,13 +21,14 @@ fn climb(nodes: &PathTree<Held>, key: NodeKey, depth: u32) -> NodeKey
     ensures { (p : List (List ℕ)) → get nodes.now.keys p ≡ Some key → get nodes.now.keys (take depth p) ≡ Some result }
 {
     nodes.laws();
-    if nodes.depth(key) <= depth {
-        return key;
+    let mut at = key;
+    'up: while nodes.depth(at) > depth {
+        let Some(parent) = nodes.parent(at) else {
+            return at;
+        };
+        at = parent;
     }
-    match nodes.parent(key) {
-        Some(parent) => climb(nodes, parent, depth),
-        None => key,
-    }
+    at
 }
 
 // The least other transaction with such a mark.
@@ -40,12 +41,16 @@ pub(crate) fn least(
     requires { IsKey nodes.now.keys key }
     ensures { (p : List (List ℕ)) → get nodes.now.keys p ≡ Some key → IsLeastOther transaction.0 (held_on (in_part CountedAt nodes.now.values) (prefixes p depths.now)) (option_map number_of result) }
 {
-    let Some((depth, shorter)) = depths.split_first() else {
-        return None;
-    };
-    let at = climb(nodes, key, *depth);
-    let own = nodes.get(at).least_here(Kind::Descendants, transaction);
-    lesser(own, least(nodes, at, shorter, transaction))
+    let mut at = key;
+    let mut least = None;
+    for depth in depths {
+        at = climb(nodes, at, *depth);
+        least = lesser(
+            least,
+            nodes.get(at).least_here(Kind::Descendants, transaction),
+        );
+    }
+    least
 }
 
 // One holding more by the transaction of each mark. An error, where there is no memory for them, leaves what was held.
@@ -60,16 +65,15 @@ pub(crate) fn add(
     ensures ok { OnOk result ((p : List (List ℕ)) → get nodes.old.keys p ≡ Some key → AreCountsMore nodes.old.values (prefixes p depths.now) transaction.0 nodes.new.values) }
     ensures err { OnErr result (IsSameHeld nodes.old.values nodes.new.values) }
 {
-    let Some((depth, shorter)) = depths.split_first() else {
-        return Ok(());
-    };
-    let at = climb(nodes, key, *depth);
-    add_at(nodes, at, Part::CountedAt, transaction)?;
-    let added = add(nodes, at, shorter, transaction);
-    if added.is_err() {
-        remove_at(nodes, at, Part::CountedAt, transaction);
+    let mut at = key;
+    for index in 0..depths.len() {
+        at = climb(nodes, at, depths[index]);
+        if let Err(error) = add_at(nodes, at, Part::CountedAt, transaction) {
+            remove(nodes, key, &depths[..index], transaction);
+            return Err(error);
+        }
     }
-    added
+    Ok(())
 }
 
 // One holding less by the transaction of each mark, which it has.
@@ -85,10 +89,9 @@ pub(crate) fn remove(
     ensures less { (p : List (List ℕ)) → get nodes.old.keys p ≡ Some key → AreCountsMore nodes.new.values (prefixes p depths.now) transaction.0 nodes.old.values }
 {
     nodes.laws();
-    let Some((depth, shorter)) = depths.split_first() else {
-        return;
-    };
-    let at = climb(nodes, key, *depth);
-    remove_at(nodes, at, Part::CountedAt, transaction);
-    remove(nodes, at, shorter, transaction);
+    let mut at = key;
+    for depth in depths {
+        at = climb(nodes, at, *depth);
+        remove_at(nodes, at, Part::CountedAt, transaction);
+    }
 }

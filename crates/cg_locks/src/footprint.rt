@@ -195,7 +195,7 @@ fn limited_above(alloc: Global, path: &Path, tree: &Tree) -> Result<SmallVec<u32
     ensures counts { IfOk result (λ depths. counts_at (prefixes path.now depths.items) ≡ counts tree.now.tree path.now) }
     ensures descending { IfOk result (λ depths. AreDescending (length path.now) depths.items) }
 {
-    let mut depths = SmallVec::new(alloc);
+    let mut depths = SmallVec::with_capacity(alloc, path.depth() as usize)?;
     push_limited(&mut depths, tree.above(path))?;
     Ok(depths)
 }

@@ -1,5 +1,7 @@
 //! The holders of marks at paths, in one tree of them.
-ghost use Rattle.std.specs.Prelude.{◌≡◌, ◌<◌, ◌≤◌, ◌↔◌, List, ℕ, None, IsTrue, OnErr, OnOk, length, option_map, take};
+ghost use Rattle.std.specs.Prelude.{◌≡◌, ◌<◌, ◌≤◌, ◌↔◌, List, ◌∷◌, ℕ, None, Some, IfNone, IfSome, IsTrue, OnErr, OnOk, length, option_map, take};
+ghost use Rattle.cg_maps.specs.FiniteMap.{get};
+ghost use Rattle.cg_path_tree.specs.Nodes.{IsKey};
 ghost use Rattle.cg_locks.specs.Counts.{prefixes, AreDescending};
 ghost use Rattle.cg_locks.specs.Held.{in_way, of_kind, AreCountedMore, IsMarkedAlike, IsMarkedMore};
 ghost use Rattle.cg_locks.specs.Holders.{held_at, held_on, number_of, times_on, IsLeastOther};
@@ -144,8 +146,25 @@ impl PathHolders {
     }
 
     // The least other transaction that holds the number of descendants at a path of so many names with which this one begins.
-    // One look-up finds the first of these, as a rule.
+    // Where the path has a node, the way up begins there: no other is looked up.
     pub(crate) fn least_counted(
+        &self,
+        path: &Path,
+        depths: &[u32],
+        transaction: TxnNumber,
+    ) -> Option<TxnNumber>
+        requires { AreDescending (length path.now) depths.now }
+        ensures { IsLeastOther transaction.0 (held_on self.now.descendants (prefixes path.now depths.now)) (option_map number_of result) }
+    {
+        self.nodes.laws();
+        match self.nodes.find(path) {
+            Some(key) => counted::least(&self.nodes, key, depths, transaction),
+            None => self.least_looked_up(path, depths, transaction),
+        }
+    }
+
+    // The same of a path that may have no node: one look-up finds the first of these, as a rule.
+    fn least_looked_up(
         &self,
         path: &Path,
         depths: &[u32],
@@ -160,7 +179,7 @@ impl PathHolders {
         };
         match self.nodes.find_prefix(path, *depth) {
             Some(key) => counted::least(&self.nodes, key, depths, transaction),
-            None => self.least_counted(path, shorter, transaction),
+            None => self.least_looked_up(path, shorter, transaction),
         }
     }
 
@@ -238,16 +257,20 @@ impl PathHolders {
         counted::add(&mut self.nodes, key, depths, transaction)
     }
 
-    // One holding less by the transaction of each of these, which it has. Takes no memory.
-    pub(crate) fn remove_counted(&mut self, path: &Path, depths: &[u32], transaction: TxnNumber)
+    // One holding less by the transaction of each of these, which it has. The path's own node is most likely that with this
+    // key. Takes no memory.
+    pub(crate) fn remove_counted(
+        &mut self,
+        path: &Path,
+        depths: &[u32],
+        near: NodeKey,
+        transaction: TxnNumber,
+    )
         requires { (q : List (List ℕ)) → times_on q (prefixes path.now depths.now) ≤ held_at self.old.descendants q transaction.0 }
         ensures { AreCountedMore self.new (prefixes path.now depths.now) transaction.0 self.old }
     {
         self.nodes.laws();
-        let Some((deepest, _)) = depths.split_first() else {
-            return;
-        };
-        let Some(key) = self.nodes.find_prefix(path, *deepest) else {
+        let Some(key) = counted_node(&self.nodes, path, depths, near) else {
             return;
         };
         counted::remove(&mut self.nodes, key, depths, transaction);
@@ -255,4 +278,24 @@ impl PathHolders {
             drop_unheld(&mut self.nodes, key);
         }
     }
+}
+
+// The node from which the way up to these numbers is walked: the path's own, most likely that with this key, or else that of
+// the first number.
+fn counted_node(
+    nodes: &PathTree<Held>,
+    path: &Path,
+    depths: &[u32],
+    near: NodeKey,
+) -> Option<NodeKey>
+    ensures key { IfSome result (λ key. IsKey nodes.now.keys key) }
+    ensures same { IfSome result (λ key. (q : List (List ℕ)) → get nodes.now.keys q ≡ Some key → prefixes q depths.now ≡ prefixes path.now depths.now) }
+    ensures none { IfNone result ((d : ℕ) (shorter : List ℕ) → depths.now ≡ d ∷ shorter → get nodes.now.keys (take d path.now) ≡ None) }
+{
+    nodes.laws();
+    if let Some(key) = nodes.find_near(path, near) {
+        return Some(key);
+    }
+    let deepest = depths.first()?;
+    nodes.find_prefix(path, *deepest)
 }

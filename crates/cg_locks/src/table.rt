@@ -214,7 +214,8 @@ impl LockTable {
         ensures { (u : ℕ) (m : model.Mark) → holdings self.new u m + cond (u == transaction.0) (times m footprint.now) 0 ≡ holdings self.old u m }
     {
         let (marks, counted) = footprint.parts();
-        self.release_counted(transaction, counted);
+        let mut taken_at = footprint.taken_at();
+        self.release_counted(transaction, counted, taken_at.next());
         self.release_all(transaction, marks, footprint.taken_at());
     }
 
@@ -276,14 +277,20 @@ impl LockTable {
         }
     }
 
-    // Takes away one holding of each of those on numbers of descendants, if there are any: the transaction holds them.
-    fn release_counted(&mut self, transaction: TxnNumber, counted: Option<Counted<'_>>)
+    // Takes away one holding of each of those on numbers of descendants, if there are any: the transaction holds them. Their
+    // path is that of the footprint's first mark, and its node most likely this one.
+    fn release_counted(
+        &mut self,
+        transaction: TxnNumber,
+        counted: Option<Counted<'_>>,
+        near: NodeKey,
+    )
         requires { HoldsAll self.old transaction.0 (counts_of counted) }
         ensures { (u : ℕ) (m : model.Mark) → holdings self.new u m + cond (u == transaction.0) (times m (counts_of counted.entry)) 0 ≡ holdings self.old u m }
     {
         if let Some(these) = counted {
             self.marks
-                .remove_counted(these.path, these.depths, transaction);
+                .remove_counted(these.path, these.depths, near, transaction);
         }
     }
 

@@ -9,10 +9,10 @@ use Rattle.cg_locks.proofs.CountedNodes.{least_of_others, prefixes_again}
 use Rattle.cg_locks.proofs.Counting.{still_descending}
 use Rattle.cg_locks.proofs.Keys.{absent_value}
 use Rattle.cg_locks.proofs.Seen.{seen_nowhere}
-use Rattle.cg_locks.proofs.path_holders.PathHolders.+least_counted.Goals as goal
+use Rattle.cg_locks.proofs.path_holders.PathHolders.+least_looked_up.Goals as goal
 
-pub least_counted-requires : goal.least_counted-requires
-least_counted-requires t c =
+pub least_looked_up-requires : goal.least_looked_up-requires
+least_looked_up-requires t c =
     let n = length c.args.path.now in
     let descending = subst (AreDescending n) c.in-Some.ensures.cases.0 c.requires in
     let first : c.in-Some.depth.now < n = descending.0 in
@@ -34,5 +34,5 @@ returns-in-None t c =
     let d = c.in-Some.depth.now in
     let nodes = c.self.inside.nodes in
     let descending = subst (AreDescending (length p)) c.in-Some.ensures.cases.0 c.requires in
-    least_of_others c.args.self.now.descendants p d c.in-Some.shorter.now c.args.depths.now c.args.transaction.0 (option_map number_of c.least_counted.result) c.in-Some.ensures.cases.0 descending.1
-    (λ u. seen_nowhere kinds.Descendants nodes.values c.args.self.now c.self.view_is (take d p) u (absent_value nodes (take d p) (c.laws.ensures.both (take d p)) (sym c.in-None.ensures))) c.least_counted.ensures
+    least_of_others c.args.self.now.descendants p d c.in-Some.shorter.now c.args.depths.now c.args.transaction.0 (option_map number_of c.least_looked_up.result) c.in-Some.ensures.cases.0 descending.1
+    (λ u. seen_nowhere kinds.Descendants nodes.values c.args.self.now c.self.view_is (take d p) u (absent_value nodes (take d p) (c.laws.ensures.both (take d p)) (sym c.in-None.ensures))) c.least_looked_up.ensures
