@@ -2,6 +2,7 @@
 mod asked;
 mod checks;
 mod commands;
+mod cutting;
 mod derived;
 mod devices;
 mod files;
@@ -15,3 +16,4 @@ mod places;
 mod plain_locks;
 mod transactions;
 mod trees;
+mod world_texts;
