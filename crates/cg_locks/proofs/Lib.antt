@@ -26,5 +26,6 @@ mod Seen
 pub mod Stacks
 mod Summed
 mod Tables
+mod Unwinding
 mod Walks
 mod Ways

@@ -1,7 +1,8 @@
 -- Who holds what at the paths of a tree.
-use Rattle.std.specs.Prelude.{◌≡◌, ℕ, zero, suc, ◌+◌, ◌<◌, ◌≤◌, ◌==◌, ◌&&◌, false, cond, length, List, map, take, Option, Some, None}
+use Rattle.std.specs.Prelude.{◌≡◌, ℕ, zero, suc, ◌+◌, ◌-◌, ◌<◌, ◌≤◌, ◌==◌, ◌&&◌, false, cond, length, List, map, take, Option, Some, None}
 use Rattle.cg_maps.specs.FiniteMap.{FiniteMap, entries, from_entries, get}
 use Rattle.cg_name.specs.Path.{Path, path_cmp, is_parent, same_path}
+use Rattle.cg_path_tree.specs.Nodes.{parent_path}
 use Rattle.cg_locks.specs.declared.held.Held.{Held}
 use Rattle.cg_locks.specs.declared.held.Kind.{Kind}
 use Rattle.cg_locks.specs.declared.held.Part.{Part}
@@ -42,6 +43,19 @@ HasBranches T s t = (q : Path) → branches (in_part s T) q t ≤ held_at (in_pa
 -- and more at this one
 abbrev pub HasMoreThanBranches : HeldByPath → Part → ℕ → Path → Type 0
 HasMoreThanBranches T s t p = branches (in_part s T) p t < held_at (in_part s T) p t
+
+-- how often q is among the first n of p, the path above it, the one above that, and so on
+abbrev pub times_up : ℕ → Path → Path → ℕ
+times_up zero p q = 0
+times_up (suc n) p q = one (same_path q p) + times_up n (parent_path p) q
+
+-- in T' the transaction has one more in the part at each of these that has more than d names
+abbrev pub IsOneMoreBeyond : HeldByPath → Part → Path → ℕ → ℕ → HeldByPath → Type 0
+IsOneMoreBeyond T s p d t T' = (r : Part) (q : Path) (u : ℕ) → held_at (in_part r T') q u ≡ held_at (in_part r T) q u + cond (same_part r s && (u == t)) (times_up (length p - d) p q) 0
+
+-- it has one there
+abbrev pub HasBeyond : HeldByPath → Part → Path → ℕ → ℕ → Type 0
+HasBeyond T s p d t = (q : Path) → times_up (length p - d) p q ≤ held_at (in_part s T) q t
 
 -- in T' the same is held
 pub record IsSameHeld (T T' : HeldByPath) : Type 0 where

@@ -179,6 +179,7 @@ impl Held {
     }
 
     // The least other transaction with a mark here or below that clashes with one of this kind here.
+    #[inline(always)]
     pub(crate) fn least_here(&self, kind: Kind, transaction: TxnNumber) -> Option<TxnNumber>
         ensures { IsLeastOther transaction.0 (here_of kind self.now) (option_map number_of result) }
     {

@@ -115,6 +115,20 @@ pub(crate) fn take_least(others: &mut Vec<Other>, part: Part) -> (u32, u32)
     ensures alone { result.1 ≡ 0 → others_in part others.new.items ≡ [] }
     ensures apart { (r : Part) → same_part r part ≡ false → others_in r others.new.items ≡ others_in r others.old.items }
 {
+    if others.is_empty() {
+        return (0, 0);
+    }
+    take_out_least(others, part)
+}
+
+// The same, by a look at each: mostly there is none.
+#[inline(never)]
+fn take_out_least(others: &mut Vec<Other>, part: Part) -> (u32, u32)
+    requires { IsHolderList (others_in part others.old.items) }
+    ensures all { all_holders result.0 result.1 (others_in part others.new.items) ≡ others_in part others.old.items }
+    ensures alone { result.1 ≡ 0 → others_in part others.new.items ≡ [] }
+    ensures apart { (r : Part) → same_part r part ≡ false → others_in r others.new.items ≡ others_in r others.old.items }
+{
     let (place, _) = place_in(others, part, 0);
     if place >= others.len() {
         return (0, 0);

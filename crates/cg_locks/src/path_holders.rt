@@ -24,14 +24,19 @@ const KEPT: usize = 4096;
 // Who holds marks at paths. Where there is a node, there is one at each prefix.
 pub(crate) struct PathHolders {
     nodes: PathTree<Held>,
-    // It tells nothing but where to look first.
+    // These tell nothing but where to look first: for a path with a number, and for the one that was visited last.
     found: Numbered,
+    near: NodeKey,
 }
 
 // By hand, so that whoever drops one calls this, and doesn't drop each thing in it: that makes proofs shorter.
 impl Drop for PathHolders {
     fn drop(self) {
-        let PathHolders { nodes: _, found: _ } = self;
+        let PathHolders {
+            nodes: _,
+            found: _,
+            near: _,
+        } = self;
     }
 }
 
@@ -57,6 +62,7 @@ impl PathHolders {
         PathHolders {
             nodes: PathTree::new(alloc),
             found: Numbered::new(alloc),
+            near: no_node(),
         }
     }
 
@@ -64,18 +70,17 @@ impl PathHolders {
     pub(crate) fn visit(&mut self, path: &Path)
         ensures { self.new ≡ self.old }
     {
-        let _ = self.nodes.visit(path);
+        self.near = self.nodes.visit(path).unwrap_or(no_node());
     }
 
     // The same of a path with a number of its own: what was found for that number before is looked at first.
     pub(crate) fn visit_numbered(&mut self, path: &Path, number: u32)
         ensures { self.new ≡ self.old }
     {
-        let near = self.found.get(number);
-        if let Some(key) = self.nodes.visit_near(path, near) {
-            if key != near {
-                self.found.note(number, key);
-            }
+        let noted = self.found.get(number);
+        self.near = self.nodes.visit_near(path, noted).unwrap_or(no_node());
+        if self.near != noted {
+            self.found.note(number, self.near);
         }
     }
 
@@ -101,8 +106,7 @@ impl PathHolders {
         }
     }
 
-    // The least other transaction that holds what clashes with the mark of this kind at the path. Where the path has no
-    // node, nothing is held at it or below it.
+    // The least other transaction that holds what clashes with the mark of this kind at the path.
     pub(crate) fn least_in_way(
         &self,
         kind: Kind,
@@ -114,8 +118,16 @@ impl PathHolders {
         if self.is_alone(kind, path, transaction) {
             return None;
         }
+        self.least_on_way(kind, path, transaction)
+    }
+
+    // The same, by a walk. Where the path has no node, nothing is held at it or below it.
+    #[inline(never)]
+    fn least_on_way(&self, kind: Kind, path: &Path, transaction: TxnNumber) -> Option<TxnNumber>
+        ensures { IsLeastOther transaction.0 (in_way self.now kind path.now) (option_map number_of result) }
+    {
         self.nodes.laws();
-        match self.nodes.find(path) {
+        match self.nodes.find_near(path, self.near) {
             Some(key) => lesser(
                 self.nodes.get(key).least_here(kind, transaction),
                 least_above(&self.nodes, key, kind, transaction),
@@ -157,7 +169,7 @@ impl PathHolders {
         ensures { IsLeastOther transaction.0 (held_on self.now.descendants (prefixes path.now depths.now)) (option_map number_of result) }
     {
         self.nodes.laws();
-        match self.nodes.find(path) {
+        match self.nodes.find_near(path, self.near) {
             Some(key) => counted::least(&self.nodes, key, depths, transaction),
             None => self.least_looked_up(path, depths, transaction),
         }
@@ -221,7 +233,7 @@ impl PathHolders {
         ensures ok { OnOk result (IsMarkedMore self.old kind path.now transaction.0 self.new) }
         ensures err { OnErr result (IsMarkedAlike self.old self.new) }
     {
-        let key = reach(&mut self.nodes, alloc, path)?;
+        let key = reach(&mut self.nodes, alloc, path, self.near)?;
         add_mark(&mut self.nodes, key, kind, transaction)?;
         Ok(key)
     }
@@ -253,12 +265,13 @@ impl PathHolders {
         ensures ok { OnOk result (AreCountedMore self.old (prefixes path.now depths.now) transaction.0 self.new) }
         ensures err { OnErr result (IsMarkedAlike self.old self.new) }
     {
-        let key = reach(&mut self.nodes, alloc, path)?;
+        let key = reach(&mut self.nodes, alloc, path, self.near)?;
         counted::add(&mut self.nodes, key, depths, transaction)
     }
 
     // One holding less by the transaction of each of these, which it has. The path's own node is most likely that with this
     // key. Takes no memory.
+    #[inline(never)]
     pub(crate) fn remove_counted(
         &mut self,
         path: &Path,
@@ -278,6 +291,11 @@ impl PathHolders {
             drop_unheld(&mut self.nodes, key);
         }
     }
+}
+
+// A key that is most likely no node's.
+fn no_node() -> NodeKey {
+    NodeKey::new(u32::MAX)
 }
 
 // The node from which the way up to these numbers is walked: the path's own, most likely that with this key, or else that of

@@ -4,7 +4,7 @@ ghost use Rattle.cg_maps.specs.FiniteMap.{get, set_at};
 ghost use Rattle.cg_name.specs.Path.{is_root};
 ghost use Rattle.cg_path_tree.specs.Nodes.{parent_path, HasParent, IsKey};
 ghost use Rattle.cg_locks.specs.Held.{above_of, at_path};
-ghost use Rattle.cg_locks.specs.HeldByPath.{in_part, weighed_above, AreSummedUp, HasBranches, HasMoreThanBranches, IsMarkMore, IsOneMoreIn, IsOneMoreUp, IsSameHeld};
+ghost use Rattle.cg_locks.specs.HeldByPath.{in_part, weighed_above, AreSummedUp, HasBeyond, HasBranches, HasMoreThanBranches, IsMarkMore, IsOneMoreBeyond, IsOneMoreIn, IsOneMoreUp, IsSameHeld};
 ghost use Rattle.cg_locks.specs.Holders.{held_at, number_of, IsLeastOther};
 ghost use Rattle.cg_locks.specs.declared.held.Part.{Part};
 
@@ -86,18 +86,45 @@ fn add_up(
     ensures err { OnErr result (IsSameHeld nodes.old.values nodes.new.values) }
 {
     nodes.laws();
-    let count = add_at(nodes, key, part, transaction)?;
-    if count > 1 {
-        return Ok(());
+    let mut at = key;
+    'up: loop {
+        let Ok(count) = add_at(nodes, at, part, transaction) else {
+            let depth = nodes.depth(at);
+            remove_beyond(nodes, key, depth, part, transaction);
+            return Err(AllocError);
+        };
+        if count > 1 {
+            return Ok(());
+        }
+        let Some(parent) = nodes.parent(at) else {
+            return Ok(());
+        };
+        at = parent;
     }
-    let Some(parent) = nodes.parent(key) else {
-        return Ok(());
-    };
-    let added = add_up(nodes, parent, part, transaction);
-    if added.is_err() {
-        remove_at(nodes, key, part, transaction);
+}
+
+// One holding less by the transaction in this part of the node and of each above it whose path has more than so many names.
+fn remove_beyond(
+    nodes: &mut PathTree<Held>,
+    key: NodeKey,
+    depth: u32,
+    part: Part,
+    transaction: TxnNumber,
+)
+    requires there { IsKey nodes.old.keys key }
+    requires held { (p : List (List ℕ)) → get nodes.old.keys p ≡ Some key → HasBeyond nodes.old.values part p depth transaction.0 }
+    ensures keys { nodes.new.keys ≡ nodes.old.keys }
+    ensures less { (p : List (List ℕ)) → get nodes.old.keys p ≡ Some key → IsOneMoreBeyond nodes.new.values part p depth transaction.0 nodes.old.values }
+{
+    nodes.laws();
+    let mut at = key;
+    'up: while nodes.depth(at) > depth {
+        remove_at(nodes, at, part, transaction);
+        let Some(parent) = nodes.parent(at) else {
+            return;
+        };
+        at = parent;
     }
-    added
 }
 
 // One holding less by the transaction in this part of the node, where it has one that no node below brought. Where that was
@@ -267,18 +294,31 @@ fn make_above(
     Ok(parent)
 }
 
-// The node at the path, which it makes where there is none. An error, where there is no memory for it, leaves what was held.
+// The node at the path, most likely that with this key, which it makes where there is none. An error, where there is no memory
+// for it, leaves what was held.
 pub(crate) fn reach(
     nodes: &mut PathTree<Held>,
     alloc: Global,
     path: &Path,
+    near: NodeKey,
 ) -> Result<NodeKey, AllocError>
     ensures key { IfOk result (λ key. get nodes.new.keys path.now ≡ Some key) }
     ensures held { IsSameHeld nodes.old.values nodes.new.values }
 {
-    if let Some(key) = nodes.visit(path) {
+    if let Some(key) = nodes.find_near(path, near) {
         return Ok(key);
     }
+    make(nodes, alloc, path)
+}
+
+// Makes the node at a path that has none, and those that are missing above. An error, where there is no memory for them, leaves
+// what was held.
+#[inline(never)]
+fn make(nodes: &mut PathTree<Held>, alloc: Global, path: &Path) -> Result<NodeKey, AllocError>
+    requires { get nodes.old.keys path.now ≡ None }
+    ensures key { IfOk result (λ key. get nodes.new.keys path.now ≡ Some key) }
+    ensures held { IsSameHeld nodes.old.values nodes.new.values }
+{
     let parent = nodes.find_parent(path);
     if parent.is_some() || path.is_root() {
         return put(nodes, alloc, path, parent);

@@ -22,6 +22,7 @@ impl<V: Drop> PathTree<V> {
     }
 
     /// The node at the path, if there is one. Takes no memory.
+    #[inline(always)]
     pub fn find(&self, path: &Path) -> Option<NodeKey>
         ensures { result ≡ get self.now.keys path.now }
     {
@@ -69,24 +70,20 @@ impl<V: Drop> PathTree<V> {
         node
     }
 
-    /// As `visit`. Where the path's node is the one with the key `near`, it is found by a comparison; any key may be given.
+    /// As `visit`, but where the path's node is the one with the key `near`: that is found by a comparison, as `find_near` finds
+    /// it again, and isn't remembered. Any key may be given.
     pub fn visit_near(&mut self, path: &Path, near: NodeKey) -> Option<NodeKey>
         ensures found { result ≡ get self.old.keys path.now }
         ensures same { self.new ≡ self.old }
     {
-        if self.last.is_of(path) {
-            return self.last.node;
+        if self.is_at(near, path) {
+            return Some(near);
         }
-        if !self.is_at(near, path) {
-            return self.visit_anew(path);
-        }
-        self.laws();
-        let parent = self.parent(near);
-        self.remember(path, Some(near), parent);
-        Some(near)
+        self.visit(path)
     }
 
     /// As `find`. Where the path's node is the one with the key `near`, it is found by a comparison; any key may be given.
+    #[inline(always)]
     pub fn find_near(&self, path: &Path, near: NodeKey) -> Option<NodeKey>
         ensures { result ≡ get self.now.keys path.now }
     {

@@ -4,8 +4,8 @@ use Rattle.std.proofs.lemmas.Option.{slice_get_past, slice_get_read}
 use Rattle.cg_locks.specs.FirstsAndOthers.{others_in, spot_of}
 use Rattle.cg_locks.specs.Holders.{all_holders}
 use Rattle.cg_locks.proofs.Others.{none_told, out_of_other, split_part}
-use Rattle.cg_locks.proofs.other_holders.take_least.Goals as goal
-use Rattle.cg_locks.proofs.other_holders.take_least.Goals.{After-remove-least, Then-place-len}
+use Rattle.cg_locks.proofs.other_holders.take_out_least.Goals as goal
+use Rattle.cg_locks.proofs.other_holders.take_out_least.Goals.{After-remove-least, Then-place-len}
 
 none : (c : Then-place-len) → others_in c.args.part c.args.others.now.items ≡ []
 none c =

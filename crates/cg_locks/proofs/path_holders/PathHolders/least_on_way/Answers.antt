@@ -5,7 +5,7 @@ use Rattle.cg_locks.specs.HeldByPath.{marked}
 use Rattle.cg_locks.specs.Holders.{number_of, IsLeastOther}
 use Rattle.cg_locks.proofs.Clashes.{least_from_deepest, least_of_none, least_with_node}
 use Rattle.cg_locks.proofs.Keys.{absent_value}
-use Rattle.cg_locks.proofs.path_holders.PathHolders.least_in_way.Goals as goal
+use Rattle.cg_locks.proofs.path_holders.PathHolders.least_on_way.Goals as goal
 
 pub returns-in-Some : goal.returns-in-Some
 returns-in-Some c =
