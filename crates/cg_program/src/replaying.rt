@@ -15,6 +15,7 @@ use crate::status::Status;
 use cg_lines::{LineReader, Sink, Source, write_all};
 use cg_script::{ScriptFault, read_world};
 use std::alloc::Global;
+use std::mem::forget;
 
 // The most records of a history.
 const LONGEST_HISTORY: u32 = 1_048_576;
@@ -22,7 +23,8 @@ const LONGEST_HISTORY: u32 = 1_048_576;
 /// Reads the world from `world` and plays a schedule over it: that of `schedule`, or what follows the world where there
 /// is none. What is written goes to `out`. The status is 0 when all is played, or 1 where a request was refused, as the playback
 /// tells it, and `is_strict` is set; 2 when the world isn't in its grammar; and 3 when memory, a source or the sink fails. For 2 and 3
-/// the refusal stands on a line in `err`.
+/// the refusal stands on a line in `err`. It is what a program does at last: where all is played, what the machine keeps isn't given
+/// back before the process ends.
 pub fn replay_to<B: Playback, W: Source, T: Source, O: Sink, E: Sink>(
     alloc: Global,
     playback: &B,
@@ -83,7 +85,12 @@ pub(crate) fn play_alone<B: Playback, W: Source, T: Source, O: Sink>(
     ensures writes { IsErrOf result faults.WriteFault → Failed (O.failed out.old) (O.failed out.new) }
 {
     match play(alloc, playback, world, schedule, out) {
-        Ok(played) => Ok(played.is_refused),
+        Ok(played) => {
+            let is_refused = played.is_refused;
+            // The program ends next, and all that the machine keeps goes with it: to give it back group by group takes longer.
+            forget(played);
+            Ok(is_refused)
+        }
         Err(fault) => Err(fault),
     }
 }
