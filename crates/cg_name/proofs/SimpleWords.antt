@@ -1,5 +1,5 @@
 -- Words of slashes and simple bytes, and the paths that they spell.
-use Rattle.std.proofs.Common.{◌≡◌, ◌≢◌, ◌⊎◌, ℕ, suc, ◌+◌, ◌-◌, ◌<◌, ◌≤◌, ◌==◌, ◌&&◌, ◌||◌, Bool, true, false, not, cond, List, [], ◌∷◌, ◌++◌, length, map, take, drop, get_or, replicate, inl, inr, refl, sym, ap, subst, ◌∙◌, arith, length-append, length-take}
+use Rattle.std.proofs.Common.{◌≡◌, ◌≢◌, ◌⊎◌, ℕ, suc, ◌+◌, ◌-◌, ◌<◌, ◌≤◌, ◌==◌, ◌&&◌, ◌||◌, Bool, true, false, not, bit_and, bit_or, cond, List, [], ◌∷◌, ◌++◌, length, map, take, drop, get_or, replicate, inl, inr, refl, sym, ap, subst, ◌∙◌, arith, length-append, length-take}
 use Rattle.std.proofs.lemmas.List.Sums.{count_by-le-length}
 use Rattle.std.proofs.lemmas.List.Splits.{length-slice_split}
 use Rattle.std.specs.List.{count_by, AllByRecursion, Contains, list_all, list_any, onto_first}
@@ -10,6 +10,7 @@ use Rattle.std.proofs.Math.ListN.{set, length-map}
 use Rattle.std.proofs.Math.Seq.{take-append_seam}
 use Rattle.std.proofs.lemmas.List.{drop_more, nil_from_length, length-replicate, get_or-set_same, drop_all, map-append, take_all, take_more}
 use Rattle.std.proofs.lemmas.List.Recursion.{and_at}
+use Rattle.std.proofs.lemmas.Nat.{le_or_l, le_or_r}
 use Rattle.std.proofs.lemmas.Str.{IsUtf8-from_ascii}
 use Rattle.std.proofs.lemmas.Str.Ascii.{IsAscii-nil, IsAscii-cons}
 use Rattle.cg_name.specs.Name.{IsName, IsNameByte, reserved_names}
@@ -144,7 +145,7 @@ bare_bytes w (b ∷ bs) h = elim (cases_Bool (is_simple_byte b)) [
       and_from (is_bare_byte b) (list_all is_bare_byte bs) (ap is_bare_byte slash) (bare_bytes true bs front.1)
 ]
 
--- ---- the loop
+-- ---- the loop over a short word
 
 -- what is kept for a byte behind another
 abbrev KeptFor : ℕ → ℕ → ℕ → Type 0
@@ -184,6 +185,18 @@ one_read text bytes i before kept all low few eb k h e =
     ∙ sym (read_on (get_or text i 0) before kept (drop (i + 1) text) k)
     ∙ (λ j. simple_text (eb j == 0) (sym (drop_more text i 0 low) j))
     ∙ e
+
+-- ---- the loop over a longer word
+
+-- where a byte is simple or a slash, and no slash behind another, what stands behind it decides
+tested_on : (b before other here behind : ℕ) (bs : List ℕ) → other ≡ cond (is_simple_byte b || is_slash b) 0 1 → here ≡ cond (is_slash b) 1 0 → behind ≡ cond (is_slash before) 1 0 → other ≡ 0 → bit_and here behind ≡ 0
+    → simple_text (is_slash before) (b ∷ bs) ≡ simple_text (is_slash b) bs
+tested_on b before other here behind bs eo eh eb o t = grind (arith, nat_tests)
+
+-- one byte more is tested: where all so far were such bytes, what is left decides
+pub one_tested : (text : List ℕ) (i others other here behind : ℕ) (all : Bool) → i < length text → other ≡ cond (is_simple_byte (get_or text i 0) || is_slash (get_or text i 0)) 0 1 → here ≡ cond (is_slash (get_or text i 0)) 1 0 → behind ≡ cond (is_slash (get_or text (i - 1) 0)) 1 0
+    → (others ≡ 0 → simple_text (is_slash (get_or text (i - 1) 0)) (drop i text) ≡ all) → bit_or others (bit_or other (bit_and here behind)) ≡ 0 → simple_text (is_slash (get_or text (i + 1 - 1) 0)) (drop (i + 1) text) ≡ all
+one_tested text i others other here behind all low eo eh eb tested none = grind (arith, tested_on, le_or_l, le_or_r, drop_more {X = ℕ})
 
 -- ---- the path
 

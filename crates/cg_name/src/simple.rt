@@ -1,5 +1,5 @@
 // Words of paths that are read in one pass: slashes and, behind each, letters, digits and other simple bytes.
-ghost use Rattle.std.specs.Prelude.{◌≡◌, ◌≢◌, ◌⊎◌, IfSome, IsTrue, true};
+ghost use Rattle.std.specs.Prelude.{◌≡◌, ◌≢◌, ◌⊎◌, ◌==◌, ◌||◌, cond, IfSome, IsTrue, true};
 ghost use Rattle.std.specs.List.{list_all};
 ghost use Rattle.cg_name.specs.Path.{IsPath};
 ghost use Rattle.cg_name.specs.Simple.{is_simple_byte};
@@ -35,19 +35,37 @@ pub(crate) fn kept_byte(byte: u8, before: u8) -> Option<u8>
 pub(crate) fn is_simple(text: &[u8]) -> bool
     ensures { IsTrue result → IsPath (pieces text.now) × (list_all is_bare_byte text.now ≡ true) }
 {
-    if text.len() > LONGEST {
+    let (Some(first), Some(last)) = (text.first(), text.last()) else {
+        return false;
+    };
+    if text.len() > LONGEST || *first == b'/' || *last == b'/' {
         return false;
     }
-    let mut before = 0;
+    // With no way out of the loop, many bytes are tested at a time.
+    let mut others = other(*first);
     let mut slashes = 0;
-    for byte in text {
-        match kept_byte(*byte, before) {
-            Some(kept) => before = kept,
-            None => return false,
-        }
-        if before == 0 {
-            slashes += 1;
-        }
+    for i in 1..text.len() {
+        let here = slash(text[i]);
+        others |= other(text[i]) | (here & slash(text[i - 1]));
+        slashes += here;
     }
-    before != 0 && slashes < MAX_DEPTH
+    others == 0 && u32::from(slashes) < MAX_DEPTH
+}
+
+// 1 for a byte that is neither simple nor a slash, and 0 for each other byte.
+fn other(byte: u8) -> u8
+    ensures { result ≡ cond (is_simple_byte byte || (byte == 47)) 0 1 }
+{
+    if byte < b'-' || byte == b'.' || byte == b'\\' || byte > 127 {
+        1
+    } else {
+        0
+    }
+}
+
+// 1 for a slash, and 0 for each other byte.
+fn slash(byte: u8) -> u8
+    ensures { result ≡ cond (byte == 47) 1 0 }
+{
+    if byte == b'/' { 1 } else { 0 }
 }
