@@ -3,6 +3,7 @@
 
 mod answering;
 mod player;
+mod recent;
 mod schedule;
 
 pub use answering::{Answerer, answer_lines};

@@ -22,6 +22,7 @@ ghost use Rattle.cg_script.specs.Request.{newline, SpellsCall, SpellsRequest};
 ghost use Rattle.cg_script.specs.Turns.{session_number, with_name};
 
 use crate::answering::Answerer;
+use crate::recent::Recent;
 use cg_core::{Answer, Core, Request, SessionId};
 use cg_lines::{Sink, write_all};
 use cg_name::{Refusal, or_truncate};
@@ -40,8 +41,8 @@ const MOST_NAMES: usize = 4_096;
 pub struct Player {
     names: IndexSet<SessionName>,
     core: Core,
-    // The place among the names of the one that was asked for last, if there is one.
-    last: usize,
+    // Where names were found last: that tells nothing but where to look first.
+    recent: Recent,
 }
 
 // By hand, so that whoever drops one calls this, and doesn't drop each thing in it: that makes proofs shorter.
@@ -50,7 +51,7 @@ impl Drop for Player {
         let Player {
             names: _,
             core: _,
-            last: _,
+            recent: _,
         } = self;
     }
 }
@@ -80,7 +81,7 @@ impl Player {
         Ok(Player {
             names: IndexSet::new(alloc),
             core: Core::open(alloc, world, limit)?,
-            last: 0,
+            recent: Recent::new(),
         })
     }
 
@@ -175,13 +176,13 @@ impl Player {
         let Player {
             names: _,
             core,
-            last: _,
+            recent: _,
         } = self;
         core
     }
 
-    // The session whose name the word spells, as `session` gives it; `Syntax` where it spells none. The session of the line before
-    // is told by the word, before that is read.
+    // The session whose name the word spells, as `session` gives it; `Syntax` where it spells none. One that was asked for before
+    // is told by the word, as a rule, before that is read.
     #[inline(always)]
     fn session_called(&mut self, word: &str) -> Result<Option<SessionId>, Refusal>
         ensures valid { OnOk result (IsSaveName word.now) }
@@ -190,8 +191,9 @@ impl Player {
         ensures syntax { IsErrOf result Syntax → ¬ (IsSaveName word.now) }
         ensures err { OnErr result (self.new ≡ self.old) }
     {
-        if is_at(&self.names, self.last, word.as_bytes()) {
-            return Ok(Some(SessionId(self.last as u32 + 1)));
+        let place = self.recent.get(word.as_bytes());
+        if is_at(&self.names, place, word.as_bytes()) {
+            return Ok(Some(SessionId(place as u32 + 1)));
         }
         let name = SessionName::read(word)?;
         Ok(self.session_anew(name)?)
@@ -205,8 +207,9 @@ impl Player {
         ensures names { IfOk result (λ s. MatchOption s (self.new ≡ self.old) (λ _. self.new ≡ record self.old { names = with_name self.old.names name })) }
         ensures memory { OnErr result (self.new ≡ self.old) }
     {
-        if is_at(&self.names, self.last, name.as_bytes()) {
-            return Ok(Some(SessionId(self.last as u32 + 1)));
+        let place = self.recent.get(name.as_bytes());
+        if is_at(&self.names, place, name.as_bytes()) {
+            return Ok(Some(SessionId(place as u32 + 1)));
         }
         self.session_anew(name)
     }
@@ -219,7 +222,7 @@ impl Player {
         ensures memory { OnErr result (self.new ≡ self.old) }
     {
         if let Some(index) = self.names.get_index_of(&name) {
-            self.last = index;
+            self.recent.note(name.as_bytes(), index);
             return Ok(Some(SessionId(index as u32 + 1)));
         }
         let count = self.names.len();
@@ -227,7 +230,7 @@ impl Player {
             return Ok(None);
         }
         self.names.insert(name)?;
-        self.last = count;
+        self.recent.note(name.as_bytes(), count);
         Ok(Some(SessionId(count as u32 + 1)))
     }
 
@@ -387,6 +390,7 @@ fn is_at(names: &IndexSet<SessionName>, place: usize, name: &[u8]) -> bool
 }
 
 // Appends the line of an answer. An error leaves `out` as it was.
+#[inline(always)]
 fn end_line(answer: &Answer, out: &mut Vec<u8>) -> Result<(), AllocError>
     ensures ok { OnOk result (out.new.items ≡ out.old.items ++ (answer_text (answer_of answer.now) ++ newline)) }
     ensures err { OnErr result (out.new.items ≡ out.old.items) }
