@@ -131,6 +131,7 @@ impl CommitHistory {
     }
 
     /// Reserves so many slots more. An error, where there is no memory for them, leaves the history as it was.
+    #[inline(always)]
     pub fn reserve(&mut self, more: usize) -> Result<(), AllocError>
         requires { length self.old.0 + (self.old.1 + more) < 2 ^ 32 }
         ensures ok { OnOk result (self.new ≡ (self.old.0, self.old.1 + more)) }

@@ -196,6 +196,7 @@ impl Core {
 
     /// Answers a request of a session. `Refused(Memory)` comes to Begin, commands and Save alone, in place of an answer that would
     /// be recorded, and leaves all as it was. So what has no record, as `AlreadyOpen`, `Full` and `NameTaken`, is always answered.
+    #[inline(always)]
     pub fn step(&mut self, alloc: Global, session: SessionId, request: Request) -> Answer
         ensures answer { OnFalse (is_memory result) (answer_of result ≡ reply self.old session.0 (request_of request)) }
         ensures state { OnFalse (is_memory result) (self.new ≡ after self.old session.0 (request_of request)) }

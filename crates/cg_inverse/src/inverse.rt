@@ -86,6 +86,7 @@ impl Inverse {
 
     /// Puts every key back to its value before, the last one first. It always succeeds, takes no memory, and takes no room
     /// away.
+    #[inline(always)]
     pub fn undo(self, tree: &mut Tree)
         requires fits { Fits self tree.old.tree }
         requires room { RoomFor (has_entry tree.old) self }

@@ -171,6 +171,7 @@ fn of_change(alloc: Global, path: &Path) -> Result<Footprint, AllocError>
 }
 
 // That of a command which makes a group or takes one away: it changes the number of descendants of each group above.
+#[inline(always)]
 fn with_counts(alloc: Global, path: &Path, tree: &Tree) -> Result<Footprint, AllocError>
     ensures { IfOk result (λ f. f ≡ model.X path.now ∷ counts tree.now.tree path.now) }
 {

@@ -107,6 +107,7 @@ impl PathHolders {
     }
 
     // The least other transaction that holds what clashes with the mark of this kind at the path.
+    #[inline(always)]
     pub(crate) fn least_in_way(
         &self,
         kind: Kind,

@@ -62,6 +62,7 @@ impl LastFound {
     }
 
     // The same for a path that has no node, where it isn't remembered already.
+    #[inline(always)]
     pub(crate) fn turn_to(
         &mut self,
         alloc: Global,

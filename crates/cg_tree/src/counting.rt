@@ -149,6 +149,7 @@ fn put_group(nodes: &mut PathTree<Entry>, key: NodeKey, settings: &mut Option<Co
 
 // Puts the settings at the node, and leaves those before in their place: where a group comes or goes, it is counted above, and
 // where what it passes on changes, at its parent.
+#[inline(always)]
 pub(crate) fn put(nodes: &mut PathTree<Entry>, key: NodeKey, settings: &mut Option<CompactSettings>)
     requires key { IsKey nodes.old.keys key }
     requires counted { AreCounted nodes.old.values }

@@ -9,6 +9,7 @@ use cg_name::Path;
 use cg_path_tree::PathTree;
 
 // What is at the path, if there is a node.
+#[inline(always)]
 pub(crate) fn entry<'a>(nodes: &'a PathTree<Entry>, path: &Path) -> Option<&'a Entry>
     ensures { option_copied result ≡ get nodes.now.values path.now }
 {

@@ -231,6 +231,7 @@ impl Tree {
 
     /// Where the path's text is long and it has an entry, it shares the text of that from now on, and lets go of its own: so what
     /// is kept of many commands keeps each path once. It stays the same path. Takes no memory.
+    #[inline(always)]
     pub fn share(&self, alloc: Global, path: &mut Path)
         ensures { path.new ≡ path.old }
     {

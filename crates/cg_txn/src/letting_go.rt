@@ -9,6 +9,7 @@ use cg_tree::Tree;
 
 // Lets go of the footprint of one command of the transaction, and of the dead entry that it kept, where no other command of
 // the transaction keeps it.
+#[inline(always)]
 pub(crate) fn let_go(
     tree: &mut Tree,
     locks: &mut LockTable,
@@ -34,6 +35,7 @@ pub(crate) fn let_go(
 }
 
 // Takes one command of the transaction off: what it changed is put back, and what it holds is let go.
+#[inline(always)]
 pub(crate) fn take_off(tree: &mut Tree, locks: &mut LockTable, number: TxnNumber, entry: Entry)
     requires { MayComeOff number.0 entry.inverse entry.footprint tree.old locks.old }
     ensures { ComesOff number.0 entry.inverse entry.footprint tree.old locks.old tree.new locks.new }
