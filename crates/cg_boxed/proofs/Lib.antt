@@ -1,1 +1,3 @@
 pub mod Deciding
+pub mod Kept
+pub mod Limits

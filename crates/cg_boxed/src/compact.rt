@@ -4,19 +4,24 @@ ghost use Rattle.cg_maps.specs.FiniteSet.{is_empty_set};
 ghost use Rattle.cg_text.specs.Settings.{fresh};
 
 use crate::cpus::BoxedCpus;
+use crate::limit::KeptLimit;
 use cg_text::{Controllers, Limit, Settings};
 use std::alloc::{AllocError, Global};
 use std::marker::Model;
 use std::mem::replace;
 
-/// What the interface files of one group hold. The CPUs that it asks for have memory of their own, where there are any.
+/// What the interface files of one group hold. The CPUs that it asks for have memory of their own only where one is 64 or
+/// more.
 pub struct CompactSettings {
     control: Controllers,
     freeze: bool,
-    max_descendants: Limit,
-    max_depth: Limit,
+    max_descendants: KeptLimit,
+    max_depth: KeptLimit,
     cpus: BoxedCpus,
 }
+
+// It stands in each group.
+const _: () = prove!(size_of::<CompactSettings>() == 40);
 
 // By hand, so that whoever drops one calls this, and doesn't drop each thing in it: that makes proofs shorter.
 impl Drop for CompactSettings {
@@ -51,8 +56,8 @@ impl PartialEq for CompactSettings {
         self.control == other.control
             && self.freeze == other.freeze
             && self.cpus == other.cpus
-            && self.max_descendants == other.max_descendants
-            && self.max_depth == other.max_depth
+            && self.max_descendants.get() == other.max_descendants.get()
+            && self.max_depth.get() == other.max_depth.get()
     }
 }
 
@@ -64,8 +69,8 @@ impl CompactSettings {
         CompactSettings {
             control: Controllers::empty(),
             freeze: false,
-            max_descendants: Limit::Max,
-            max_depth: Limit::Max,
+            max_descendants: KeptLimit::new(Limit::Max),
+            max_depth: KeptLimit::new(Limit::Max),
             cpus: BoxedCpus::empty(),
         }
     }
@@ -78,8 +83,8 @@ impl CompactSettings {
         Ok(CompactSettings {
             control: settings.control,
             freeze: settings.freeze,
-            max_descendants: settings.max_descendants,
-            max_depth: settings.max_depth,
+            max_descendants: KeptLimit::new(settings.max_descendants),
+            max_depth: KeptLimit::new(settings.max_depth),
             cpus: BoxedCpus::new(alloc, settings.cpus)?,
         })
     }
@@ -92,8 +97,8 @@ impl CompactSettings {
             control: self.control,
             freeze: self.freeze,
             cpus: self.cpus.get(),
-            max_descendants: self.max_descendants,
-            max_depth: self.max_depth,
+            max_descendants: self.max_descendants.get(),
+            max_depth: self.max_depth.get(),
         }
     }
 
@@ -136,14 +141,14 @@ impl CompactSettings {
     pub fn max_descendants(&self) -> Limit
         ensures { result ≡ self.now.max_descendants }
     {
-        self.max_descendants
+        self.max_descendants.get()
     }
 
     /// `cgroup.max.depth`.
     pub fn max_depth(&self) -> Limit
         ensures { result ≡ self.now.max_depth }
     {
-        self.max_depth
+        self.max_depth.get()
     }
 
     /// Writes `cgroup.subtree_control`.
@@ -172,13 +177,13 @@ impl CompactSettings {
     pub fn set_max_descendants(&mut self, value: Limit)
         ensures { self.new ≡ record self.old { max_descendants = value } }
     {
-        self.max_descendants = value;
+        self.max_descendants = KeptLimit::new(value);
     }
 
     /// Writes `cgroup.max.depth`.
     pub fn set_max_depth(&mut self, value: Limit)
         ensures { self.new ≡ record self.old { max_depth = value } }
     {
-        self.max_depth = value;
+        self.max_depth = KeptLimit::new(value);
     }
 }

@@ -10,30 +10,41 @@ use std::alloc::{AllocError, Global};
 use std::marker::Model;
 use std::sync::Arc;
 
-/// A set of CPU numbers, each from 0 to 1,023. The empty set takes no memory, and another one shares its with its copies.
+/// A set of CPU numbers, each from 0 to 1,023. A set of numbers below 64 takes no memory, and another one shares its with
+/// its copies.
 #[derive(Debug)]
 pub struct BoxedCpus {
-    // None of the empty set, and of no other.
-    set: Option<Arc<CpuSet, Global>>,
+    kept: Kept,
+}
+
+// It stands in each group, and in many a command.
+const _: () = prove!(size_of::<BoxedCpus>() == 16);
+
+#[derive(Debug, Drop)]
+enum Kept {
+    // Numbers below 64, as the bits of a word. So is the empty set kept.
+    Low(u64),
+    // A set that has others.
+    Wide(Arc<CpuSet, Global>),
 }
 
 // By hand, so that whoever drops one calls this, and doesn't drop each thing in it: that makes proofs shorter.
 impl Drop for BoxedCpus {
     fn drop(self) {
-        let BoxedCpus { set: _ } = self;
+        let BoxedCpus { kept: _ } = self;
     }
 }
 
 impl Model for BoxedCpus {
-    ghost use Rattle.std.specs.Prelude.{◌≡◌, IfSome, false};
-    ghost use Rattle.std.specs.Option.{option_map_or};
-    ghost use Rattle.cg_maps.specs.FiniteSet.{FiniteSet, is_empty_set, no_members};
+    ghost use Rattle.cg_maps.specs.FiniteSet.{FiniteSet};
 
     ghost Value = { FiniteSet };
 
-    ghost view = { λ b. option_map_or (λ x. x.value) b.set no_members };
+    ghost use Rattle.cg_boxed.specs.Kept.{set_kept, IsKept};
 
-    ghost invariant = { λ b. IfSome b.set (λ x. is_empty_set x.value ≡ false) };
+    ghost view = { λ b. set_kept b.kept };
+
+    ghost invariant = { λ b. IsKept b.kept };
 }
 
 impl PartialEq for BoxedCpus {
@@ -42,7 +53,12 @@ impl PartialEq for BoxedCpus {
     ghost laws = { Prim.search (comparing, rules) };
 
     fn eq(&self, other: &BoxedCpus) -> bool {
-        self.get() == other.get()
+        match (&self.kept, &other.kept) {
+            (Kept::Low(left), Kept::Low(right)) => left == right,
+            (Kept::Wide(left), Kept::Wide(right)) => **left == **right,
+            (Kept::Low(_), Kept::Wide(_)) => false,
+            (Kept::Wide(_), Kept::Low(_)) => false,
+        }
     }
 }
 
@@ -55,29 +71,29 @@ impl BoxedCpus {
     pub fn empty() -> BoxedCpus
         ensures { result ≡ no_members }
     {
-        BoxedCpus { set: None }
+        BoxedCpus { kept: Kept::Low(0) }
     }
 
-    /// That set; an error where there is no memory for it. The empty set takes none.
+    /// That set; an error where there is no memory for it. A set of numbers below 64 takes none, and so the empty one.
     pub fn new(alloc: Global, cpus: CpuSet) -> Result<BoxedCpus, AllocError>
         ensures value { IfOk result (λ b. b ≡ cpus) }
         ensures empty { is_empty_set cpus ≡ true → IsOk result }
+        ensures low { ((n : ℕ) → IsTrue (has cpus n) → n < 64) → IsOk result }
     {
-        if cpus.is_empty() {
-            return Ok(BoxedCpus::empty());
-        }
-        Ok(BoxedCpus {
-            set: Some(Arc::new(alloc, cpus)?),
-        })
+        let kept = match cpus.low() {
+            Some(word) => Kept::Low(word),
+            None => Kept::Wide(Arc::new(alloc, cpus)?),
+        };
+        Ok(BoxedCpus { kept })
     }
 
     /// The set.
     pub fn get(&self) -> CpuSet
         ensures { result ≡ self.now }
     {
-        match &self.set {
-            Some(set) => **set,
-            None => CpuSet::empty(),
+        match &self.kept {
+            Kept::Low(word) => CpuSet::from_low(*word),
+            Kept::Wide(set) => **set,
         }
     }
 
@@ -85,9 +101,9 @@ impl BoxedCpus {
     pub fn is_empty(&self) -> bool
         ensures { result ≡ is_empty_set self.now }
     {
-        match &self.set {
-            Some(_) => false,
-            None => true,
+        match &self.kept {
+            Kept::Low(word) => *word == 0,
+            Kept::Wide(_) => false,
         }
     }
 
@@ -96,9 +112,9 @@ impl BoxedCpus {
         ensures member { result ≡ has self.now cpu }
         ensures below { (n : ℕ) → IsTrue (has self.now n) → n < 1024 }
     {
-        match &self.set {
-            Some(set) => set.contains(cpu),
-            None => CpuSet::empty().contains(cpu),
+        match &self.kept {
+            Kept::Low(word) => cpu < 64 && *word >> cpu & 1 == 1,
+            Kept::Wide(set) => set.contains(cpu),
         }
     }
 
@@ -106,22 +122,23 @@ impl BoxedCpus {
     pub fn intersect(&self, other: CpuSet) -> CpuSet
         ensures { result ≡ in_common self.now other }
     {
-        match &self.set {
-            Some(set) => set.intersect(other),
-            None => CpuSet::empty().intersect(other),
+        match &self.kept {
+            Kept::Low(word) => other.intersect_low(*word),
+            Kept::Wide(set) => set.intersect(other),
         }
     }
 
-    /// An equal set, which takes no memory. An error where too many share it, which are never those of the empty set.
+    /// An equal set, which takes no memory. An error where too many share it, which are never those of a set of numbers
+    /// below 64, and so of the empty one.
     pub fn copy(&self, _alloc: Global) -> Result<BoxedCpus, AllocError>
         ensures value { IfOk result (λ b. b ≡ self.now) }
         ensures empty { is_empty_set self.now ≡ true → IsOk result }
+        ensures low { ((n : ℕ) → IsTrue (has self.now n) → n < 64) → IsOk result }
     {
-        match &self.set {
-            Some(set) => Ok(BoxedCpus {
-                set: Some(set.clone()?),
-            }),
-            None => Ok(BoxedCpus::empty()),
-        }
+        let kept = match &self.kept {
+            Kept::Low(word) => Kept::Low(*word),
+            Kept::Wide(set) => Kept::Wide(set.clone()?),
+        };
+        Ok(BoxedCpus { kept })
     }
 }

@@ -3,6 +3,7 @@
 
 mod compact;
 mod cpus;
+mod limit;
 mod settings;
 
 pub use compact::CompactSettings;

@@ -14,12 +14,12 @@ use Rattle.cg_maps.proofs.Sets.{same_set, has-no_members, has-with_member, empty
 use Rattle.cg_cpus.specs.Words.{has_bit, set_in, AreWords, word_of_bits, words_of}
 use Rattle.cg_cpus.specs.WordsBack.{has-set_in, words_back}
 
-all_zero : (xs : List ℕ) → AllByRecursion (λ x. x ≡ 0) xs → (k : ℕ) → get_or xs k 0 ≡ 0
+pub all_zero : (xs : List ℕ) → AllByRecursion (λ x. x ≡ 0) xs → (k : ℕ) → get_or xs k 0 ≡ 0
 all_zero [] h k = refl
 all_zero (x ∷ xs) h zero = h.0
 all_zero (x ∷ xs) h (suc k) = all_zero xs h.1 k
 
-and_false : (b : Bool) → (b && false) ≡ false
+pub and_false : (b : Bool) → (b && false) ≡ false
 and_false true = refl
 and_false false = refl
 
@@ -127,14 +127,14 @@ no_word : list_all (λ w. w == 0) (words_of no_members) ≡ true
 unfolding words_of word_of_bits empty get
 no_word = refl
 
-all_zeros : (xs : List ℕ) → list_all (λ w. w == 0) xs ≡ true → AllByRecursion (λ x. x ≡ 0) xs
+pub all_zeros : (xs : List ℕ) → list_all (λ w. w == 0) xs ≡ true → AllByRecursion (λ x. x ≡ 0) xs
 all_zeros [] h = tt
 all_zeros (x ∷ xs) h = (is_zero (and_parts (x == 0) _ h).0, all_zeros xs (and_parts (x == 0) _ h).1)
   where
     is_zero : {x : ℕ} → (x == 0) ≡ true → x ≡ 0
     is_zero e = grind (arith, nat_tests)
 
-none : is_empty_set no_members ≡ true
+pub none : is_empty_set no_members ≡ true
 unfolding members keys empty
 none = refl
 

@@ -14,7 +14,7 @@ use Rattle.cg_cpus.specs.WordsBack.{has-set_in}
 abbrev pub AreCommon : List ℕ → List ℕ → List ℕ → Type 0
 AreCommon ws us vs = (k : ℕ) → k < 16 → get_or ws k 0 ≡ bit_and (get_or us k 0) (get_or vs k 0)
 
-both_bits : (a b : ℕ) → a < 2 → b < 2 → (min a b == 1) ≡ ((a == 1) && (b == 1))
+pub both_bits : (a b : ℕ) → a < 2 → b < 2 → (min a b == 1) ≡ ((a == 1) && (b == 1))
 both_bits a b l m = grind (arith, nat_tests)
 
 share : (l a b : Bool) → (l && (a && b)) ≡ ((l && a) && (l && b))

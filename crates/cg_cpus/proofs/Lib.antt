@@ -9,3 +9,4 @@ pub mod Writing
 pub mod Canonical
 pub mod Equal
 pub mod Intersection
+pub mod Low

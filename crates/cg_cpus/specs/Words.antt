@@ -12,6 +12,10 @@ has_bit words n = bit_at (slice_index words (n / 64)) (n % 64) == 1
 unfoldable pub set_in : List ℕ → FiniteSet
 set_in words = such_that_below 1024 (has_bit words)
 
+-- the numbers below 64 whose bits are set
+unfoldable pub low_set : ℕ → FiniteSet
+low_set word = such_that_below 64 (λ n. bit_at word n == 1)
+
 -- sixteen words of 64 bits
 pub record AreWords (words : List ℕ) : Type 0 where
   pub count : length words ≡ 16

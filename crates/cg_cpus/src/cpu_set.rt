@@ -10,6 +10,7 @@ ghost use Rattle.cg_name.specs.declared.refusal.Refusal.TheVariants.{Syntax};
 ghost use Rattle.cg_cpus.specs.Ascending.{runs_from};
 ghost use Rattle.cg_name.specs.Reads.{Reads};
 ghost use Rattle.cg_cpus.specs.CpuList.{cpus_text, SpellsCpus};
+ghost use Rattle.cg_cpus.specs.Words.{low_set};
 
 use crate::list;
 use cg_name::{Refusal, or_truncate};
@@ -86,6 +87,27 @@ impl CpuSet {
         CpuSet { words: [0; 16] }
     }
 
+    /// The set of the numbers below 64 whose bits the word has.
+    pub fn from_low(word: u64) -> CpuSet
+        ensures { result ≡ low_set word }
+    {
+        let mut words = [0; 16];
+        words[0] = word;
+        CpuSet { words }
+    }
+
+    /// The word whose bits are the set's numbers; `None` where one of them is 64 or more.
+    pub fn low(&self) -> Option<u64>
+        ensures value { IfSome result (λ word. self.now ≡ low_set word) }
+        ensures none { IfNone result ((n : ℕ) × IsTrue (has self.now n) × (64 ≤ n)) }
+    {
+        if self.words[1..].iter().all(|word| *word == 0) {
+            Some(self.words[0])
+        } else {
+            None
+        }
+    }
+
     /// Whether the number is in the set; no number from 1,024 on is.
     pub fn contains(&self, cpu: u16) -> bool
         ensures member { result ≡ has self.now cpu }
@@ -148,6 +170,13 @@ impl CpuSet {
             words[i] &= other.words[i];
         }
         CpuSet { words }
+    }
+
+    /// What is in this set of the numbers below 64 whose bits the word has.
+    pub fn intersect_low(&self, word: u64) -> CpuSet
+        ensures { result ≡ in_common (low_set word) self.now }
+    {
+        CpuSet::from_low(word & self.words[0])
     }
 
     // The first number from `from` on that is in the set, or that isn't; 1,024 where none is.

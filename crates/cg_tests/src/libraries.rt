@@ -2,6 +2,7 @@
 mod asked;
 mod checks;
 mod commands;
+mod cpu_sets;
 mod cutting;
 mod derived;
 mod devices;

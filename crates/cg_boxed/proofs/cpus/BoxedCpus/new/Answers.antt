@@ -1,7 +1,7 @@
--- A set that has no number is the empty one.
-use Rattle.std.proofs.Common.{sym, ◌∙◌}
-use Rattle.cg_maps.proofs.Sets.{empty_set-is}
+-- A set with a number from 64 on isn't empty.
+use Rattle.std.proofs.Common.{sym, ◌∙◌, true≢false}
+use Rattle.cg_boxed.proofs.Kept.{not_empty}
 use Rattle.cg_boxed.proofs.cpus.BoxedCpus.new.Goals as goal
 
-pub returns-then-is_empty-clause-value : goal.returns-then-is_empty-clause-value
-returns-then-is_empty-clause-value c = c.empty.ensures ∙ sym (empty_set-is c.args.cpus (sym c.is_empty.ensures ∙ c.if-is_empty.true))
+pub returns-in_err-new-in-None-clause-empty : goal.returns-in_err-new-in-None-clause-empty
+returns-in_err-new-in-None-clause-empty c = λ empty. absurd (true≢false (sym empty ∙ not_empty c.args.cpus c.in-None.ensures.none))

@@ -1,0 +1,3 @@
+pub mod Kept
+pub mod Limits
+pub mod LimitsBack
