@@ -13,7 +13,7 @@ use Rattle.cg_tree.specs.Room.{TreeWithRoom, has_entry, with_entry}
 
 abbrev pub outcome_of : rust.Outcome → Outcome
 outcome_of outcomes.Done = Done
-outcome_of (outcomes.Text text) = Text text.items
+outcome_of (outcomes.Text text) = Text text
 
 -- the entries after an accepted command: those before, and that of a group that it makes
 abbrev pub entries_after : Command → FiniteMap path_cmp (Unit {0}) → FiniteMap path_cmp (Unit {0})

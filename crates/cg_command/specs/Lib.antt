@@ -1,4 +1,6 @@
 pub mod Applied
+pub mod CompactFields
+pub mod CompactOps
 pub mod Meaning
 pub mod OnlineCpus
 pub mod Pid

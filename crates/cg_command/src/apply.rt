@@ -4,6 +4,7 @@ ghost use Rattle.cg_model.specs.Command as model;
 ghost use Rattle.cg_model.specs.Command.{IsAccepted};
 ghost use Rattle.cg_model.specs.Effect.{effect};
 
+use crate::boxed_text::BoxedText;
 use crate::command::Outcome;
 use cg_boxed::{BoxedCpus, BoxedSettings, CompactSettings};
 use cg_inverse::{Change, Inverse};
@@ -213,7 +214,10 @@ pub(crate) fn show(
     ensures { IsCarriedOut (model.Show path.now file) tree.now result tree.now }
 {
     match cg_derive::file(alloc, tree, path, file) {
-        Ok(text) => Ok((Outcome::Text(text), Inverse::new(alloc))),
+        Ok(text) => {
+            let text = BoxedText::new(alloc, text.as_slice())?;
+            Ok((Outcome::Text(text), Inverse::new(alloc)))
+        }
         // Not reached but for memory: the file of an accepted command is there.
         Err(_) => Err(AllocError),
     }

@@ -13,17 +13,19 @@ ghost use Rattle.cg_tree.specs.Room.{has_entry};
 
 use crate::apply;
 use crate::apply::{create, freeze, max_depth, max_descendants, migrate, online, remove, show};
+use crate::boxed_text::BoxedText;
 use crate::checks::{
     check_cpus, check_create, check_freeze, check_limit, check_migrate, check_remove, check_show,
     check_subtree,
 };
+use crate::compact_ops::CompactOps;
 use crate::online_cpus::OnlineCpus;
 use crate::pid::Pid;
+use crate::shared_cpus::SharedCpus;
 use crate::subtree::subtree;
-use cg_boxed::BoxedCpus;
 use cg_inverse::Inverse;
 use cg_name::{Path, Refusal};
-use cg_text::{ControlOps, FileName, Limit};
+use cg_text::{FileName, Limit};
 use cg_tree::Tree;
 use std::alloc::{AllocError, Global};
 
@@ -52,7 +54,7 @@ pub enum Command {
         /// The group.
         path: Path,
         /// The controllers to be enabled and disabled for its children.
-        ops: ControlOps,
+        ops: CompactOps,
     },
     /// Writes `cgroup.freeze`.
     Freeze {
@@ -66,7 +68,7 @@ pub enum Command {
         /// The group.
         path: Path,
         /// The CPUs that it asks for.
-        cpus: BoxedCpus,
+        cpus: SharedCpus,
     },
     /// Reads an interface file.
     Show {
@@ -96,6 +98,9 @@ pub enum Command {
     },
 }
 
+// It stands in each record of a history, and is handed on with each line.
+const _: () = prove!(size_of::<Command>() == 32);
+
 // By hand, so that whoever drops one calls this, and doesn't drop each thing in it: that makes proofs shorter.
 impl Drop for Command {
     fn drop(self) {
@@ -120,7 +125,7 @@ pub enum Outcome {
     /// It is done.
     Done,
     /// The text of the file that was asked for.
-    Text(Vec<u8>),
+    Text(BoxedText),
 }
 
 impl Command {
@@ -149,7 +154,7 @@ impl Command {
             },
             Command::Cpus { path, cpus } => Command::Cpus {
                 path: path.copy(alloc)?,
-                cpus: cpus.copy(alloc)?,
+                cpus: cpus.copy()?,
             },
             Command::Show { path, file } => Command::Show {
                 path: path.copy(alloc)?,
@@ -216,7 +221,7 @@ impl Command {
             Command::Create { path } => check_create(path, tree),
             Command::Remove { path } => check_remove(path, tree),
             Command::Migrate { pid, path } => check_migrate(pid.number, path, tree),
-            Command::Subtree { path, ops } => check_subtree(path, *ops, tree),
+            Command::Subtree { path, ops } => check_subtree(path, ops.get(), tree),
             Command::Freeze { path, .. } => check_freeze(path, tree),
             Command::Cpus { path, .. } => check_cpus(path, tree),
             Command::Show { path, file } => check_show(path, *file, tree),
@@ -252,9 +257,9 @@ impl Command {
             Command::Create { path } => create(path, alloc, tree),
             Command::Remove { path } => remove(path, alloc, tree),
             Command::Migrate { pid, path } => migrate(pid.number, path, alloc, tree),
-            Command::Subtree { path, ops } => subtree(path, *ops, alloc, tree),
+            Command::Subtree { path, ops } => subtree(path, ops.get(), alloc, tree),
             Command::Freeze { path, value } => freeze(path, *value, alloc, tree),
-            Command::Cpus { path, cpus } => apply::cpus(path, cpus, alloc, tree),
+            Command::Cpus { path, cpus } => apply::cpus(path, cpus.boxed(), alloc, tree),
             Command::Show { path, file } => show(path, *file, alloc, tree),
             Command::Online { cpus } => online(&cpus.cpus, alloc, tree),
             Command::MaxDescendants { path, limit } => max_descendants(path, *limit, alloc, tree),

@@ -2,13 +2,19 @@
 #![tactic(auto)]
 
 mod apply;
+mod boxed_text;
 mod checks;
 mod command;
+mod compact_ops;
 mod limits;
 mod online_cpus;
 mod pid;
+mod shared_cpus;
 mod subtree;
 
+pub use boxed_text::BoxedText;
 pub use command::{Command, Outcome};
+pub use compact_ops::CompactOps;
 pub use online_cpus::OnlineCpus;
 pub use pid::Pid;
+pub use shared_cpus::SharedCpus;

@@ -18,7 +18,7 @@ ghost use Rattle.cg_command_text.specs.Read.{ReadsCommand};
 
 use crate::keyword::is_keyword;
 use cg_boxed::BoxedCpus;
-use cg_command::{Command, OnlineCpus, Pid};
+use cg_command::{Command, CompactOps, OnlineCpus, Pid, SharedCpus};
 use cg_cpus::CpuSet;
 use cg_name::{Controller, Path, Refusal};
 use cg_text::{ControlOps, FileName, read_flag, read_limit, read_pid};
@@ -112,7 +112,7 @@ fn read_subtree(alloc: Global, words: &[&str]) -> Result<Command, Refusal>
 {
     match words {
         [path, ops @ ..] => Ok(Command::Subtree {
-            ops: read_op_words(ops)?,
+            ops: CompactOps::new(read_op_words(ops)?),
             path: Path::read(alloc, path)?,
         }),
         _ => Err(Refusal::Syntax),
@@ -138,7 +138,7 @@ fn read_cpus(alloc: Global, words: &[&str]) -> Result<Command, Refusal>
 {
     match words {
         [path, list @ ..] => Ok(Command::Cpus {
-            cpus: BoxedCpus::new(alloc, read_cpu_words(list)?)?,
+            cpus: SharedCpus::new(alloc, read_cpu_words(list)?)?,
             path: Path::read(alloc, path)?,
         }),
         _ => Err(Refusal::Syntax),

@@ -38,7 +38,7 @@ fn append_command(command: &Command, out: &mut Vec<u8>) -> Result<(), AllocError
         Command::Create { path } => append_at("create", path, out),
         Command::Remove { path } => append_at("remove", path, out),
         Command::Migrate { pid, path } => append_migrate(pid.number, path, out),
-        Command::Subtree { path, ops } => append_subtree(path, ops, out),
+        Command::Subtree { path, ops } => append_subtree(path, &ops.get(), out),
         Command::Freeze { path, value } => append_freeze(path, *value, out),
         Command::Cpus { path, cpus } => append_cpus(path, &cpus.get(), out),
         Command::Show { path, file } => append_value("show", path, file.word(), out),

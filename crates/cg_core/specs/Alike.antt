@@ -1,5 +1,5 @@
 -- An answer more than once.
-use Rattle.std.specs.Prelude.{◌≡◌, ℕ, Bool, true, false, List, Option, Some, option_map}
+use Rattle.std.specs.Prelude.{◌≡◌, ℕ, Bool, true, false, List, Option, Some}
 use Rattle.std.specs.Bool.{OnTrue}
 use Rattle.cg_core.specs.declared.answers.Copies.{Copies}
 use Rattle.cg_model.specs.History.{Answer, Gave}
@@ -17,5 +17,5 @@ IsCopy _ t = Unit {0}
 
 -- the copy for the record is one of the answer, and so is that for the log, where there is a log
 pub record AreCopies (a : Answer) (log : Bool) (c : Copies) : Type 0 where
-  pub recorded : IsCopy a (option_map (λ v. v.items) c.recorded)
-  pub logged : OnTrue log (IsCopy a (option_map (λ v. v.items) c.logged))
+  pub recorded : IsCopy a c.recorded
+  pub logged : OnTrue log (IsCopy a c.logged)

@@ -1,12 +1,12 @@
 //! An answer more than once.
-ghost use Rattle.std.specs.Prelude.{◌≡◌, OnErr, OnOk, option_map, true};
+ghost use Rattle.std.specs.Prelude.{◌≡◌, OnErr, OnOk, true};
 ghost use Rattle.cg_command.specs.Applied.{outcome_of};
 ghost use Rattle.cg_core.specs.Alike.{AreCopies, IsCopy};
 ghost use Rattle.cg_core.specs.Doing.{is_text};
 ghost use Rattle.cg_history.specs.Meaning.{answer_of};
 ghost use Rattle.cg_model.specs.History as model;
 
-use cg_command::Outcome;
+use cg_command::{BoxedText, Outcome};
 use cg_history::Answer;
 use std::alloc::{AllocError, Global};
 
@@ -16,9 +16,9 @@ pub(crate) struct Copies {
     // Whether the session writes its answer down.
     pub(crate) is_logged: bool,
     // For the session to write down, where it does.
-    pub(crate) logged: Option<Vec<u8>>,
+    pub(crate) logged: Option<BoxedText>,
     // For the history.
-    pub(crate) recorded: Option<Vec<u8>>,
+    pub(crate) recorded: Option<BoxedText>,
 }
 
 impl Copies {
@@ -40,9 +40,9 @@ impl Copies {
     {
         if let Outcome::Text(text) = outcome {
             if self.is_logged {
-                self.logged = Some(Vec::from_slice(alloc, text.as_slice())?);
+                self.logged = Some(text.copy(alloc)?);
             }
-            self.recorded = Some(Vec::from_slice(alloc, text.as_slice())?);
+            self.recorded = Some(text.copy(alloc)?);
         }
         Ok(())
     }
@@ -59,8 +59,8 @@ pub(crate) fn answer_with(outcome: Outcome) -> Answer
 }
 
 // The same answer again, with this copy of its text where it is one. Takes no memory.
-pub(crate) fn again(answer: &Answer, copy: &mut Option<Vec<u8>>) -> Answer
-    requires { IsCopy (answer_of answer.now) (option_map (λ v. v.items) copy.old) }
+pub(crate) fn again(answer: &Answer, copy: &mut Option<BoxedText>) -> Answer
+    requires { IsCopy (answer_of answer.now) copy.old }
     ensures { answer_of result ≡ answer_of answer.now }
 {
     match answer {

@@ -286,7 +286,7 @@ impl Core {
         ensures memory { OnTrue (is_memory result) (self.new ≡ self.old) }
         ensures infallible { takes_memory request ≡ false → is_memory result ≡ false }
         ensures unrecorded { has_record self.old session.0 (request_of request) ≡ false → is_memory result ≡ false }
-        ensures copy { OnTrue copies.old.is_logged (IsCopy (answer_of result) (option_map (λ v. v.items) copies.new.logged)) }
+        ensures copy { OnTrue copies.old.is_logged (IsCopy (answer_of result) copies.new.logged) }
     {
         match request {
             Request::Begin => self.begin(alloc, session),

@@ -1,5 +1,5 @@
 //! A command is run.
-ghost use Rattle.std.specs.Prelude.{◌≡◌, ◌+◌, ◌≤◌, ℕ, IfErr, IfOk, OnErr, OnOk, false, length, option_map};
+ghost use Rattle.std.specs.Prelude.{◌≡◌, ◌+◌, ◌≤◌, ℕ, IfErr, IfOk, OnErr, OnOk, false, length};
 ghost use Rattle.std.specs.Bool.{OnFalse, OnTrue};
 ghost use Rattle.cg_command.specs.Meaning.{command_of};
 ghost use Rattle.cg_core.specs.Alike.{AreCopies, IsCopy};
@@ -51,7 +51,7 @@ impl Core {
         ensures state { OnFalse (is_memory result) (self.new ≡ after self.old session.0 (model.Do (command_of command))) }
         ensures memory { OnTrue (is_memory result) (self.new ≡ self.old) }
         ensures unrecorded { has_record self.old session.0 (model.Do (command_of command)) ≡ false → is_memory result ≡ false }
-        ensures copy { OnTrue copies.old.is_logged (IsCopy (answer_of result) (option_map (λ v. v.items) copies.new.logged)) }
+        ensures copy { OnTrue copies.old.is_logged (IsCopy (answer_of result) copies.new.logged) }
     {
         let full = self.is_full();
         let Some(txn) = self.open.get_mut(session) else {

@@ -101,7 +101,7 @@ answers a b =
     (told answer_place 0 answer_enum.parts (λ c. answer_of (answer_enum.make c)) _
     (also (λ x. refl) (λ x y. Decides-like _ (ap history.Begun) (λ e. cc e) (Decides-eqb x.0.0 y.0.0))
     (also (λ x. refl) (λ x y. (λ e. refl, λ e. refl))
-    (also (λ x. refl) (λ x y. Decides-like _ (λ e i. history.Gave (Text (e i))) (λ e. cc e) (bytes_decides x.0.items y.0.items))
+    (also (λ x. refl) (λ x y. Decides-like _ (λ e i. history.Gave (Text (e i))) (λ e. cc e) (bytes_decides x.0 y.0))
     (also (λ x. refl) (λ x y. (λ e. refl, λ e. refl))
     (also (λ x. refl) (λ x y. Decides-like _ (ap history.WentBack) (λ e. cc e) (Decides-eqb x.0 y.0))
     (also (λ x. refl) (λ x y. Decides-like _ (ap history.Committed) (λ e. cc e) (Decides-eqb x.0 y.0))

@@ -22,7 +22,7 @@ request_of requests.Abort = model.Abort
 abbrev pub answer_of : Answer → model.Answer
 answer_of (answers.Begun t) = model.Begun t.0
 answer_of answers.Done = model.Gave Done
-answer_of (answers.Text x) = model.Gave (Text x.items)
+answer_of (answers.Text x) = model.Gave (Text x)
 answer_of answers.Saved = model.Saved
 answer_of (answers.Back n) = model.WentBack n
 answer_of (answers.Committed k) = model.Committed k

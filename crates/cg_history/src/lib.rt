@@ -6,6 +6,7 @@ mod record;
 mod session;
 mod session_map;
 
+pub use cg_command::BoxedText;
 pub use history::History;
 pub use record::{Answer, Record, Request};
 pub use session::SessionId;

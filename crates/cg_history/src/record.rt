@@ -2,7 +2,7 @@
 ghost use Rattle.std.specs.Prelude.{◌≡◌, IfOk};
 
 use crate::session::SessionId;
-use cg_command::Command;
+use cg_command::{BoxedText, Command};
 use cg_name::{Refusal, SaveName, TxnNumber};
 use std::alloc::{AllocError, Global};
 
@@ -52,7 +52,7 @@ pub enum Answer {
     /// To an accepted command that shows nothing, and to Undo.
     Done,
     /// To Show: the file's text.
-    Text(Vec<u8>),
+    Text(BoxedText),
     /// To Save.
     Saved,
     /// To Back: how many commands were taken off.
@@ -75,7 +75,7 @@ impl Answer {
         Ok(match self {
             Answer::Begun(number) => Answer::Begun(*number),
             Answer::Done => Answer::Done,
-            Answer::Text(text) => Answer::Text(Vec::from_slice(alloc, text.as_slice())?),
+            Answer::Text(text) => Answer::Text(text.copy(alloc)?),
             Answer::Saved => Answer::Saved,
             Answer::Back(count) => Answer::Back(*count),
             Answer::Committed(number) => Answer::Committed(*number),
@@ -96,6 +96,9 @@ pub struct Record {
     /// What was answered.
     pub answer: Answer,
 }
+
+// A history has up to 1,048,576 of them, which are most of the memory that a long run takes.
+const _: () = prove!(size_of::<Record>() == 64);
 
 // By hand, so that whoever drops one calls this, and doesn't drop each thing in it: that makes proofs shorter.
 impl Drop for Record {

@@ -63,7 +63,7 @@ fn append_line(
             let value = digits.format(pid.number).as_bytes();
             append_write(alloc, root, path, FileName::Procs, value, out)
         }
-        Command::Subtree { path, ops } => append_subtree(alloc, root, path, ops, out),
+        Command::Subtree { path, ops } => append_subtree(alloc, root, path, &ops.get(), out),
         Command::Freeze { path, value } => {
             let value = if *value { b"1" } else { b"0" };
             append_write(alloc, root, path, FileName::Freeze, value, out)

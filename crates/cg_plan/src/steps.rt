@@ -1,6 +1,6 @@
 //! The commands of a plan, one behind the other.
 use cg_boxed::BoxedCpus;
-use cg_command::{Command, OnlineCpus, Pid};
+use cg_command::{Command, CompactOps, OnlineCpus, Pid, SharedCpus};
 use cg_command_text::write_command;
 use cg_cpus::CpuSet;
 use cg_name::{Controller, Path};
@@ -71,7 +71,7 @@ impl Steps {
             return Ok(());
         }
         let path = path.copy(alloc)?;
-        let ops = ops_of(enables, controllers);
+        let ops = CompactOps::new(ops_of(enables, controllers));
         self.add(Command::Subtree { path, ops })
     }
 
@@ -94,7 +94,7 @@ impl Steps {
         cpus: CpuSet,
     ) -> Result<(), AllocError> {
         let path = path.copy(alloc)?;
-        let cpus = BoxedCpus::new(alloc, cpus)?;
+        let cpus = SharedCpus::new(alloc, cpus)?;
         self.add(Command::Cpus { path, cpus })
     }
 

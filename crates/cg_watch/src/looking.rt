@@ -7,6 +7,7 @@ ghost use Rattle.cg_watch.specs.Watches.{HasToldSince, HasToldWhole, IsLater, Se
 
 use crate::lines::{line_of, value_of};
 use crate::watch::Watch;
+use cg_history::BoxedText;
 use cg_lines::{Sink, write_all};
 use cg_name::{FileName, Path, Refusal};
 use cg_runner::Answer;
@@ -33,7 +34,10 @@ fn answer(alloc: Global, viewer: &mut Viewer, path: &Path, file: FileName) -> Op
     ensures later { IsLater (seen_by viewer.new) (seen_by viewer.old) }
 {
     match viewer.read(alloc, path, file) {
-        Ok(text) => Some(Answer::Text(text)),
+        Ok(text) => {
+            let text = BoxedText::new(alloc, text.as_slice()).ok()?;
+            Some(Answer::Text(text))
+        }
         Err(Refusal::NoGroup) => Some(Answer::Refused(Refusal::NoGroup)),
         Err(Refusal::NoFile) => Some(Answer::Refused(Refusal::NoFile)),
         Err(_) => None,

@@ -1,6 +1,6 @@
 //! Commands that are asked for.
 use cg_boxed::BoxedCpus;
-use cg_command::{Command, OnlineCpus, Pid};
+use cg_command::{Command, CompactOps, OnlineCpus, Pid, SharedCpus};
 use cg_cpus::CpuSet;
 use cg_name::{FileName, Path, Refusal};
 use cg_text::{Limit, read_ops};
@@ -29,13 +29,13 @@ fn migrate(number: u32, path: Path) -> Result<Command, Refusal> {
 
 // A write of these operations.
 fn subtree(path: Path, text: &str) -> Result<Command, Refusal> {
-    let ops = read_ops(text)?;
+    let ops = CompactOps::new(read_ops(text)?);
     Ok(Command::Subtree { path, ops })
 }
 
 // A write of these CPUs.
 fn cpus(alloc: Global, path: Path, text: &str) -> Result<Command, Refusal> {
-    let cpus = BoxedCpus::new(alloc, CpuSet::read(text)?)?;
+    let cpus = SharedCpus::new(alloc, CpuSet::read(text)?)?;
     Ok(Command::Cpus { path, cpus })
 }
 

@@ -1,4 +1,5 @@
 //! The lines of copies of answers.
+use cg_command::BoxedText;
 use cg_desk::Answer;
 use cg_script::write_answer;
 use std::alloc::{AllocError, Global};
@@ -10,7 +11,7 @@ fn write_copy(alloc: Global, answer: &Answer, out: &mut Vec<u8>) -> Result<(), A
 
 #[test]
 fn answers_have_lines(rt: HostRuntime) {
-    let shown = Answer::Text(Vec::from_slice(rt.alloc(), b"10\n").expect(&rt, "memory"));
+    let shown = Answer::Text(BoxedText::new(rt.alloc(), b"10\n").expect(&rt, "memory"));
     let mut out = Vec::new(rt.alloc());
     assert!(rt; write_copy(rt.alloc(), &shown, &mut out).is_ok());
     assert!(rt; write_copy(rt.alloc(), &Answer::Saved, &mut out).is_ok());

@@ -5,6 +5,7 @@ use crate::opening::{LARGER, world};
 use crate::runner::gates::Open;
 use crate::runner::running::{few, refusal_of};
 use crate::views::prefixes::{FILES, Text, texts_by_commits};
+use cg_command::BoxedText;
 use cg_desk::{Answer, Core};
 use cg_lines::FromWrite;
 use cg_name::Refusal;
@@ -90,7 +91,7 @@ fn line_of(alloc: Global, file: usize, commits: usize, text: &Text) -> Result<Ve
     let head = format!(in alloc; "watch {path}:{name} commits {commits}: ")?;
     let mut line = head.into_bytes();
     let answer = match text {
-        Ok(text) => Answer::Text(Vec::from_slice(alloc, text.as_slice())?),
+        Ok(text) => Answer::Text(BoxedText::new(alloc, text.as_slice())?),
         Err(refusal) => Answer::Refused(*refusal),
     };
     write_answer(&answer, &mut line)?;
