@@ -1,5 +1,6 @@
 pub mod Answered
 pub mod Endings
+mod Gathered
 pub mod HistoryReplays
 mod LastSession
 mod MachineOutputs

@@ -14,7 +14,7 @@ use cg_script::ScriptFault;
 use std::alloc::{AllocError, Global};
 
 // How many bytes of answers wait at most, but for one line's, until they are written.
-const GATHERED: usize = 65_536;
+pub(crate) const GATHERED: usize = 65_536;
 
 /// What answers the lines of a text, one after another.
 pub trait Answerer {
@@ -111,7 +111,7 @@ fn send_early<S: Source, K: Sink>(
 }
 
 // Writes what waits, and leaves nothing to wait.
-fn send<K: Sink>(sink: &mut K, out: &mut Vec<u8>) -> Result<(), ScriptFault>
+pub(crate) fn send<K: Sink>(sink: &mut K, out: &mut Vec<u8>) -> Result<(), ScriptFault>
     ensures sent { OnOk result (Appends (K.taken sink.old) (K.taken sink.new) out.old.items) }
     ensures emptied { OnOk result (out.new.items ≡ []) }
     ensures counted { OnOk result (K.failed sink.new ≡ K.failed sink.old) }

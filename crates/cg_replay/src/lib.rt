@@ -2,6 +2,7 @@
 #![tactic(auto)]
 
 mod answering;
+mod ending;
 mod player;
 mod recent;
 mod schedule;

@@ -22,9 +22,10 @@ ghost use Rattle.cg_script.specs.Request.{newline, SpellsCall, SpellsRequest};
 ghost use Rattle.cg_script.specs.Turns.{session_number, with_name};
 
 use crate::answering::Answerer;
+use crate::ending::{send_last, write_tree};
 use crate::recent::Recent;
 use cg_core::{Answer, Core, Request, SessionId};
-use cg_lines::{Sink, write_all};
+use cg_lines::Sink;
 use cg_name::{Refusal, or_truncate};
 use cg_script::{ScriptFault, SessionName, read_request, write_answer};
 use cg_text::{LineWords, read_words};
@@ -311,9 +312,10 @@ impl Player {
         ensures writes { IsErrOf result faults.WriteFault → Failed (K.failed sink.old) (K.failed sink.new) }
         ensures faults { IfErr result (λ e. (e ≡ faults.WriteFault) ⊎ (e ≡ faults.Memory)) }
     {
-        let ended = self.end(alloc, waiting);
-        write_all(sink, waiting.as_slice())?;
-        Ok(ended?)
+        match self.append_aborts(waiting) {
+            Ok(()) => write_tree(alloc, self.core.tree(), sink, waiting),
+            Err(AllocError) => Err(send_last(sink, waiting)),
+        }
     }
 
     /// Answers the end of the schedule, at the end of `out`: aborts what is open, the least number first, and shows the tree. `Memory`
@@ -334,8 +336,18 @@ impl Player {
         ensures core { OnOk result (self.new.core ≡ core_ended self.old.core) }
         ensures kept { OnErr result (take (length out.old.items) out.new.items ≡ out.old.items) }
     {
-        'ends: while self.append_abort(out)? {}
+        self.append_aborts(out)?;
         self.core.tree().write(out)
+    }
+
+    // Aborts what is open, the least number first, and appends the answers' lines; an error leaves the first ones of these.
+    fn append_aborts(&mut self, out: &mut Vec<u8>) -> Result<(), AllocError>
+        ensures aborted { OnOk result ((lines : List ℕ) × (out.new.items ≡ out.old.items ++ lines) × (ending_text self.old.core ≡ lines ++ world_text (tree_now self.new.core))) }
+        ensures core { OnOk result (self.new.core ≡ core_ended self.old.core) }
+        ensures first { OnErr result ((lines : List ℕ) × (rest : List ℕ) × (out.new.items ≡ out.old.items ++ lines) × (ending_text self.old.core ≡ lines ++ rest)) }
+    {
+        'ends: while self.append_abort(out)? {}
+        Ok(())
     }
 
     // Aborts the open transaction with the least number, and appends the answer's line. False where none is open.

@@ -3,6 +3,7 @@ mod answers;
 mod asking;
 mod commits;
 mod histories;
+mod long_worlds;
 mod requests;
 mod scripts;
 mod worlds;

@@ -11,6 +11,7 @@ pub mod RoundTrip
 pub mod Spelled
 pub mod Stages
 pub mod Taken
+pub mod ToCome
 pub mod WrittenCpus
 pub mod WrittenLimits
 pub mod WrittenWords

@@ -3,6 +3,7 @@ pub mod Parts
 pub mod Reader
 pub mod Stage
 pub mod Statement
+pub mod ToCome
 pub mod Version
 pub mod World
 pub mod Writing

@@ -7,6 +7,7 @@ ghost use Rattle.cg_model.specs.Sound.{Sound};
 ghost use Rattle.cg_model.specs.Tree.{Tree};
 ghost use Rattle.cg_world_text.specs.Reader.{BeginTree, HasTaken, SomeEnds, SpellTree};
 
+use crate::shared_paths::SharedPaths;
 use crate::stage::Stage;
 use crate::statement::Statement;
 use cg_name::Refusal;
@@ -19,6 +20,8 @@ use std::marker::Model;
 #[derive(Drop)]
 pub struct WorldReader {
     stage: Stage,
+    // Of the groups so far.
+    paths: SharedPaths,
 }
 
 impl Model for WorldReader {
@@ -36,6 +39,7 @@ impl WorldReader {
     {
         WorldReader {
             stage: Stage::Begun,
+            paths: SharedPaths::new(),
         }
     }
 
@@ -52,7 +56,8 @@ impl WorldReader {
         if !read_words(line, &mut words)? {
             return Ok(());
         }
-        let statement = Statement::read(alloc, self.stage.version(), words.as_slice())?;
+        let mut statement = Statement::read(alloc, self.stage.version(), words.as_slice())?;
+        self.paths.share_in(alloc, &mut statement);
         self.stage.take(alloc, statement)
     }
 
@@ -70,7 +75,8 @@ impl WorldReader {
         ensures syntax { IsErrOf result Refusal.Syntax → (lines : List Line) (T : Tree) → HasTaken self lines → SpellTree lines T → Sound T → ⊥ }
         ensures refusals { IfErr result IsSyntaxOrMemory }
     {
-        match self.stage {
+        let WorldReader { stage, paths: _ } = self;
+        match stage {
             Stage::Ended(_, tree) => {
                 tree.check_sound(alloc)?;
                 Ok(World::from_tree(tree))

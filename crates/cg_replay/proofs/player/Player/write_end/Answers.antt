@@ -1,16 +1,44 @@
-use Rattle.std.proofs.Common.{◌≡◌, ℕ, List, ◌++◌, OnErr, OnOk, Result, Ok, Err, Option, subst}
+use Rattle.std.proofs.Common.{◌≡◌, ◌++◌, ap, subst, sym, ◌∙◌, OnErr, OnOk}
+use Rattle.std.specs.Io.KnownBytes.{Appends}
 use Rattle.cg_lines.specs.Device.{AppendsFront}
-use Rattle.cg_replay.proofs.Answered.{on_any_err, AppendsFront-longer}
-use Rattle.cg_replay.specs.Replay.{ending_text}
+use Rattle.cg_world_text.specs.World.{world_text}
+use Rattle.cg_replay.specs.Replay.{Replay, ending_text, tree_now}
+use Rattle.cg_replay.proofs.Gathered.{front_with_rest, with_rest}
 use Rattle.cg_replay.proofs.player.Player.write_end.Goals as goal
+use Rattle.cg_replay.proofs.player.Player.write_end.Goals.{in-Ok, in-Err}
 
--- whether the end was appended or not, the front of what stands there is the front of the whole
-front_of_whole : {E : Type 0} (r : Result (Unit {0}) E) (a b : Option (List ℕ)) (waiting ending is : List ℕ) → OnOk r (is ≡ waiting ++ ending) → OnErr r (is ≡ waiting) → AppendsFront a b is → AppendsFront a b (waiting ++ ending)
-front_of_whole (Ok u) a b waiting ending is ok err h = subst (λ l. AppendsFront a b l) ok h
-front_of_whole (Err e) a b waiting ending is ok err h = AppendsFront-longer a b waiting ending (subst (λ l. AppendsFront a b l) err h)
+pub returns-clause-whole : goal.returns-clause-whole
+returns-clause-whole g c =
+    let before = g.K.Sink.taken c.args.sink.now in
+    let whole = c.args.waiting.now.items ++ ending_text c.args.self.now.core in
+    elim c.match-append_aborts.branch [
+      | in-Ok w ↦
+          let aborted = w.in-Ok.ensures.aborted in
+          let same : c.append_aborts.new.out.items ++ world_text w.tree.result.now.tree ≡ whole =
+          ap (λ T. c.append_aborts.new.out.items ++ world_text T) (w.tree.ensures.value ∙ ap (λ (r : Replay). tree_now r.core) c.self.view_is)
+          ∙ with_rest c.args.waiting.now.items aborted.0 (world_text (tree_now c.append_aborts.new.self.core)) (ending_text c.args.self.now.core) c.append_aborts.new.out.items aborted.1 aborted.2 in
+          let written = subst (λ l. OnOk w.write_tree.result (Appends before (g.K.Sink.taken w.write_tree.new.sink) l)) same w.write_tree.ensures.whole in
+          let there = subst (λ k. OnOk w.write_tree.result (Appends before (g.K.Sink.taken k) whole)) (sym w.sink-is) written in
+          subst (λ r. OnOk r (Appends before (g.K.Sink.taken c.match-append_aborts.sink) whole)) (sym w.result-is) there
+      | in-Err w ↦ subst (λ r. OnOk r (Appends before (g.K.Sink.taken c.match-append_aborts.sink) whole)) (sym w.result-is) tt
+    ]
 
-pub returns-in_err-write_all-clause-front : goal.returns-in_err-write_all-clause-front
-returns-in_err-write_all-clause-front g c =
-    on_any_err c.from_residual.result
-    (front_of_whole c.end-ended.result (g.K.Sink.taken c.args.sink.now) (g.K.Sink.taken c.write_all.new.sink) c.args.waiting.now.items (ending_text c.args.self.now.core) c.end-ended.new.out.items
-    c.end-ended.ensures.ok c.end-ended.ensures.err (subst (λ l. AppendsFront (g.K.Sink.taken c.args.sink.now) (g.K.Sink.taken c.write_all.new.sink) l) c.as_slice.ensures.value c.in_err-write_all.ensures.bytes))
+pub returns-clause-front : goal.returns-clause-front
+returns-clause-front g c =
+    let before = g.K.Sink.taken c.args.sink.now in
+    let whole = c.args.waiting.now.items ++ ending_text c.args.self.now.core in
+    elim c.match-append_aborts.branch [
+      | in-Ok w ↦
+          let aborted = w.in-Ok.ensures.aborted in
+          let same : c.append_aborts.new.out.items ++ world_text w.tree.result.now.tree ≡ whole =
+          ap (λ T. c.append_aborts.new.out.items ++ world_text T) (w.tree.ensures.value ∙ ap (λ (r : Replay). tree_now r.core) c.self.view_is)
+          ∙ with_rest c.args.waiting.now.items aborted.0 (world_text (tree_now c.append_aborts.new.self.core)) (ending_text c.args.self.now.core) c.append_aborts.new.out.items aborted.1 aborted.2 in
+          let written = subst (λ l. OnErr w.write_tree.result (AppendsFront before (g.K.Sink.taken w.write_tree.new.sink) l)) same w.write_tree.ensures.front in
+          let there = subst (λ k. OnErr w.write_tree.result (AppendsFront before (g.K.Sink.taken k) whole)) (sym w.sink-is) written in
+          subst (λ r. OnErr r (AppendsFront before (g.K.Sink.taken c.match-append_aborts.sink) whole)) (sym w.result-is) there
+      | in-Err w ↦
+          let first = w.in-Err.ensures.first in
+          let sent = front_with_rest before (g.K.Sink.taken w.send_last.new.sink) c.args.waiting.now.items first.0 first.1 (ending_text c.args.self.now.core) c.append_aborts.new.out.items first.2 first.3 w.send_last.ensures.front in
+          let there = subst (λ k. AppendsFront before (g.K.Sink.taken k) whole) (sym w.sink-is) sent in
+          subst (λ r. OnErr r (AppendsFront before (g.K.Sink.taken c.match-append_aborts.sink) whole)) (sym w.result-is) there
+    ]

@@ -16,12 +16,12 @@ returns-in_err-check_sound-in-Ended-clause-syntax c =
     let at : c.args.self ≡ Ended c.in-Ended.field-0 c.in-Ended.tree = sym c.self.view_is ∙ c.in-Ended.is in
     λ e lines T h k sound.
     let same = tree_taken c.in-Ended.field-0 c.in-Ended.tree lines T (subst (λ st. HasTaken st lines) at h) k in
-    c.in_err-check_sound-in-Ended.ensures.syntax (cc (gone.1, gone.2)) (subst Sound (same ∙ sym c.in-Ended.tree-is) sound)
+    c.in_err-check_sound-in-Ended.ensures.syntax (cc (gone.1, gone.2)) (subst Sound same sound)
 
 pub returns-in-Ended-clause-value : goal.returns-in-Ended-clause-value
 returns-in-Ended-clause-value c =
     let at : c.args.self ≡ Ended c.in-Ended.field-0 c.in-Ended.tree = sym c.self.view_is ∙ c.in-Ended.is in
-    let same = c.from_tree.ensures ∙ c.in-Ended.tree-is in
+    let same = c.from_tree.ensures in
     λ lines h. (
       subst (SpellTree lines) (sym same) (taken_all c.in-Ended.field-0 c.in-Ended.tree lines (subst (λ st. HasTaken st lines) at h)),
       subst Sound (sym c.from_tree.ensures) c.in_ok-check_sound-in-Ended.ensures.sound,

@@ -1,7 +1,7 @@
 use Rattle.std.proofs.Common.{◌≡◌, ℕ, List, ◌++◌, length}
 use Rattle.cg_model.specs.Opens.{opens}
 use Rattle.cg_replay.specs.Replay.{core_ended, ending_text}
-use Rattle.cg_replay.proofs.player.Player.append_end.Given as goal
+use Rattle.cg_replay.proofs.player.Player.append_aborts.Given as goal
 
 -- what was appended, and what the end is from here on, are the end from the first on
 abbrev pub invariant-ends : goal.invariant-ends
