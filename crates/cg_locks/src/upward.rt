@@ -14,6 +14,10 @@ use cg_name::{Path, TxnNumber};
 use cg_path_tree::{NodeKey, PathTree};
 use std::alloc::{AllocError, Global};
 
+// So many nodes there may be before those go with which nothing but the last node below was held: the way to a mark is walked
+// for more marks than the mark comes.
+const KEPT_ABOVE: usize = 16_384;
+
 // The least other transaction with a mark at the node's path or above that clashes with one of this kind there.
 pub(crate) fn least_above(
     nodes: &PathTree<Held>,
@@ -193,7 +197,8 @@ pub(crate) fn remove_mark(
     }
 }
 
-// Takes out the node where nobody holds anything and no node lies below, and then those above that are so.
+// Takes out the node where nobody holds anything and no node lies below; and then those above that are so, where there are more
+// nodes than stay for what is below them.
 fn drop_free(nodes: &mut PathTree<Held>, key: NodeKey)
     requires { IsKey nodes.old.keys key }
     ensures { IsSameHeld nodes.old.values nodes.new.values }
@@ -205,8 +210,10 @@ fn drop_free(nodes: &mut PathTree<Held>, key: NodeKey)
     nodes.laws();
     let _ = nodes.remove(key);
     if let Some(parent) = parent {
-        nodes.laws();
-        drop_free(nodes, parent);
+        if nodes.len() > KEPT_ABOVE {
+            nodes.laws();
+            drop_free(nodes, parent);
+        }
     }
 }
 
@@ -255,7 +262,7 @@ fn put(
 }
 
 // How many names the first path has that has no node, among those with which this one begins, of that many names; and the
-// node of the one before, if there is one.
+// node of the one before, if there is one. It looks from the path upward: for one more than there are to make.
 fn first_missing(nodes: &PathTree<Held>, path: &Path, end: u32) -> (u32, Option<NodeKey>)
     requires absent { get nodes.now.keys path.now ≡ None }
     requires end { end ≡ length path.now }
@@ -265,10 +272,14 @@ fn first_missing(nodes: &PathTree<Held>, path: &Path, end: u32) -> (u32, Option<
     ensures none { result.0 ≡ 0 → result.1 ≡ None }
     ensures key { (d : ℕ) → suc d ≡ result.0 → result.1 ≡ get nodes.now.keys (take d path.now) }
 {
-    match nodes.deepest_by_halving(path) {
-        Some((key, depth)) => (end.min(depth.saturating_add(1)), Some(key)),
-        None => (0, None),
+    let mut first = end;
+    'up: while first > 0 {
+        if let Some(key) = nodes.find_prefix(path, first - 1) {
+            return (first, Some(key));
+        }
+        first -= 1;
     }
+    (0, None)
 }
 
 // Makes the nodes that are missing above a path that has none, and gives the one right above. An error, where there is no

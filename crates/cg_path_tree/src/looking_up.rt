@@ -194,8 +194,8 @@ impl<V: Drop> PathTree<V> {
         self.deepest_by_halving(path)
     }
 
-    /// The same as `deepest`, by halving at once: for a path that has neither a node nor a parent's.
-    pub fn deepest_by_halving(&self, path: &Path) -> Option<(NodeKey, u32)>
+    // The same as `deepest`, by halving at once: for a path that has neither a node nor a parent's.
+    fn deepest_by_halving(&self, path: &Path) -> Option<(NodeKey, u32)>
         ensures none { IfNone result ((d : ℕ) → get self.now.keys (take d path.now) ≡ None) }
         ensures within { IfSome result (λ r. r.1 ≤ length path.now) }
         ensures found { IfSome result (λ r. get self.now.keys (take r.1 path.now) ≡ Some r.0) }

@@ -57,7 +57,7 @@ impl WorldReader {
             return Ok(());
         }
         let mut statement = Statement::read(alloc, self.stage.version(), words.as_slice())?;
-        self.paths.share_in(alloc, &mut statement);
+        self.paths.share_in(alloc, &mut statement)?;
         self.stage.take(alloc, statement)
     }
 

@@ -24,17 +24,21 @@ impl SharedPaths {
     }
 
     // Keeps the path in the line of a group; that in the line of a process shares the text of its group's from now on. It stays the
-    // same statement.
-    pub(crate) fn share_in(&mut self, alloc: Global, statement: &mut Statement)
+    // same statement. An error, where there is no memory to keep a path.
+    pub(crate) fn share_in(
+        &mut self,
+        alloc: Global,
+        statement: &mut Statement,
+    ) -> Result<(), AllocError>
         ensures { statement.new ≡ statement.old }
     {
         match statement {
-            Statement::Group(path, _) => {
-                // Where there is no memory to keep it, the others keep texts of their own.
-                let _ = self.keep(alloc, path);
+            Statement::Group(path, _) => self.keep(alloc, path),
+            Statement::Process(_, path) => {
+                self.share(alloc, path);
+                Ok(())
             }
-            Statement::Process(_, path) => self.share(alloc, path),
-            _ => {}
+            _ => Ok(()),
         }
     }
 
