@@ -14,8 +14,8 @@ use cg_name::{Path, TxnNumber};
 use cg_path_tree::{NodeKey, PathTree};
 use std::alloc::{AllocError, Global};
 
-// So many nodes there may be before those go with which nothing but the last node below was held: the way to a mark is walked
-// for more marks than the mark comes.
+// The nodes above a mark that went stay until there are more than so many: marks come below them more often than at the mark's
+// own path.
 const KEPT_ABOVE: usize = 16_384;
 
 // The least other transaction with a mark at the node's path or above that clashes with one of this kind there.
@@ -197,8 +197,8 @@ pub(crate) fn remove_mark(
     }
 }
 
-// Takes out the node where nobody holds anything and no node lies below; and then those above that are so, where there are more
-// nodes than stay for what is below them.
+// Takes out the node where nobody holds anything and no node lies below; and then those above that are so, as long as there are
+// more than stay there.
 fn drop_free(nodes: &mut PathTree<Held>, key: NodeKey)
     requires { IsKey nodes.old.keys key }
     ensures { IsSameHeld nodes.old.values nodes.new.values }
