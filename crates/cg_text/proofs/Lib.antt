@@ -4,6 +4,8 @@ pub mod Files
 mod TrimmedLines
 mod Closing
 mod BareEnd
+mod Masks
+mod PlainWords
 mod Blanks
 mod FirstWord
 pub mod Cuts

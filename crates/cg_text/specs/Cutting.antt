@@ -1,7 +1,7 @@
 -- The first word of a text, for the functions that cut lines.
-use Rattle.std.specs.Prelude.{◌≡◌, ◌==◌, ◌||◌, ℕ, Bool, false, cond, List, [], ◌∷◌, ◌++◌}
+use Rattle.std.specs.Prelude.{◌≡◌, ◌==◌, ◌||◌, not, ℕ, Bool, false, cond, List, [], ◌∷◌, ◌++◌}
 use Rattle.cg_name.specs.Word.{is_blank, is_special, IsWord, StandFor}
-use Rattle.cg_text.specs.Words.{Line, Word, EndsWord}
+use Rattle.cg_text.specs.Words.{Line, Word, EndsWord, is_silent}
 
 -- the text behind the bytes at its front that pass a test
 abbrev pub behind : (ℕ → Bool) → List ℕ → List ℕ
@@ -29,3 +29,8 @@ pub record BeginsWith (text : Line) (word : Word) (rest : Line) : Type 0 where
   pub parts : text ≡ word ++ rest
   pub is_word : IsWord word
   pub ends : EndsWord rest
+
+-- words whose line says something: there is one, and the first begins with no number sign
+abbrev pub say_something : List Word → Bool
+say_something [] = false
+say_something (w ∷ ws) = not (is_silent w)

@@ -1,14 +1,15 @@
 //! How a line of a text is cut into words. A word is bare, of bytes that are neither blanks nor quotation marks nor
 //! backslashes, or it stands between quotation marks, where it may have blanks. A blank is a space or a tab.
-ghost use Rattle.std.specs.Prelude.{◌≡◌, ◌↔◌, ◌∷◌, IfErr, IfOk, IsTrue, List, MatchOption, None, OnOk, Option, Some, false, map, true, ℕ};
+ghost use Rattle.std.specs.Prelude.{◌≡◌, ◌↔◌, ◌∷◌, ◌≤◌, IfErr, IfOk, IsTrue, List, MatchOption, None, OnOk, Option, Some, false, length, map, true, ℕ};
 ghost use Rattle.std.specs.Result.{IsErrOf};
 ghost use Rattle.std.specs.Str.{IsUtf8};
 ghost use Rattle.std.specs.Str.Lines.{strip_carriage_return};
 ghost use Rattle.cg_name.specs.Refusal.{IsSyntaxOrMemory};
 ghost use Rattle.cg_name.specs.Word.{is_bare_byte, is_blank};
-ghost use Rattle.cg_text.specs.Cutting.{BeginsWith, Closes, behind, is_escaped, starts_blank};
+ghost use Rattle.cg_text.specs.Cutting.{BeginsWith, Closes, behind, is_escaped, say_something, starts_blank};
 ghost use Rattle.cg_text.specs.Words.{Cuts, EndsWord, Line, Says, Word, is_silent};
 
+use crate::marks::{SHORT_LINE, marks_of};
 use cg_name::{Refusal, is_bare_byte};
 use memchr::{memchr, memchr3};
 use smallvec::SmallVec;
@@ -57,7 +58,11 @@ pub fn read_words<'a>(line: &'a [u8], words: &mut LineWords<'a>) -> Result<bool,
     if line.len() > LONGEST_LINE {
         return Err(Refusal::Syntax);
     }
-    let Some(line) = as_text(without_carriage_return(line)) else {
+    let line = without_carriage_return(line);
+    if line.len() <= SHORT_LINE && cut_plain(line, words)? {
+        return Ok(say_something(words));
+    }
+    let Some(line) = as_text(line) else {
         return Err(Refusal::Syntax);
     };
     if is_silent(line) {
@@ -65,6 +70,54 @@ pub fn read_words<'a>(line: &'a [u8], words: &mut LineWords<'a>) -> Result<bool,
     }
     cut_words(line, words)?;
     Ok(true)
+}
+
+// Puts the words of a short line in the place of those that `words` has, where all of them are plain, that is bare and
+// of ASCII: most lines are such, and are cut at their marks. False where it has others, and then nothing is told of
+// `words`.
+fn cut_plain<'a>(line: &'a [u8], words: &mut LineWords<'a>) -> Result<bool, Refusal>
+    requires short { length line.now ≤ 63 }
+    ensures words { IfOk result (λ cut. cut ≡ true → IsUtf8 line.now × Cuts line.now (map (λ w. w.now) words.new.items)) }
+    ensures refusals { IfErr result (λ refusal. refusal ≡ Refusal.Memory) }
+{
+    words.clear();
+    let mut rest = line;
+    let mut marks = marks_of(line);
+    loop {
+        rest = match rest {
+            [] => return Ok(true),
+            [byte, others @ ..] if is_blank(*byte) => {
+                marks >>= 1;
+                others
+            }
+            _ => {
+                let end = (marks.trailing_zeros() as usize).min(rest.len());
+                let (word, behind) = rest.split_at(end);
+                if word.is_empty() {
+                    return Ok(false);
+                }
+                words.push(unsafe { std::str::from_utf8_unchecked(word) })?;
+                match behind {
+                    [] => return Ok(true),
+                    [byte, others @ ..] if is_blank(*byte) => {
+                        marks >>= end + 1;
+                        others
+                    }
+                    _ => return Ok(false),
+                }
+            }
+        };
+    }
+}
+
+// Whether a line of these words says something: there is one, and the first begins with no number sign.
+fn say_something(words: &[&str]) -> bool
+    ensures { result ≡ say_something (map (λ w. w.now) words.now) }
+{
+    match words {
+        [] => false,
+        [first, ..] => !is_silent(first),
+    }
 }
 
 // The line without one carriage return at its end.
@@ -188,6 +241,13 @@ fn starts_blank(text: &str) -> bool
     ensures { result ≡ starts_blank text.now }
 {
     matches!(text.as_bytes(), [b' ' | b'\t', ..])
+}
+
+// Whether the byte is a blank.
+fn is_blank(byte: u8) -> bool
+    ensures { result ≡ is_blank byte }
+{
+    matches!(byte, b' ' | b'\t')
 }
 
 // Whether a word may end before the text: it is empty or begins with a blank.

@@ -6,6 +6,7 @@ mod controllers;
 mod cutting;
 pub mod laws;
 mod limit;
+mod marks;
 mod reading;
 mod settings;
 mod writing;
