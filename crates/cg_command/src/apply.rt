@@ -7,6 +7,7 @@ ghost use Rattle.cg_model.specs.Effect.{effect};
 use crate::boxed_text::BoxedText;
 use crate::command::Outcome;
 use cg_boxed::{BoxedCpus, BoxedSettings, CompactSettings};
+use cg_derive::text_of_file;
 use cg_inverse::{Change, Inverse};
 use cg_name::Path;
 use cg_text::{FileName, Limit};
@@ -213,12 +214,7 @@ pub(crate) fn show(
     requires { IsAccepted (effect (model.Show path.now file) tree.now.tree) }
     ensures { IsCarriedOut (model.Show path.now file) tree.now result tree.now }
 {
-    match cg_derive::file(alloc, tree, path, file) {
-        Ok(text) => {
-            let text = BoxedText::new(alloc, text.as_slice())?;
-            Ok((Outcome::Text(text), Inverse::new(alloc)))
-        }
-        // Not reached but for memory: the file of an accepted command is there.
-        Err(_) => Err(AllocError),
-    }
+    let text = text_of_file(alloc, tree, path, file)?;
+    let text = BoxedText::new(alloc, text.as_slice())?;
+    Ok((Outcome::Text(text), Inverse::new(alloc)))
 }

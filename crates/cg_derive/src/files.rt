@@ -11,7 +11,10 @@ use cg_text::{
     FileName, write_controllers, write_cpus, write_events, write_flag, write_limit, write_procs,
 };
 use cg_tree::Tree;
-use std::alloc::Global;
+use std::alloc::{AllocError, Global};
+
+// How many bytes the text of a file has at most, as a rule.
+const USUAL_TEXT: usize = 64;
 
 /// The PIDs of the own processes of the group at the path, ascending. `NoGroup` where there is no group, `Memory` where there
 /// is none for the list.
@@ -58,11 +61,24 @@ pub fn file(alloc: Global, tree: &Tree, path: &Path, name: FileName) -> Result<V
     ensures value { IfOk result (λ text. file tree.now.tree path.now name ≡ Ok text.items) }
     ensures refused { IfErr result (λ e. e ≢ Memory → file tree.now.tree path.now name ≡ Err e) }
 {
-    let Some(settings) = tree.settings(path) else {
-        return Err(Refusal::NoGroup);
-    };
     check_file(tree, path, name)?;
-    let mut text = Vec::new(alloc);
+    Ok(text_of_file(alloc, tree, path, name)?)
+}
+
+/// The text of the file of the group at the path, which has such a file. An error, where there is no memory for the text.
+pub fn text_of_file(
+    alloc: Global,
+    tree: &Tree,
+    path: &Path,
+    name: FileName,
+) -> Result<Vec<u8>, AllocError>
+    requires present { is_ok (file tree.now.tree path.now name) ≡ true }
+    ensures value { IfOk result (λ text. file tree.now.tree path.now name ≡ Ok text.items) }
+{
+    let Some(settings) = tree.settings(path) else {
+        unreachable!();
+    };
+    let mut text = Vec::with_capacity(alloc, USUAL_TEXT)?;
     match name {
         FileName::Procs => write_procs(tree.processes(alloc, path)?.as_slice(), &mut text)?,
         FileName::Controllers => {

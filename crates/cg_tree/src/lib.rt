@@ -18,7 +18,7 @@ mod tree;
 mod worlds;
 
 pub use ancestors::{Ancestor, Ancestors};
-pub use listed::Listed;
+pub use listed::{Listed, ListedIter};
 pub use new_value::NewValue;
 pub use pids::Pids;
 pub use placed::Placed;

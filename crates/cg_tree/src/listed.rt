@@ -45,6 +45,17 @@ impl<'a> Listed<'a> {
             passed: 0,
         }
     }
+
+    /// The same groups, looked at in the list, which doesn't go on.
+    pub fn iter(&self) -> ListedIter<'_>
+        ensures { result ≡ self.now }
+    {
+        ListedIter {
+            nodes: self.nodes,
+            keys: self.keys.as_slice(),
+            passed: self.passed,
+        }
+    }
 }
 
 impl<'a> Iterator for Listed<'a> {
@@ -56,6 +67,39 @@ impl<'a> Iterator for Listed<'a> {
 
     fn next(&mut self) -> Option<(PathRef<'a>, &'a CompactSettings)> {
         next_group(self.nodes, &self.keys, &mut self.passed)
+    }
+}
+
+/// Groups of a list that are still to come, with their settings, looked at in that list.
+#[derive(Drop)]
+pub struct ListedIter<'a> {
+    nodes: &'a PathTree<Entry>,
+    keys: &'a [NodeKey],
+    // How many of these have passed.
+    passed: usize,
+}
+
+impl<'a> Model for ListedIter<'a> {
+    ghost use Rattle.std.specs.Prelude.{List, ℕ, drop};
+    ghost use Rattle.cg_text.specs.declared.settings.Settings.{Settings};
+    ghost use Rattle.cg_tree.specs.Listing.{listed, AreKeys};
+
+    ghost Value = { List (List (List ℕ) × Settings) };
+
+    ghost view = { λ l. listed l.nodes.now (drop l.passed l.keys.now) };
+
+    ghost invariant = { λ l. AreKeys l.nodes.now l.keys.now };
+}
+
+impl<'a> Iterator for ListedIter<'a> {
+    type Item = (PathRef<'a>, &'a CompactSettings);
+
+    ghost next_gives = { YieldsFirstBy (λ g. (g.0, g.1.now)) (λ gs. gs) };
+
+    ghost remaining = { item_count (λ gs. gs) };
+
+    fn next(&mut self) -> Option<(PathRef<'a>, &'a CompactSettings)> {
+        next_group(self.nodes, self.keys, &mut self.passed)
     }
 }
 

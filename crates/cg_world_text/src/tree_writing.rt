@@ -71,10 +71,11 @@ impl<'a> TreeLines<'a> {
     pub fn new(alloc: Global, tree: &'a Tree) -> Result<TreeLines<'a>, AllocError>
         ensures { IfOk result (λ lines. lines ≡ world_text tree.now.tree) }
     {
+        let groups = tree.present_groups(alloc)?;
         Ok(TreeLines {
             tree,
-            version: version_of_tree(tree, alloc)?,
-            groups: tree.present_groups(alloc)?,
+            version: version_of_tree(tree, &groups),
+            groups,
             places: tree.places(),
             coming: Coming::Head,
         })
@@ -148,24 +149,25 @@ fn append_listed(
 }
 
 // The version in which the text is written: 1 where it can be.
-fn version_of_tree(tree: &Tree, alloc: Global) -> Result<Version, AllocError>
-    ensures { IfOk result (λ v. v ≡ written_version tree.now.tree) }
+fn version_of_tree(tree: &Tree, groups: &Listed<'_>) -> Version
+    requires { groups.now ≡ entries tree.now.tree.groups }
+    ensures { result ≡ written_version tree.now.tree }
 {
-    if cpus_fit(&tree.online()) && groups_fit(tree, alloc)? {
-        Ok(Version::One)
+    if cpus_fit(&tree.online()) && groups_fit(groups) {
+        Version::One
     } else {
-        Ok(Version::Two)
+        Version::Two
     }
 }
 
 // Whether the groups' settings fit version 1.
-fn groups_fit(tree: &Tree, alloc: Global) -> Result<bool, AllocError>
-    ensures { IfOk result (λ fit. fit ≡ list_all (λ e. settings_fit_one e.1) (entries tree.now.tree.groups)) }
+fn groups_fit(groups: &Listed<'_>) -> bool
+    ensures { result ≡ list_all (λ e. settings_fit_one e.1) groups.now }
 {
-    for (_path, settings) in tree.present_groups(alloc)? {
+    for (_path, settings) in groups.iter() {
         if !settings_fit(settings) {
-            return Ok(false);
+            return false;
         }
     }
-    Ok(true)
+    true
 }
