@@ -185,7 +185,16 @@ only_none (Some x) h = absurd (h x refl)
 pub some_is : {X : Type 0} (P : X → Type 0) (o : Option X) (x : X) → o ≡ Some x → IfSome o P → P x
 some_is P o x e h = subst (λ o. IfSome o P) e h
 
--- ---- the paths where processes may be, collected group by group
+-- ---- the paths where processes may be
+
+-- a process may be in a group by the settings of that
+pub place_is : (T : Tree) (p : Path) (s : Settings) (b : Bool) → group T p ≡ Some s → b ≡ admits p s → IsTrue b ↔ IsSoundPlace T p
+place_is T p s b at is = (
+  λ t. (s, at, sym is ∙ t),
+  λ h. is ∙ ap (admits p) (same_Some s h.0 (sym at ∙ h.1)) ∙ h.2,
+)
+
+-- ---- and those paths collected group by group
 
 -- the references lead to the path of each of the groups that may have processes
 abbrev LeadToAll : List (Bor Path) → List (Path × Settings) → Type 0

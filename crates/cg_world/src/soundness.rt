@@ -5,13 +5,16 @@ ghost use Rattle.cg_name.specs.Path.{is_parent, is_root};
 ghost use Rattle.cg_name.specs.Refusal.{IsSyntaxOrMemory};
 ghost use Rattle.cg_name.specs.declared.refusal.Refusal.TheVariants.{Memory};
 ghost use Rattle.cg_model.specs.Sound.{Sound, IsChildOf, IsRootOf, admits};
-ghost use Rattle.cg_world.specs.Soundness.{HasGroup, HasParent, HasNoParent, HasSoundRoot, HasSoundGroups, HasSoundPlaces, IsSoundGroup, AreSoundPlaces};
+ghost use Rattle.cg_world.specs.Soundness.{HasGroup, HasParent, HasNoParent, HasSoundRoot, HasSoundGroups, HasSoundPlaces, IsSoundGroup, IsSoundPlace, AreSoundPlaces};
 
 use crate::plain::PlainTree;
 use cg_boxed::CompactSettings;
 use cg_name::{Path, Refusal};
 use indexmap::IndexSet;
 use std::alloc::{AllocError, Global};
+
+// How many groups there are to a process at least where the processes are few.
+const MANY_GROUPS: usize = 16;
 
 impl PlainTree {
     /// Refuses with `Syntax` a tree that isn't sound. `Memory` comes where there is none to find that out.
@@ -166,13 +169,39 @@ fn may_be_child(parent: &CompactSettings, settings: &CompactSettings) -> bool
 fn has_sound_places(tree: &PlainTree, alloc: Global) -> Result<bool, AllocError>
     ensures { IfOk result (λ sound. IsTrue sound ↔ HasSoundPlaces tree.now) }
 {
-    let allowed = sound_places(tree, alloc)?;
+    let kept = allowed_places(tree, alloc)?;
+    let allowed = kept.as_ref();
     for (_pid, path) in tree.places() {
-        if !allowed.contains(&path) {
+        if !is_sound_place(tree, allowed, path) {
             return Ok(false);
         }
     }
     Ok(true)
+}
+
+// Whether a process may be in the group at this path.
+fn is_sound_place(tree: &PlainTree, allowed: Option<&IndexSet<&Path>>, path: &Path) -> bool
+    requires { IfSome allowed (λ paths. AreSoundPlaces tree.now paths.now.keys) }
+    ensures { IsTrue result ↔ IsSoundPlace tree.now path.now }
+{
+    match allowed {
+        Some(paths) => paths.contains(&path),
+        None => match tree.settings(path) {
+            Some(settings) => may_have_processes(path, settings),
+            None => false,
+        },
+    }
+}
+
+// The paths of the groups that may have processes; none where the processes are so few that to look up the path of each in the
+// tree costs less than to go over the groups.
+fn allowed_places(tree: &PlainTree, alloc: Global) -> Result<Option<IndexSet<&Path>>, AllocError>
+    ensures { IfOk result (λ allowed. IfSome allowed (λ paths. AreSoundPlaces tree.now paths.keys)) }
+{
+    if tree.places().len() <= tree.groups().len() / MANY_GROUPS {
+        return Ok(None);
+    }
+    Ok(Some(sound_places(tree, alloc)?))
 }
 
 // The paths of the groups that may have processes. There a path is found by its hash, where the map of the groups would
