@@ -20,7 +20,7 @@ use std::marker::Model;
 #[derive(Drop)]
 pub struct WorldReader {
     stage: Stage,
-    // Of the groups so far.
+    // Of the groups, for the processes.
     paths: SharedPaths,
 }
 
@@ -57,7 +57,7 @@ impl WorldReader {
             return Ok(());
         }
         let mut statement = Statement::read(alloc, self.stage.version(), words.as_slice())?;
-        self.paths.share_in(alloc, &mut statement)?;
+        self.paths.share_in(alloc, &self.stage, &mut statement)?;
         self.stage.take(alloc, statement)
     }
 

@@ -1,19 +1,22 @@
 //! Paths of groups whose texts others share.
 ghost use Rattle.std.specs.Prelude.{◌≡◌};
 
+use crate::stage::Stage;
 use crate::statement::Statement;
+use cg_boxed::CompactSettings;
 use cg_name::Path;
 use indexmap::IndexSet;
 use std::alloc::{AllocError, Global};
+use std::collections::BTreeMap;
 
 // From how many bytes on a path's text lies in memory of its own.
 const WORTH_SHARING: usize = 15;
 
-// Paths, so that equal ones share their texts: a world has the path of a group in each line of a process there. That is for room
-// alone, and no clause tells which paths these are.
+// The paths of the groups, so that those of the processes share their texts: a world has the path of a group in each line of a
+// process there. That is for room alone, and no clause tells which paths these are.
 #[derive(Drop)]
 pub(crate) struct SharedPaths {
-    // None before the first one.
+    // None before the first path of a process that is worth sharing. No group comes behind a process.
     paths: Option<IndexSet<Path>>,
 }
 
@@ -23,41 +26,35 @@ impl SharedPaths {
         SharedPaths { paths: None }
     }
 
-    // Keeps the path in the line of a group; that in the line of a process shares the text of its group's from now on. It stays the
-    // same statement. An error, where there is no memory to keep a path.
+    // The path in the line of a process shares the text of its group's from now on, where the stage has that group. It stays the
+    // same statement. An error, where there is no memory to keep the paths of the groups.
     pub(crate) fn share_in(
         &mut self,
         alloc: Global,
+        stage: &Stage,
         statement: &mut Statement,
     ) -> Result<(), AllocError>
         ensures { statement.new ≡ statement.old }
     {
         match statement {
-            Statement::Group(path, _) => self.keep(alloc, path),
-            Statement::Process(_, path) => {
-                self.share(alloc, path);
-                Ok(())
-            }
+            Statement::Process(_, path) => self.share_of(alloc, stage, path),
             _ => Ok(()),
         }
     }
 
-    // Keeps the path, where its text is long. An error, where there is no memory for that.
-    fn keep(&mut self, alloc: Global, path: &Path) -> Result<(), AllocError> {
+    // The path of a process, where its text is long, shares that of its group's from now on. It stays the same path. An error, where
+    // there is no memory to keep the paths of the groups. Out of line, since most lines of a world are of groups.
+    #[inline(never)]
+    fn share_of(&mut self, alloc: Global, stage: &Stage, path: &mut Path) -> Result<(), AllocError>
+        ensures { path.new ≡ path.old }
+    {
         if path.as_bytes().len() < WORTH_SHARING {
             return Ok(());
         }
-        let copy = path.copy(alloc)?;
-        match &mut self.paths {
-            Some(paths) => {
-                paths.insert(copy)?;
-            }
-            None => {
-                let mut paths = IndexSet::new(alloc);
-                paths.insert(copy)?;
-                self.paths = Some(paths);
-            }
+        if self.paths.is_none() {
+            self.paths = long_paths(alloc, stage)?;
         }
+        self.share(alloc, path);
         Ok(())
     }
 
@@ -66,9 +63,6 @@ impl SharedPaths {
     fn share(&self, alloc: Global, path: &mut Path)
         ensures { path.new ≡ path.old }
     {
-        if path.as_bytes().len() < WORTH_SHARING {
-            return;
-        }
         let Some(paths) = &self.paths else {
             return;
         };
@@ -81,4 +75,27 @@ impl SharedPaths {
             _ => {}
         }
     }
+}
+
+// The paths of the groups that the stage has, where their texts are long; none where no group can have come. An error, where there is
+// no memory for them.
+fn long_paths(alloc: Global, stage: &Stage) -> Result<Option<IndexSet<Path>>, AllocError> {
+    let Some(tree) = stage.tree() else {
+        return Ok(None);
+    };
+    Ok(Some(long_paths_of(alloc, tree.groups())?))
+}
+
+// Those of these groups.
+fn long_paths_of(
+    alloc: Global,
+    groups: &BTreeMap<Path, CompactSettings>,
+) -> Result<IndexSet<Path>, AllocError> {
+    let mut paths = IndexSet::with_capacity(alloc, groups.len())?;
+    for (path, _settings) in groups {
+        if path.as_bytes().len() >= WORTH_SHARING {
+            paths.insert(path.copy(alloc)?)?;
+        }
+    }
+    Ok(paths)
 }
