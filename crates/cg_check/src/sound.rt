@@ -1,8 +1,9 @@
 //! Worlds of which the lines are right and the tree isn't sound. The rules are those of the kernel's cgroup-v2 page.
 use crate::fault::Faults;
 use crate::line::Line;
+use cg_boxed::CompactSettings;
 use cg_name::{Controller, Path, Refusal};
-use cg_text::{Controllers, LineWords, Settings, read_words};
+use cg_text::{Controllers, LineWords, read_words};
 use cg_world::PlainTree;
 use cg_world_text::{Statement, Version};
 use std::alloc::{AllocError, Global};
@@ -71,9 +72,9 @@ impl Sound {
         statement: Statement,
         faults: &mut Faults<'a>,
     ) -> Result<(), AllocError> {
-        let unsound = match statement {
-            Statement::Group(path, settings) => self.why_no_group(alloc, &path, &settings)?,
-            Statement::Process(_, path) => self.why_no_process(&path),
+        let unsound = match &statement {
+            Statement::Group(path, settings) => self.why_no_group(alloc, path, settings)?,
+            Statement::Process(_, path) => self.why_no_process(path),
             Statement::End if self.tree.settings(&Path::root(alloc)).is_none() => Some((
                 0,
                 "ends a world without a root",
@@ -92,7 +93,7 @@ impl Sound {
         &self,
         alloc: Global,
         path: &Path,
-        settings: &Settings,
+        settings: &CompactSettings,
     ) -> Result<Option<Unsound>, AllocError> {
         let Some(parent) = path.parent(alloc)? else {
             return Ok(self.why_no_root(settings));
@@ -108,22 +109,22 @@ impl Sound {
     }
 
     // Why the root can't have these settings.
-    fn why_no_root(&self, settings: &Settings) -> Option<Unsound> {
-        if let Some(controller) = first_beyond(settings.control, self.controllers) {
+    fn why_no_root(&self, settings: &CompactSettings) -> Option<Unsound> {
+        if let Some(controller) = first_beyond(settings.control(), self.controllers) {
             return Some((
                 2,
                 passes_on_absent(controller),
                 "the root passes on controllers of the computer alone",
             ));
         }
-        if settings.freeze {
+        if settings.freeze() {
             return Some((
                 3,
                 "freezes the root",
                 "the root has no cgroup.freeze, and 0 stands here",
             ));
         }
-        (!settings.cpus.is_empty()).then_some((
+        (!settings.cpus().is_empty()).then_some((
             4,
             "asks for CPUs for the root",
             "the root has no cpuset.cpus, and - stands here",
@@ -145,15 +146,15 @@ impl Sound {
 }
 
 // Why a group that passes these controllers on can't have a child with these settings.
-fn why_no_child(above: Controllers, settings: &Settings) -> Option<Unsound> {
-    if let Some(controller) = first_beyond(settings.control, above) {
+fn why_no_child(above: Controllers, settings: &CompactSettings) -> Option<Unsound> {
+    if let Some(controller) = first_beyond(settings.control(), above) {
         return Some((
             2,
             passes_on_unavailable(controller),
             "a group passes on only what its parent passes on to it",
         ));
     }
-    if settings.cpus.is_empty() || above.cpuset {
+    if settings.cpus().is_empty() || above.cpuset {
         return None;
     }
     Some((

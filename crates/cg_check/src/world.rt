@@ -11,7 +11,7 @@ use crate::uncut::uncut;
 use cg_boxed::CompactSettings;
 use cg_cpus::CpuSet;
 use cg_name::{Path, Refusal};
-use cg_text::{Controllers, LineWords, Settings, read_words};
+use cg_text::{Controllers, LineWords, read_words};
 use cg_world::{PlainTree, World};
 use cg_world_text::{LONGEST_WORLD, ReadWorld, Statement, Version};
 use indexmap::IndexSet;
@@ -200,7 +200,7 @@ impl<'a> Pass<'a> {
         }
         let version = self.version_for(line);
         match Statement::read(alloc, version, line.words) {
-            Ok(statement) => self.take_statement(alloc, line, statement),
+            Ok(statement) => self.take_statement(line, statement),
             Err(Refusal::Syntax) => {
                 let fault = self.why_no_statement(alloc, version, line)?;
                 self.faults.add(fault)
@@ -238,7 +238,6 @@ impl<'a> Pass<'a> {
     // Takes what a line says.
     fn take_statement(
         &mut self,
-        alloc: Global,
         line: Line<'a, '_>,
         statement: Statement,
     ) -> Result<(), AllocError> {
@@ -247,7 +246,7 @@ impl<'a> Pass<'a> {
             Statement::Controllers(controllers) => self.controllers = controllers,
             Statement::Online(_) | Statement::End => {}
             Statement::Group(path, settings) => {
-                return self.take_group(alloc, line, path, &settings);
+                return self.take_group(line, path, settings);
             }
             Statement::Process(pid, _path) => return self.take_process(line, pid),
         }
@@ -257,10 +256,9 @@ impl<'a> Pass<'a> {
     // Takes a group.
     fn take_group(
         &mut self,
-        alloc: Global,
         line: Line<'a, '_>,
         path: Path,
-        settings: &Settings,
+        settings: CompactSettings,
     ) -> Result<(), AllocError> {
         if self.tree.settings(&path).is_some() {
             return self.faults.add(line.wrong_word(
@@ -269,7 +267,6 @@ impl<'a> Pass<'a> {
                 "a group stands in one line alone",
             ));
         }
-        let settings = CompactSettings::new(alloc, settings)?;
         self.tree.set_group(path, settings)?;
         Ok(())
     }

@@ -1,6 +1,8 @@
 //! The words of which the lines of a world text are made.
 ghost use Rattle.std.specs.Prelude.{◌≡◌, ◌∷◌, [], IfOk, IfErr, OnOk, OnErr, List, map};
+ghost use Rattle.std.specs.Result.{IsErrOf};
 ghost use Rattle.cg_maps.specs.FiniteSet.{FiniteSet};
+ghost use Rattle.cg_name.specs.Refusal.{IsSyntaxOrMemory};
 ghost use Rattle.cg_name.specs.declared.refusal.Refusal.TheVariants.{Syntax};
 ghost use Rattle.cg_text.specs.Words.{Word};
 ghost use Rattle.cg_text.specs.Controllers.{no_controllers};
@@ -12,9 +14,11 @@ ghost use Rattle.cg_world_text.specs.Version.{last_cpu};
 ghost use Rattle.cg_world_text.specs.Parts.{SpellsSettings};
 
 use crate::version::Version;
+use cg_boxed::{BoxedCpus, CompactSettings};
 use cg_cpus::CpuSet;
 use cg_name::{Controller, Refusal};
-use cg_text::{Controllers, Limit, Settings, read_flag, read_limit};
+use cg_text::{Controllers, Limit, read_flag, read_limit};
+use std::alloc::Global;
 
 // Adds the controller of that name; `Syntax` where there is none, or the set has it.
 fn add_controller(set: &mut Controllers, name: &str) -> Result<(), Refusal>
@@ -60,7 +64,7 @@ fn read_control(word: &str) -> Result<Controllers, Refusal>
 }
 
 // The CPUs of a list: at least one, none above the version's greatest.
-pub(crate) fn read_cpus(version: Version, word: &str) -> Result<CpuSet, Refusal>
+fn read_cpus(version: Version, word: &str) -> Result<CpuSet, Refusal>
     ensures value { IfOk result (λ cpus. SpellsSomeCpus (last_cpu version) word.now cpus) }
     ensures syntax { OnErr result ((cpus : FiniteSet) → SpellsSomeCpus (last_cpu version) word.now cpus → ⊥) }
     ensures refusals { IfErr result (λ e. e ≡ Syntax) }
@@ -75,15 +79,30 @@ pub(crate) fn read_cpus(version: Version, word: &str) -> Result<CpuSet, Refusal>
     Ok(cpus)
 }
 
+// Those CPUs in the form in which they are kept. Out of line, so that a line that asks for none pays nothing for the room of
+// a set.
+#[inline(never)]
+pub(crate) fn read_listed_cpus(
+    alloc: Global,
+    version: Version,
+    word: &str,
+) -> Result<BoxedCpus, Refusal>
+    ensures value { IfOk result (λ cpus. SpellsSomeCpus (last_cpu version) word.now cpus) }
+    ensures syntax { IsErrOf result Refusal.Syntax → (cpus : FiniteSet) → SpellsSomeCpus (last_cpu version) word.now cpus → ⊥ }
+    ensures refusals { IfErr result IsSyntaxOrMemory }
+{
+    Ok(BoxedCpus::new(alloc, read_cpus(version, word)?)?)
+}
+
 // Such a list, or no CPU for a minus.
-fn read_asked_cpus(version: Version, word: &str) -> Result<CpuSet, Refusal>
+fn read_asked_cpus(alloc: Global, version: Version, word: &str) -> Result<BoxedCpus, Refusal>
     ensures value { IfOk result (λ cpus. SpellsAskedCpus (last_cpu version) word.now cpus) }
-    ensures syntax { OnErr result ((cpus : FiniteSet) → SpellsAskedCpus (last_cpu version) word.now cpus → ⊥) }
-    ensures refusals { IfErr result (λ e. e ≡ Syntax) }
+    ensures syntax { IsErrOf result Refusal.Syntax → (cpus : FiniteSet) → SpellsAskedCpus (last_cpu version) word.now cpus → ⊥ }
+    ensures refusals { IfErr result IsSyntaxOrMemory }
 {
     match word {
-        "-" => Ok(CpuSet::empty()),
-        _ => read_cpus(version, word),
+        "-" => Ok(BoxedCpus::empty()),
+        _ => read_listed_cpus(alloc, version, word),
     }
 }
 
@@ -107,22 +126,26 @@ fn read_limits(version: Version, words: &[&str]) -> Result<(Limit, Limit), Refus
 
 // The settings of a group, from the words behind its path.
 pub(crate) fn read_settings(
+    alloc: Global,
     version: Version,
     control: &str,
     freeze: &str,
     cpus: &str,
     limits: &[&str],
-) -> Result<Settings, Refusal>
+) -> Result<CompactSettings, Refusal>
     ensures value { IfOk result (λ s. SpellsSettings version control.now freeze.now cpus.now (map (λ w. w.now) limits.now) s) }
-    ensures syntax { OnErr result ((s : settings.Settings) → SpellsSettings version control.now freeze.now cpus.now (map (λ w. w.now) limits.now) s → ⊥) }
-    ensures refusals { IfErr result (λ e. e ≡ Syntax) }
+    ensures syntax { IsErrOf result Refusal.Syntax → (s : settings.Settings) → SpellsSettings version control.now freeze.now cpus.now (map (λ w. w.now) limits.now) s → ⊥ }
+    ensures refusals { IfErr result IsSyntaxOrMemory }
 {
     let (max_descendants, max_depth) = read_limits(version, limits)?;
-    Ok(Settings {
-        control: read_control(control)?,
-        freeze: read_flag(freeze)?,
-        cpus: read_asked_cpus(version, cpus)?,
-        max_descendants,
-        max_depth,
-    })
+    let control = read_control(control)?;
+    let freeze = read_flag(freeze)?;
+    let cpus = read_asked_cpus(alloc, version, cpus)?;
+    let mut settings = CompactSettings::fresh();
+    settings.set_control(control);
+    settings.set_freeze(freeze);
+    settings.set_cpus(cpus);
+    settings.set_max_descendants(max_descendants);
+    settings.set_max_depth(max_depth);
+    Ok(settings)
 }

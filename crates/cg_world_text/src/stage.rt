@@ -12,10 +12,9 @@ ghost use Rattle.cg_world_text.specs.Stage.{HasPid, behind_groups, taken, versio
 
 use crate::statement::Statement;
 use crate::version::Version;
-use cg_boxed::CompactSettings;
-use cg_cpus::CpuSet;
+use cg_boxed::{BoxedCpus, CompactSettings};
 use cg_name::{Path, Refusal};
-use cg_text::{Controllers, Settings};
+use cg_text::Controllers;
 use cg_world::PlainTree;
 use std::alloc::Global;
 use std::mem;
@@ -68,23 +67,23 @@ impl Stage {
         ensures refusals { IfErr result IsSyntaxOrMemory }
     {
         match statement {
-            Statement::Group(path, settings) => self.take_group(alloc, path, &settings),
+            Statement::Group(path, settings) => self.take_group(path, settings),
             Statement::Process(pid, path) => self.take_process(pid, path),
             Statement::End => self.take_end(),
             Statement::Version(version) => self.take_version(version),
             Statement::Controllers(controllers) => self.take_controllers(controllers),
-            Statement::Online(online) => self.take_online(alloc, online),
+            Statement::Online(online) => self.take_online(alloc, &online),
         }
     }
 
     // Takes the line of a group.
-    fn take_group(&mut self, alloc: Global, path: Path, settings: &Settings) -> Result<(), Refusal>
-        ensures value { OnOk result (taken self.old (Group path settings.now) ≡ Some self.new) }
-        ensures syntax { IsErrOf result Refusal.Syntax → taken self.old (Group path settings.now) ≡ None }
+    fn take_group(&mut self, path: Path, settings: CompactSettings) -> Result<(), Refusal>
+        ensures value { OnOk result (taken self.old (Group path settings) ≡ Some self.new) }
+        ensures syntax { IsErrOf result Refusal.Syntax → taken self.old (Group path settings) ≡ None }
         ensures refusals { IfErr result IsSyntaxOrMemory }
     {
         match self {
-            Stage::Groups(_, tree) => add_group(alloc, tree, path, settings),
+            Stage::Groups(_, tree) => add_group(tree, path, settings),
             _ => Err(Refusal::Syntax),
         }
     }
@@ -161,14 +160,14 @@ impl Stage {
     }
 
     // Takes the line of the online CPUs.
-    fn take_online(&mut self, alloc: Global, online: CpuSet) -> Result<(), Refusal>
-        ensures value { OnOk result (taken self.old (Online online) ≡ Some self.new) }
-        ensures syntax { OnErr result (taken self.old (Online online) ≡ None) }
+    fn take_online(&mut self, alloc: Global, online: &BoxedCpus) -> Result<(), Refusal>
+        ensures value { OnOk result (taken self.old (Online online.now) ≡ Some self.new) }
+        ensures syntax { OnErr result (taken self.old (Online online.now) ≡ None) }
         ensures refusals { IfErr result (λ e. e ≡ Syntax) }
     {
         match *self {
             Stage::Controlled(version, controllers) => {
-                *self = Stage::Groups(version, PlainTree::new(alloc, controllers, online));
+                *self = Stage::Groups(version, PlainTree::new(alloc, controllers, online.get()));
                 Ok(())
             }
             _ => Err(Refusal::Syntax),
@@ -177,18 +176,12 @@ impl Stage {
 }
 
 // Adds a group to a tree; `Syntax` where it has it already. After an error nothing is told of the tree.
-fn add_group(
-    alloc: Global,
-    tree: &mut PlainTree,
-    path: Path,
-    settings: &Settings,
-) -> Result<(), Refusal>
+fn add_group(tree: &mut PlainTree, path: Path, settings: CompactSettings) -> Result<(), Refusal>
     ensures free { OnOk result (is_some (group tree.old path) ≡ false) }
-    ensures value { OnOk result (tree.new ≡ with_group tree.old path settings.now) }
+    ensures value { OnOk result (tree.new ≡ with_group tree.old path settings) }
     ensures syntax { IsErrOf result Refusal.Syntax → is_some (group tree.old path) ≡ true }
     ensures refusals { IfErr result IsSyntaxOrMemory }
 {
-    let settings = CompactSettings::new(alloc, settings)?;
     if tree.set_group(path, settings)? {
         return Err(Refusal::Syntax);
     }

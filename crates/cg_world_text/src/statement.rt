@@ -6,14 +6,15 @@ ghost use Rattle.cg_name.specs.Refusal.{IsSyntaxOrMemory};
 ghost use Rattle.cg_world_text.specs.declared.statement.Statement as statement;
 ghost use Rattle.cg_world_text.specs.Statement.{SpellsStatement};
 
-use crate::parts::{read_controllers, read_cpus, read_settings};
+use crate::parts::{read_controllers, read_listed_cpus, read_settings};
 use crate::version::Version;
-use cg_cpus::CpuSet;
+use cg_boxed::{BoxedCpus, CompactSettings};
 use cg_name::{Path, Refusal};
-use cg_text::{Controllers, Settings, read_pid};
+use cg_text::{Controllers, read_pid};
 use std::alloc::Global;
 
-/// What one line of a world text says.
+/// What one line of a world text says. It holds CPUs and the settings of a group in little room, as a tree keeps them, so
+/// that it is small and cheap to move.
 #[derive(Drop)]
 pub enum Statement {
     /// `world` and the version.
@@ -21,9 +22,9 @@ pub enum Statement {
     /// `controllers` and the computer's controllers.
     Controllers(Controllers),
     /// `online` and the CPUs that are online.
-    Online(CpuSet),
+    Online(BoxedCpus),
     /// `group`, its path and its settings.
-    Group(Path, Settings),
+    Group(Path, CompactSettings),
     /// `proc`, its PID and its group's path.
     Process(u32, Path),
     /// `end`
@@ -32,7 +33,7 @@ pub enum Statement {
 
 impl Statement {
     /// What the words of a line say in a text of the version; `Syntax` where they say nothing that it may, `Memory`
-    /// where there is none for a path.
+    /// where there is none for a path or for CPUs.
     pub fn read(alloc: Global, version: Version, words: &[&str]) -> Result<Statement, Refusal>
         ensures value { IfOk result (λ s. SpellsStatement version (map (λ w. w.now) words.now) s) }
         ensures syntax { IsErrOf result Refusal.Syntax → (s : statement.Statement) → SpellsStatement version (map (λ w. w.now) words.now) s → ⊥ }
@@ -44,7 +45,7 @@ impl Statement {
         match *keyword {
             "world" => read_version(version, rest),
             "controllers" => Ok(Statement::Controllers(read_controllers(rest)?)),
-            "online" => read_online(version, rest),
+            "online" => read_online(alloc, version, rest),
             "group" => read_group(alloc, version, rest),
             "proc" => read_process(alloc, version, rest),
             "end" => read_end(version, rest),
@@ -67,13 +68,13 @@ fn read_version(version: Version, rest: &[&str]) -> Result<Statement, Refusal>
 }
 
 // The online CPUs, from what stands behind `online`.
-fn read_online(version: Version, rest: &[&str]) -> Result<Statement, Refusal>
+fn read_online(alloc: Global, version: Version, rest: &[&str]) -> Result<Statement, Refusal>
     ensures value { IfOk result (λ s. SpellsStatement version (codes "online" ∷ map (λ w. w.now) rest.now) s) }
-    ensures syntax { OnErr result ((s : statement.Statement) → SpellsStatement version (codes "online" ∷ map (λ w. w.now) rest.now) s → ⊥) }
-    ensures refusals { IfErr result (λ e. e ≡ Syntax) }
+    ensures syntax { IsErrOf result Refusal.Syntax → (s : statement.Statement) → SpellsStatement version (codes "online" ∷ map (λ w. w.now) rest.now) s → ⊥ }
+    ensures refusals { IfErr result IsSyntaxOrMemory }
 {
     match rest {
-        [cpus] => Ok(Statement::Online(read_cpus(version, cpus)?)),
+        [cpus] => Ok(Statement::Online(read_listed_cpus(alloc, version, cpus)?)),
         _ => Err(Refusal::Syntax),
     }
 }
@@ -87,7 +88,7 @@ fn read_group(alloc: Global, version: Version, rest: &[&str]) -> Result<Statemen
     match rest {
         [path, control, freeze, cpus, limits @ ..] => Ok(Statement::Group(
             Path::read(alloc, path)?,
-            read_settings(version, control, freeze, cpus, limits)?,
+            read_settings(alloc, version, control, freeze, cpus, limits)?,
         )),
         _ => Err(Refusal::Syntax),
     }
