@@ -7,8 +7,9 @@ use Rattle.std.specs.Cmp.Lexicographic.{slice_cmp, pointwise, texts_ties, lists_
 use Rattle.std.proofs.lemmas.Bool.Decides.{nat_tests}
 use Rattle.std.proofs.lemmas.Bool.{eqb-true}
 use Rattle.cg_name.specs.Name.{Name, name_cmp}
-use Rattle.cg_name.specs.Path.{Path, path_cmp}
-use Rattle.cg_name.specs.Packed.{names_in, first_name, BeginsName}
+use Rattle.cg_name.specs.Path.{Path, path_cmp, IsPath}
+use Rattle.cg_name.specs.Packed.{names_in, packed_text, first_name, BeginsName}
+use Rattle.cg_name.proofs.Packing.{names_in-packed_text, start-packed_text}
 
 then_assoc : (a b c : Ordering) → ordering_then a (ordering_then b c) ≡ ordering_then (ordering_then a b) c
 then_assoc Less b c = refl
@@ -45,3 +46,9 @@ packed_order (x ∷ xs) (y ∷ ys) h k = rw (h, k) (by_parts xs ys)
 
 pub packed_ties : (xs ys : List ℕ) → BeginsName xs → BeginsName ys → pointwise nat_eq xs ys ≡ pointwise (pointwise nat_eq) (names_in xs) (names_in ys)
 packed_ties xs ys h k = texts_ties xs ys ∙ ap is_eq (packed_order xs ys h k) ∙ sym (lists_ties name_cmp texts_ties (names_in xs) (names_in ys))
+
+pub text_order : (p q : Path) → IsPath p → IsPath q → slice_cmp nat_cmp (packed_text p) (packed_text q) ≡ path_cmp p q
+text_order p q h k = packed_order (packed_text p) (packed_text q) (start-packed_text p) (start-packed_text q) ∙ rw (names_in-packed_text p h, names_in-packed_text q k) refl
+
+pub text_ties : (p q : Path) → IsPath p → IsPath q → pointwise nat_eq (packed_text p) (packed_text q) ≡ pointwise (pointwise nat_eq) p q
+text_ties p q h k = packed_ties (packed_text p) (packed_text q) (start-packed_text p) (start-packed_text q) ∙ rw (names_in-packed_text p h, names_in-packed_text q k) refl

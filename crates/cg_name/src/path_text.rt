@@ -157,16 +157,17 @@ impl PathText {
         }
     }
 
-    // Whether the texts are known to be one: short ones by all their bytes at once, with those behind the text.
+    // Whether the texts are one, where both are short: by all their bytes at once, with those behind the text. `None` where one is
+    // long, and nothing is then told.
     #[inline(always)]
-    pub(crate) fn is_same(&self, other: &PathText) -> bool
-        ensures { IsTrue result → self.now ≡ other.now }
+    pub(crate) fn is_same_short(&self, other: &PathText) -> Option<bool>
+        ensures { IfSome result (λ same. IsTrue same → self.now ≡ other.now) }
     {
         match (&self.kept, &other.kept) {
             (Kept::Short(len, bytes), Kept::Short(other_len, others)) => {
-                *len == *other_len && are_same(bytes, others)
+                Some(*len == *other_len && are_same(bytes, others))
             }
-            _ => self.as_slice() == other.as_slice(),
+            _ => None,
         }
     }
 

@@ -11,8 +11,7 @@ pub(crate) fn text(path: &Path) -> &str
     ensures packed { IsPacked result.now }
     ensures text { result.now ≡ packed_text path.now }
 {
-    // Names are UTF-8, and so are zero bytes.
-    unsafe { std::str::from_utf8_unchecked(path.as_bytes()) }
+    path.as_str()
 }
 
 // The text of the path of the first names.

@@ -1,8 +1,9 @@
 use Rattle.std.proofs.Common.{take, sym, ap, subst, ◌∙◌}
 use Rattle.cg_name.specs.Packed.{names_in, IsPacked}
 use Rattle.cg_path_tree.specs.Nodes.{parent_path}
+use Rattle.cg_name.proofs.Utf8.{utf8_packed}
 use Rattle.cg_path_tree.proofs.LastName.{packed_before}
-use Rattle.cg_path_tree.proofs.Texts.{tells, packed, utf8_packed}
+use Rattle.cg_path_tree.proofs.Texts.{tells, packed}
 use Rattle.cg_path_tree.proofs.path_text.parent_text.Goals as goal
 
 pub last_name_start-start-requires : goal.last_name_start-start-requires

@@ -1,7 +1,8 @@
 use Rattle.std.proofs.Common.{take, sym, subst, ◌∙◌}
 use Rattle.std.specs.Str.{IsUtf8}
 use Rattle.cg_name.proofs.Packing.{path-take}
-use Rattle.cg_path_tree.proofs.Texts.{utf8_text, tells, packed}
+use Rattle.cg_name.proofs.Utf8.{utf8_text}
+use Rattle.cg_path_tree.proofs.Texts.{tells, packed}
 use Rattle.cg_path_tree.proofs.path_text.prefix_text.Goals as goal
 
 pub from_utf8_unchecked-requires : goal.from_utf8_unchecked-requires
