@@ -23,6 +23,12 @@ impl Numbered {
         }
     }
 
+    // How many numbers have room.
+    #[inline(always)]
+    pub(crate) fn len(&self) -> usize {
+        self.nodes.len()
+    }
+
     // The node that was found for the number last, or any.
     #[inline(always)]
     pub(crate) fn get(&self, number: u32) -> NodeKey {

@@ -11,15 +11,11 @@ use crate::counted;
 use crate::held::{Held, Kind, Part};
 use crate::holders::lesser;
 use crate::numbered::Numbered;
-use crate::upward::{add_mark, drop_unheld, least_above, reach, remove_mark};
+use crate::upward::{add_mark, drop_unneeded, least_above, reach, remove_mark};
 use cg_name::{Path, TxnNumber};
 use cg_path_tree::{NodeKey, PathTree};
 use std::alloc::{AllocError, Global};
 use std::marker::Model;
-
-// So many nodes stay when nobody holds anything there any more: what is marked again finds its path. Once there are more, and
-// nobody holds anything at all, they go together, so that paths which don't come again take no places from those that do.
-const KEPT: usize = 4096;
 
 // Who holds marks at paths. Where there is a node, there is one at each prefix.
 pub(crate) struct PathHolders {
@@ -249,9 +245,7 @@ impl PathHolders {
             return;
         };
         remove_mark(&mut self.nodes, key, kind, transaction);
-        if self.nodes.len() > KEPT {
-            drop_unheld(&mut self.nodes, key);
-        }
+        drop_unneeded(&mut self.nodes, key, self.found.len());
     }
 
     // One holding more by the transaction of each of these numbers. An error, where there is no memory for them, leaves what
@@ -288,9 +282,7 @@ impl PathHolders {
             return;
         };
         counted::remove(&mut self.nodes, key, depths, transaction);
-        if self.nodes.len() > KEPT {
-            drop_unheld(&mut self.nodes, key);
-        }
+        drop_unneeded(&mut self.nodes, key, self.found.len());
     }
 }
 

@@ -14,9 +14,15 @@ use cg_name::{Path, TxnNumber};
 use cg_path_tree::{NodeKey, PathTree};
 use std::alloc::{AllocError, Global};
 
-// The nodes above a mark that went stay until there are more than so many: marks come below them more often than at the mark's
-// own path.
-const KEPT_ABOVE: usize = 16_384;
+// So many nodes stay at least, and at most, when nobody holds anything there any more: what is marked again finds its node. In
+// between they are as many as there are groups, to any of which marks may come.
+const LEAST_KEPT: usize = 4096;
+
+const MOST_KEPT: usize = 65_536;
+
+// The nodes above a mark that went stay until there are so many times more: marks come below them more often than at the mark's own
+// path.
+const ABOVE: usize = 4;
 
 // The least other transaction with a mark at the node's path or above that clashes with one of this kind there.
 pub(crate) fn least_above(
@@ -198,8 +204,8 @@ pub(crate) fn remove_mark(
 }
 
 // Takes out the node where nobody holds anything and no node lies below; and then those above that are so, as long as there are
-// more than stay there.
-fn drop_free(nodes: &mut PathTree<Held>, key: NodeKey)
+// more than so many.
+fn drop_free(nodes: &mut PathTree<Held>, key: NodeKey, kept_above: usize)
     requires { IsKey nodes.old.keys key }
     ensures { IsSameHeld nodes.old.values nodes.new.values }
 {
@@ -210,9 +216,9 @@ fn drop_free(nodes: &mut PathTree<Held>, key: NodeKey)
     nodes.laws();
     let _ = nodes.remove(key);
     if let Some(parent) = parent {
-        if nodes.len() > KEPT_ABOVE {
+        if nodes.len() > kept_above {
             nodes.laws();
-            drop_free(nodes, parent);
+            drop_free(nodes, parent, kept_above);
         }
     }
 }
@@ -228,17 +234,29 @@ fn is_free(nodes: &PathTree<Held>) -> bool
     nodes.get(root).is_empty() && nodes.all(|held| held.is_empty())
 }
 
-// Takes out what is of no use any more: all nodes, where nobody holds anything at any of them, and else this one and those
-// above, as `drop_free` does. The first costs no more than the nodes did that were made since it was last done, and leaves
-// their memory to those to come.
-pub(crate) fn drop_unheld(nodes: &mut PathTree<Held>, key: NodeKey)
+// Takes out what is of no use any more, where there are more nodes than stay beside so many groups.
+#[inline(always)]
+pub(crate) fn drop_unneeded(nodes: &mut PathTree<Held>, key: NodeKey, groups: usize)
+    requires { IsKey nodes.old.keys key }
+    ensures { IsSameHeld nodes.old.values nodes.new.values }
+{
+    let kept = groups.clamp(LEAST_KEPT, MOST_KEPT);
+    if nodes.len() > kept {
+        drop_unheld(nodes, key, kept);
+    }
+}
+
+// All nodes, where nobody holds anything at any of them, and else this one and those above, as `drop_free` does. The first costs
+// no more than the nodes did that were made since it was last done, and leaves their memory to those to come, and their places:
+// paths that don't come again take none from those that do.
+fn drop_unheld(nodes: &mut PathTree<Held>, key: NodeKey, kept: usize)
     requires { IsKey nodes.old.keys key }
     ensures { IsSameHeld nodes.old.values nodes.new.values }
 {
     if is_free(nodes) {
         nodes.clear();
     } else {
-        drop_free(nodes, key);
+        drop_free(nodes, key, kept.saturating_mul(ABOVE));
     }
 }
 
