@@ -1,4 +1,4 @@
-//! A text in memory of its own.
+//! A text in one allocation.
 ghost use Rattle.std.specs.Prelude.{◌≡◌, IfOk, nat_eq};
 ghost use Rattle.std.proofs.Common.{rules};
 ghost use Rattle.std.specs.Cmp.Lexicographic.{pointwise};
@@ -7,11 +7,12 @@ ghost use Rattle.std.specs.Cmp.Rules.{comparing};
 use smallvec::SmallVec;
 use std::alloc::{AllocError, Global};
 use std::marker::Model;
+use std::sync::Arc;
 
-/// The bytes of a text, in memory of its own. What holds one has room for 8 bytes alone.
+/// The bytes of a text, in an allocation that its copies share. What holds one has room for 8 bytes alone.
 pub struct BoxedText {
     // Most texts of interface files lie in the one allocation.
-    bytes: Box<SmallVec<u8, 24>>,
+    bytes: Arc<SmallVec<u8, 24>, Global>,
 }
 
 // Else an answer that is no text would be larger, too.
@@ -53,7 +54,7 @@ impl BoxedText {
     {
         let bytes = SmallVec::from_slice(alloc, bytes)?;
         Ok(BoxedText {
-            bytes: Box::new(alloc, bytes)?,
+            bytes: Arc::new(alloc, bytes)?,
         })
     }
 
@@ -64,10 +65,12 @@ impl BoxedText {
         self.bytes.as_slice()
     }
 
-    /// An equal text; an error where there is no memory for it.
-    pub fn copy(&self, alloc: Global) -> Result<BoxedText, AllocError>
+    /// An equal text, which takes no memory; an error where too many share it.
+    pub fn copy(&self, _alloc: Global) -> Result<BoxedText, AllocError>
         ensures { IfOk result (λ t. t ≡ self.now) }
     {
-        BoxedText::new(alloc, self.as_slice())
+        Ok(BoxedText {
+            bytes: self.bytes.clone()?,
+        })
     }
 }

@@ -63,11 +63,6 @@ pub noted_is : {s k t m : ℕ} {q : Request cgroups} {a c : Answer} {g h : Histo
 noted_is {s} {k} {t} {m} {q} number answer before pushed =
     ap (λ p. p.0) pushed ∙ (λ i. record { session = s; transaction = number i; request = q; answer = answer i } ∷ before i)
 
--- the same record, by what its request is equal to
-pub asked_as : {s t m : ℕ} {q r : Request cgroups} {a : Answer} {h : History cgroups} {p : History cgroups × ℕ} → q ≡ r
-    → p ≡ (record { session = s; transaction = t; request = q; answer = a } ∷ h, m) → p ≡ (record { session = s; transaction = t; request = r; answer = a } ∷ h, m)
-asked_as {s} {t} {m} {a = a} {h} same pushed = pushed ∙ ap (λ r. (record { session = s; transaction = t; request = r; answer = a } ∷ h, m)) same
-
 -- what holds once a value is lent, where one is
 pub where_lent : {A P : Type 0} {r : Option A} {v : A} → r ≡ Some v → OnSome r P → P
 where_lent {A} {P} is holds = subst (λ r. OnSome r P) is holds

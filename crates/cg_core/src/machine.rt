@@ -290,8 +290,8 @@ impl Core {
     {
         match request {
             Request::Begin => self.begin(alloc, session),
-            Request::Do(command) => {
-                self.look_up(&command);
+            Request::Do(mut command) => {
+                self.look_up(alloc, &mut command);
                 self.run(alloc, session, command, copies)
             }
             Request::Save(name) => self.save(session, name),

@@ -28,14 +28,16 @@ use std::alloc::Global;
 
 impl Core {
     // Looks the path that the command names up once, in the tree and in the table of locks, where what follows asks for it several
-    // times. Takes no memory.
-    pub(crate) fn look_up(&mut self, command: &Command)
-        ensures { self.new ≡ self.old }
+    // times. The command shares the tree's text of it from now on, and so does what is kept of the command. Takes no memory.
+    pub(crate) fn look_up(&mut self, alloc: Global, command: &mut Command)
+        ensures core { self.new ≡ self.old }
+        ensures command { command.new ≡ command.old }
     {
         if let Some(path) = command.path() {
             let number = self.tree.visit(path);
             self.locks.visit(path, number);
         }
+        command.share(alloc, &self.tree);
     }
 
     // Runs a command in the session's transaction. Of a text that it shows the copy for the session to write down, where it does,
@@ -44,7 +46,7 @@ impl Core {
         &mut self,
         alloc: Global,
         session: SessionId,
-        mut command: Command,
+        command: Command,
         copies: &mut Copies,
     ) -> Answer
         ensures answer { OnFalse (is_memory result) (answer_of result ≡ reply self.old session.0 (model.Do (command_of command))) }
@@ -72,7 +74,6 @@ impl Core {
         ) {
             Ok(answer) => {
                 let recorded = again(&answer, &mut copies.recorded);
-                command.share(alloc, &self.tree);
                 self.history.push(Record {
                     session,
                     txn: number,

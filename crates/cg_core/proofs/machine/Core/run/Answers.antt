@@ -17,7 +17,7 @@ use Rattle.cg_core.specs.Settled.{IsUnheard}
 use Rattle.cg_core.specs.State.{has_record}
 use Rattle.cg_core.proofs.CommitPlaces.{settled_other}
 use Rattle.cg_commits.specs.Answers.{is_commit}
-use Rattle.cg_core.proofs.ReturningParts.{answer_told, asked_as, few, full_told, history_out, noted_is, out_refused, state_told, where_lent}
+use Rattle.cg_core.proofs.ReturningParts.{answer_told, few, full_told, history_out, noted_is, out_refused, state_told, where_lent}
 use Rattle.cg_core.proofs.RunCommands.{command_noted, same_core, run_full}
 use Rattle.cg_core.proofs.Settling.{no_memory, settled_reply, settled_noted, settled_history, settled_core}
 use Rattle.cg_core.proofs.machine.Core.run.Goals as goal
@@ -97,7 +97,7 @@ invariant_of-self-in-Ok c =
     let room : is_full c.self.inside.limit c.self.inside.history.0 ≡ false = full_told c.self.view_is c.is_full-full.ensures c.in-Ok.ensures.room in
     let written : c.get_mut.follows.lender last ≡ with_value c.args.session.0 last c.self.inside.open = where_lent c.in-Some.is (c.get_mut.follows.holds last) in
     subst₂ (λ k l. IsCoreOf c.self.inside.opening c.self.inside.limit k c.push.new.self.1 c.settle.new.tree c.settle.new.locks l)
-    (sym (noted_is c.number-number.ensures c.again-recorded.ensures refl (asked_as (ap (λ v. Do (command_of v)) c.share.ensures) c.push.ensures))) (sym written)
+    (sym (noted_is c.number-number.ensures c.again-recorded.ensures refl c.push.ensures)) (sym written)
     (settled_core c.self.invariant c.args.session.0 c.in-Some.txn.now (sym c.in-Some.ensures.value) (command_of c.args.command) (proper c.args.command) room _ _ _ last c.settle.new.history c.in-Ok.ensures.settled
     c.push.new.self.1 (ap (λ p. p.1) c.push.ensures))
 
@@ -114,7 +114,7 @@ returns-in-Ok-clause-state c =
     unless _
     (state_told c.args.session.0 (Do (command_of c.args.command)) c.self.view_is
     (settled_history c.self.invariant c.args.session.0 c.in-Some.txn.now (sym c.in-Some.ensures.value) (command_of c.args.command) (proper c.args.command) room _ _ _ _ c.settle.new.history c.in-Ok.ensures.settled
-    ∙ sym (noted_is c.number-number.ensures c.again-recorded.ensures refl (asked_as (ap (λ v. Do (command_of v)) c.share.ensures) c.push.ensures))))
+    ∙ sym (noted_is c.number-number.ensures c.again-recorded.ensures refl c.push.ensures)))
 
 pub returns-in-Ok-clause-unrecorded : goal.returns-in-Ok-clause-unrecorded
 returns-in-Ok-clause-unrecorded c = λ unnoted.
