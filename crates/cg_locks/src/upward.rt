@@ -14,10 +14,11 @@ use cg_name::{Path, TxnNumber};
 use cg_path_tree::{NodeKey, PathTree};
 use std::alloc::{AllocError, Global};
 
-// So many nodes stay at least, and at most, when nobody holds anything there any more: what is marked again finds its node. In
-// between they are as many as there are groups, to any of which marks may come.
+// So many nodes stay at least when nobody holds anything there any more: what is marked again finds its node. Where there is room
+// for more numbers of groups, as many stay as these, since marks may come to any group.
 const LEAST_KEPT: usize = 4096;
 
+// And so many at most.
 const MOST_KEPT: usize = 65_536;
 
 // The nodes above a mark that went stay until there are so many times more: marks come below them more often than at the mark's own
@@ -234,7 +235,7 @@ fn is_free(nodes: &PathTree<Held>) -> bool
     nodes.get(root).is_empty() && nodes.all(|held| held.is_empty())
 }
 
-// Takes out what is of no use any more, where there are more nodes than stay beside so many groups.
+// Takes out what is of no use any more, where there are more nodes than stay beside room for the numbers of so many groups.
 #[inline(always)]
 pub(crate) fn drop_unneeded(nodes: &mut PathTree<Held>, key: NodeKey, groups: usize)
     requires { IsKey nodes.old.keys key }
@@ -246,9 +247,9 @@ pub(crate) fn drop_unneeded(nodes: &mut PathTree<Held>, key: NodeKey, groups: us
     }
 }
 
-// All nodes, where nobody holds anything at any of them, and else this one and those above, as `drop_free` does. The first costs
-// no more than the nodes did that were made since it was last done, and leaves their memory to those to come, and their places:
-// paths that don't come again take none from those that do.
+// Takes out all nodes, where nobody holds anything at any of them, and else this one and those above, as `drop_free` does. The
+// first costs no more than the nodes did that were made since it was last done, and leaves their memory to those to come, and their
+// places: paths that don't come again take none from those that do.
 fn drop_unheld(nodes: &mut PathTree<Held>, key: NodeKey, kept: usize)
     requires { IsKey nodes.old.keys key }
     ensures { IsSameHeld nodes.old.values nodes.new.values }
