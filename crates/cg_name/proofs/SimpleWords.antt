@@ -157,29 +157,29 @@ is_marked b before kept (inr h) = h.2 ∙ sym (ap marked h.0)
 
 -- the array has the first bytes, and zeros behind them
 abbrev Holds : List ℕ → ℕ → List ℕ → Type 0
-Holds text i bytes = bytes ≡ (0 ∷ map marked (take i text)) ++ replicate (14 - (i + 1)) 0
+Holds text i bytes = bytes ≡ (0 ∷ map marked (take i text)) ++ replicate (12 - (i + 1)) 0
 
 kept_length : (text : List ℕ) (i : ℕ) → i < length text → length (0 ∷ map marked (take i text)) ≡ i + 1
 kept_length text i low = omega (arith, low, length-map (take i text) marked, length-take i text)
 
 -- one byte more is kept
-pub one_kept : (text bytes : List ℕ) (i before kept : ℕ) → i < length text → length text < 14 → KeptFor (get_or text i 0) before kept → Holds text i bytes → Holds text (i + 1) (set bytes (i + 1) kept)
+pub one_kept : (text bytes : List ℕ) (i before kept : ℕ) → i < length text → length text < 12 → KeptFor (get_or text i 0) before kept → Holds text i bytes → Holds text (i + 1) (set bytes (i + 1) kept)
 one_kept text bytes i before kept low few k h =
     let b : ℕ = get_or text i 0 in
     let more : map marked (take (i + 1) text) ≡ map marked (take i text) ++ marked b ∷ [] = ap (map marked) (take_more text i 0 low) ∙ map-append marked (take i text) (b ∷ []) in
     let same : (0 ∷ map marked (take i text)) ++ kept ∷ [] ≡ 0 ∷ map marked (take (i + 1) text) = (λ j. 0 ∷ (map marked (take i text) ++ is_marked b before kept k j ∷ [])) ∙ ap (λ z. 0 ∷ z) (sym more) in
-    filled_more (0 ∷ map marked (take i text)) bytes 14 (i + 1) kept (kept_length text i low) (omega (arith, low, few)) h ∙ ap (λ z. z ++ replicate (14 - (i + 1 + 1)) 0) same
+    filled_more (0 ∷ map marked (take i text)) bytes 12 (i + 1) kept (kept_length text i low) (omega (arith, low, few)) h ∙ ap (λ z. z ++ replicate (12 - (i + 1 + 1)) 0) same
 
 pub read_on : (b before kept : ℕ) (bs : List ℕ) → KeptFor b before kept → simple_text (before == 0) (b ∷ bs) ≡ simple_text (kept == 0) bs
 read_on b before kept bs (inl h) = cond-true _ _ _ h.0 ∙ ap (λ z. simple_text z bs) (sym (ap (λ k. k == 0) h.1 ∙ no_zero b h.0))
 read_on b before kept bs (inr h) = rw (h.0, h.2, ne_eqb before 0 h.1) refl
 
 -- and what is left decides
-pub one_read : (text bytes : List ℕ) (i before kept : ℕ) (all : Bool) → i < length text → length text < 14 → before ≡ get_or bytes i 0 → KeptFor (get_or text i 0) before kept → Holds text i bytes → simple_text (get_or bytes i 0 == 0) (drop i text) ≡ all
+pub one_read : (text bytes : List ℕ) (i before kept : ℕ) (all : Bool) → i < length text → length text < 12 → before ≡ get_or bytes i 0 → KeptFor (get_or text i 0) before kept → Holds text i bytes → simple_text (get_or bytes i 0 == 0) (drop i text) ≡ all
     → simple_text (get_or (set bytes (i + 1) kept) (i + 1) 0 == 0) (drop (i + 1) text) ≡ all
 one_read text bytes i before kept all low few eb k h e =
-    let zeros : List ℕ = replicate (14 - (i + 1)) 0 in
-    let room : i + 1 < length bytes = omega (arith, low, few, ap length h, length-append (0 ∷ map marked (take i text)) zeros, kept_length text i low, length-replicate {A = ℕ} (14 - (i + 1)) 0) in
+    let zeros : List ℕ = replicate (12 - (i + 1)) 0 in
+    let room : i + 1 < length bytes = omega (arith, low, few, ap length h, length-append (0 ∷ map marked (take i text)) zeros, kept_length text i low, length-replicate {A = ℕ} (12 - (i + 1)) 0) in
     let here : get_or (set bytes (i + 1) kept) (i + 1) 0 ≡ kept = get_or-set_same bytes (i + 1) kept 0 room in
     ap (λ z. simple_text (z == 0) (drop (i + 1) text)) here
     ∙ sym (read_on (get_or text i 0) before kept (drop (i + 1) text) k)
@@ -218,7 +218,7 @@ spells_itself text bare path = (path, inl (record { nonempty = omega arith; byte
 pub names_spelled : (word text : List ℕ) (p : Path) → word ≡ 47 ∷ text → IsPath (pieces text) × (list_all is_bare_byte text ≡ true) → p ≡ pieces text → SpellsPath word p
 names_spelled word text p ew h e = subst (λ v. SpellsPath v p) (sym ew) (subst (SpellsPath (47 ∷ text)) (sym e) (spells_itself text h.1 h.0))
 
-pub simple_spelled : (word text bytes : List ℕ) (i : ℕ) (w : Bool) → word ≡ 47 ∷ text → length text < 14 → i ≡ length text → w ≡ false → simple_text w (drop i text) ≡ simple_text true text → Holds text i bytes
+pub simple_spelled : (word text bytes : List ℕ) (i : ℕ) (w : Bool) → word ≡ 47 ∷ text → length text < 12 → i ≡ length text → w ≡ false → simple_text w (drop i text) ≡ simple_text true text → Holds text i bytes
     → IsPacked (take (length text + 1) bytes) × SpellsPath word (names_in (take (length text + 1) bytes))
 simple_spelled word text bytes i w ew few ei none tested kept =
     let simple = simple_so text i w (omega (arith, ei)) none tested in
@@ -226,7 +226,7 @@ simple_spelled word text bytes i w ew few ei none tested kept =
     let whole : take i text ≡ text = take_all i text (omega (arith, ei)) in
     let long : length text + 1 ≡ length (0 ∷ map marked text) = omega (arith, length-map text marked) in
     let is : take (length text + 1) bytes ≡ 0 ∷ map marked text =
-    (λ j. take (long j) ((kept ∙ ap (λ z. (0 ∷ map marked z) ++ replicate (14 - (i + 1)) 0) whole) j)) ∙ take-append_seam (0 ∷ map marked text) (replicate (14 - (i + 1)) 0) in
+    (λ j. take (long j) ((kept ∙ ap (λ z. (0 ∷ map marked z) ++ replicate (12 - (i + 1)) 0) whole) j)) ∙ take-append_seam (0 ∷ map marked text) (replicate (12 - (i + 1)) 0) in
     let packed = kept_packed text path in
     let names : names_in (take (length text + 1) bytes) ≡ pieces text = ap names_in is ∙ packed.1 in
     (subst IsPacked (sym is) packed.0, names_spelled word text (names_in (take (length text + 1) bytes)) ew (path, bare_bytes true text simple) names)

@@ -11,5 +11,5 @@ bytes_in (Long shared) = (arc_value shared).items
 
 -- a short one has as many bytes as it says
 abbrev pub IsWithin : Kept → Type 0
-IsWithin (Short len bytes) = (len ≤ 14) × (length bytes ≡ 14)
+IsWithin (Short len bytes) = (len ≤ 12) × (length bytes ≡ 12)
 IsWithin (Long shared) = Unit {0}

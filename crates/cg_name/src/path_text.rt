@@ -12,8 +12,9 @@ use std::alloc::{AllocError, Global};
 use std::marker::Model;
 use std::sync::Arc;
 
-// The most bytes of a text that takes no allocation.
-const SHORT: usize = 14;
+// The most bytes of a text that takes no allocation. Twelve stand behind two of tag and two of length, so that a text is
+// moved by moves that don't overlap.
+const SHORT: usize = 12;
 
 // The text of a path. A copy of it takes no memory.
 #[derive(Drop)]
@@ -27,7 +28,7 @@ const _: () = prove!(size_of::<PathText>() == 16);
 #[derive(Drop)]
 enum Kept {
     // How many bytes there are, and they, with others behind them.
-    Short(u8, [u8; SHORT]),
+    Short(u16, [u8; SHORT]),
     // Most such texts lie in the one allocation that the copies share.
     Long(Arc<SmallVec<u8, 40>, Global>),
 }
@@ -65,7 +66,7 @@ impl PathText {
         let mut short = [0u8; SHORT];
         short[..len].copy_from_slice(bytes);
         Ok(PathText {
-            kept: Kept::Short(len as u8, short),
+            kept: Kept::Short(len as u16, short),
         })
     }
 
@@ -86,7 +87,7 @@ impl PathText {
         // Those behind the text are marked too: a fixed number of bytes is done many at a time.
         mark_names(&mut short);
         Ok(PathText {
-            kept: Kept::Short(len as u8, short),
+            kept: Kept::Short(len as u16, short),
         })
     }
 
@@ -112,7 +113,7 @@ impl PathText {
             return None;
         }
         Some(PathText {
-            kept: Kept::Short(rest.len() as u8 + 1, short),
+            kept: Kept::Short(rest.len() as u16 + 1, short),
         })
     }
 
@@ -134,7 +135,7 @@ impl PathText {
         short[..text.len()].copy_from_slice(text);
         short[start..len].copy_from_slice(name);
         Ok(PathText {
-            kept: Kept::Short(len as u8, short),
+            kept: Kept::Short(len as u16, short),
         })
     }
 
@@ -183,19 +184,19 @@ impl PathText {
     }
 }
 
-// Whether the bytes are the same: as two numbers of eight bytes each, of which two stand in both. Compared as arrays they
-// would be three times as many instructions.
+// Whether the bytes are the same: as two numbers of eight bytes each, of which four stand in both. Compared as arrays
+// they would be three times as many instructions.
 #[inline(always)]
 fn are_same(bytes: &[u8; SHORT], others: &[u8; SHORT]) -> bool
     ensures { IsTrue result → bytes.now ≡ others.now }
 {
-    number_at(bytes, 0) == number_at(others, 0) && number_at(bytes, 6) == number_at(others, 6)
+    number_at(bytes, 0) == number_at(others, 0) && number_at(bytes, 4) == number_at(others, 4)
 }
 
 // The number that eight bytes from this place on spell, the least first.
 #[inline(always)]
 fn number_at(bytes: &[u8; SHORT], start: usize) -> u64
-    requires { start ≤ 6 }
+    requires { start ≤ 4 }
     ensures { result ≡ from_le_bytes w64 (slice_range bytes.now start (start + 8)) }
 {
     match bytes[start..].first_chunk::<8>() {

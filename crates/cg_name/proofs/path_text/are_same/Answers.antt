@@ -1,4 +1,4 @@
--- Two numbers of eight bytes each tell fourteen bytes.
+-- Two numbers of eight bytes each tell twelve bytes.
 use Rattle.std.proofs.Common.{◌≡◌, ℕ, zero, suc, ◌<◌, List, [], ◌∷◌, ◌++◌, length, take, drop, get_or, refl, sym, ap, ◌∙◌, arith}
 use Rattle.std.specs.Int.{w64, from_le_bytes, to_le_bytes}
 use Rattle.std.proofs.Math.Seq.{take-add}
@@ -25,24 +25,24 @@ first_bytes (suc n) (x ∷ xs) h (suc i) = first_bytes n xs (λ j. h (suc j)) i
 eight : (xs ys : List ℕ) → length xs ≡ 8 → length ys ≡ 8 → AreBytes xs → AreBytes ys → from_le_bytes w64 xs ≡ from_le_bytes w64 ys → xs ≡ ys
 eight xs ys l m g h e = sym (le_bytes_8 xs (from_le_bytes w64 xs) l g refl) ∙ ap (to_le_bytes w64) e ∙ le_bytes_8 ys (from_le_bytes w64 ys) m h refl
 
-six : (xs : List ℕ) → length xs ≡ 14 → take 6 (take 8 xs) ≡ take 6 xs
-six xs l =
-    let n = length-take-le 6 xs (omega (arith, l)) in
-    ap (take 6) (take-add 6 2 xs) ∙ take-append-le 6 (take 6 xs) (take 2 (drop 6 xs)) (omega (arith, n)) ∙ take_all 6 (take 6 xs) (omega (arith, n))
+four : (xs : List ℕ) → length xs ≡ 12 → take 4 (take 8 xs) ≡ take 4 xs
+four xs l =
+    let n = length-take-le 4 xs (omega (arith, l)) in
+    ap (take 4) (take-add 4 4 xs) ∙ take-append-le 4 (take 4 xs) (take 4 (drop 4 xs)) (omega (arith, n)) ∙ take_all 4 (take 4 xs) (omega (arith, n))
 
-halves : (xs : List ℕ) → length xs ≡ 14 → take 6 (take 8 xs) ++ take 8 (drop 6 xs) ≡ xs
-halves xs l = ap (λ front. front ++ take 8 (drop 6 xs)) (six xs l) ∙ sym (take-add 6 8 xs) ∙ take_all 14 xs (omega (arith, l))
+halves : (xs : List ℕ) → length xs ≡ 12 → take 4 (take 8 xs) ++ take 8 (drop 4 xs) ≡ xs
+halves xs l = ap (λ front. front ++ take 8 (drop 4 xs)) (four xs l) ∙ sym (take-add 4 8 xs) ∙ take_all 12 xs (omega (arith, l))
 
-same : (xs ys : List ℕ) → length xs ≡ 14 → length ys ≡ 14 → AreBytes xs → AreBytes ys → from_le_bytes w64 (take 8 xs) ≡ from_le_bytes w64 (take 8 ys)
-    → from_le_bytes w64 (take 8 (drop 6 xs)) ≡ from_le_bytes w64 (take 8 (drop 6 ys)) → xs ≡ ys
+same : (xs ys : List ℕ) → length xs ≡ 12 → length ys ≡ 12 → AreBytes xs → AreBytes ys → from_le_bytes w64 (take 8 xs) ≡ from_le_bytes w64 (take 8 ys)
+    → from_le_bytes w64 (take 8 (drop 4 xs)) ≡ from_le_bytes w64 (take 8 (drop 4 ys)) → xs ≡ ys
 same xs ys l m g h e f =
     let front = eight (take 8 xs) (take 8 ys) (length-take-le 8 xs (omega (arith, l))) (length-take-le 8 ys (omega (arith, m))) (first_bytes 8 xs g) (first_bytes 8 ys h) e in
-    let k = length-drop 6 xs in
-    let j = length-drop 6 ys in
+    let k = length-drop 4 xs in
+    let j = length-drop 4 ys in
     let back =
-    eight (take 8 (drop 6 xs)) (take 8 (drop 6 ys)) (length-take-le 8 (drop 6 xs) (omega (arith, l, k))) (length-take-le 8 (drop 6 ys) (omega (arith, m, j)))
-    (first_bytes 8 (drop 6 xs) (bytes_behind 6 xs g)) (first_bytes 8 (drop 6 ys) (bytes_behind 6 ys h)) f in
-    sym (halves xs l) ∙ ap (λ w. take 6 w ++ take 8 (drop 6 xs)) front ∙ ap (λ w. take 6 (take 8 ys) ++ w) back ∙ halves ys m
+    eight (take 8 (drop 4 xs)) (take 8 (drop 4 ys)) (length-take-le 8 (drop 4 xs) (omega (arith, l, k))) (length-take-le 8 (drop 4 ys) (omega (arith, m, j)))
+    (first_bytes 8 (drop 4 xs) (bytes_behind 4 xs g)) (first_bytes 8 (drop 4 ys) (bytes_behind 4 ys h)) f in
+    sym (halves xs l) ∙ ap (λ w. take 4 w ++ take 8 (drop 4 xs)) front ∙ ap (λ w. take 4 (take 8 ys) ++ w) back ∙ halves ys m
 
 pub returns-then-number_at : goal.returns-then-number_at
 returns-then-number_at c =

@@ -7,5 +7,5 @@ use Rattle.cg_name.proofs.path_text.PathText.read_simple.Given as goal
 abbrev pub invariant-loop-i : goal.invariant-loop-i
 invariant-loop-i l = record {
   tested : simple_text (get_or l.short l.i 0 == 0) (drop l.i l.rest) ≡ simple_text true l.rest;
-  bytes : l.short ≡ (0 ∷ map marked (take l.i l.rest)) ++ replicate (14 - (l.i + 1)) 0;
+  bytes : l.short ≡ (0 ∷ map marked (take l.i l.rest)) ++ replicate (12 - (l.i + 1)) 0;
 }

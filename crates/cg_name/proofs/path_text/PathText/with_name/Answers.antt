@@ -11,16 +11,16 @@ one_zero text rest =
     let long : length text + 1 ≡ length (text ++ 0 ∷ []) = omega (arith, length-append text (0 ∷ [])) in
     (λ i. take (long i) (sym (append_assoc text (0 ∷ []) rest) i)) ∙ take-append_seam (text ++ 0 ∷ []) rest
 
-joined : (text name : List ℕ) → length text + 1 + length name ≤ 14
-    → take (length text + 1 + length name) (put_mid (length text + 1) (length text + 1 + length name - (length text + 1)) (text ++ drop (length text) (replicate 14 0)) name) ≡ text ++ 0 ∷ name
+joined : (text name : List ℕ) → length text + 1 + length name ≤ 12
+    → take (length text + 1 + length name) (put_mid (length text + 1) (length text + 1 + length name - (length text + 1)) (text ++ drop (length text) (replicate 12 0)) name) ≡ text ++ 0 ∷ name
 joined text name fits =
-    let left : 14 - length text ≡ suc (13 - length text) = omega arith in
-    let zeros : drop (length text) (replicate 14 0) ≡ 0 ∷ replicate (13 - length text) 0 = drop-replicate (length text) 14 0 ∙ ap (λ k. replicate k 0) left in
-    let whole : text ++ drop (length text) (replicate 14 0) ≡ text ++ 0 ∷ replicate (13 - length text) 0 = ap (λ z. text ++ z) zeros in
-    let room : length text + 1 ≤ length (text ++ drop (length text) (replicate 14 0)) = omega (arith, ap length whole, length-append text (0 ∷ replicate (13 - length text) 0)) in
-    take-put_mid (length text + 1) (length text + 1 + length name - (length text + 1)) (text ++ drop (length text) (replicate 14 0)) name (length text + 1 + length name) (omega arith) room
+    let left : 12 - length text ≡ suc (11 - length text) = omega arith in
+    let zeros : drop (length text) (replicate 12 0) ≡ 0 ∷ replicate (11 - length text) 0 = drop-replicate (length text) 12 0 ∙ ap (λ k. replicate k 0) left in
+    let whole : text ++ drop (length text) (replicate 12 0) ≡ text ++ 0 ∷ replicate (11 - length text) 0 = ap (λ z. text ++ z) zeros in
+    let room : length text + 1 ≤ length (text ++ drop (length text) (replicate 12 0)) = omega (arith, ap length whole, length-append text (0 ∷ replicate (11 - length text) 0)) in
+    take-put_mid (length text + 1) (length text + 1 + length name - (length text + 1)) (text ++ drop (length text) (replicate 12 0)) name (length text + 1 + length name) (omega arith) room
     ∙ ap (λ z. take (length text + 1) z ++ name) whole
-    ∙ ap (λ z. z ++ name) (one_zero text (replicate (13 - length text) 0))
+    ∙ ap (λ z. z ++ name) (one_zero text (replicate (11 - length text) 0))
     ∙ append_assoc text (0 ∷ []) name
 
 pub returns : goal.returns
