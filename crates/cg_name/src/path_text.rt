@@ -76,11 +76,7 @@ impl PathText {
     {
         let len = names.len() + 1;
         if len > SHORT {
-            let mut bytes = SmallVec::with_capacity(alloc, len)?;
-            bytes.push_reserved(0);
-            bytes.extend_from_slice(names)?;
-            mark_names(bytes.as_mut_slice());
-            return PathText::shared(alloc, bytes);
+            return PathText::shared(alloc, long_names(alloc, names)?);
         }
         let mut short = [0u8; SHORT];
         short[1..len].copy_from_slice(names);
@@ -182,6 +178,25 @@ impl PathText {
         };
         Ok(PathText { kept })
     }
+}
+
+// A zero byte and these bytes, with zero bytes for their slashes; an error where there is no memory for them. Most are few, and done
+// as those of a short text are.
+fn long_names(alloc: Global, names: &[u8]) -> Result<SmallVec<u8, 40>, AllocError>
+    ensures { IfOk result (λ t. t.items ≡ 0 ∷ map marked names.now) }
+{
+    let len = names.len() + 1;
+    if len > 40 {
+        let mut bytes = SmallVec::with_capacity(alloc, len)?;
+        bytes.push_reserved(0);
+        bytes.extend_from_slice(names)?;
+        mark_names(bytes.as_mut_slice());
+        return Ok(bytes);
+    }
+    let mut bytes = [0u8; 40];
+    bytes[1..len].copy_from_slice(names);
+    mark_names(&mut bytes);
+    Ok(SmallVec::from_buf_and_len(alloc, bytes, len))
 }
 
 // Whether the bytes are the same: as two numbers of eight bytes each, of which four stand in both. Compared as arrays
