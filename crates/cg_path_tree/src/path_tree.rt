@@ -19,7 +19,7 @@ use std::alloc::{AllocError, AllocFailed, Global};
 use std::marker::Model;
 
 // How many bytes a text has at least that is worth a look-up, to be shared. A shorter one stands in its path.
-const WORTH_SHARING: usize = 16;
+const WORTH_SHARING: usize = 13;
 
 /// A tree of paths with a value at each. Where it has a node it has one at each prefix of its path. A node is found by its
 /// path in one look-up, and then known by its key, from which its value and its parent are a step away.

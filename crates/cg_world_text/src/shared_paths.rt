@@ -10,7 +10,7 @@ use std::alloc::{AllocError, Global};
 use std::collections::BTreeMap;
 
 // From how many bytes on a path's text lies in memory of its own.
-const WORTH_SHARING: usize = 15;
+const WORTH_SHARING: usize = 13;
 
 // The paths of the groups, so that those of the processes share their texts: a world has the path of a group in each line of a
 // process there. That is for room alone, and no clause tells which paths these are.
