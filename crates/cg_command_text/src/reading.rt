@@ -26,6 +26,7 @@ use std::alloc::Global;
 
 /// The command that the words spell: its keyword, and behind it what the keyword asks for. `Syntax` where they spell
 /// none, `Memory` where there is none for the path.
+#[inline(always)]
 pub fn read_command(alloc: Global, words: &[&str]) -> Result<Command, Refusal>
     ensures value { IfOk result (λ c. SpellsCommand (map (λ w. w.now) words.now) (command_of c)) }
     ensures syntax { IsErrOf result Refusal.Syntax → (c : model.Command) → SpellsCommand (map (λ w. w.now) words.now) c → ⊥ }

@@ -47,7 +47,7 @@ fn read_call(alloc: Global, words: &[&str]) -> Result<(SessionName, Request), Re
 }
 
 /// The request that the words behind a session's name spell; `Syntax` where they spell none.
-#[inline(always)]
+#[inline(never)]
 pub fn read_request(alloc: Global, words: &[&str]) -> Result<Request, Refusal>
     ensures value { IfOk result (λ r. SpellsRequest (map (λ w. w.now) words.now) (request_of r)) }
     ensures syntax { IsErrOf result Refusal.Syntax → (r : model.Request cgroups) → SpellsRequest (map (λ w. w.now) words.now) r → ⊥ }
