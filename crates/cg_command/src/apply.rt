@@ -24,10 +24,12 @@ pub(crate) fn create(
     requires { IsAccepted (effect (model.Create path.now) tree.old.tree) }
     ensures { IsCarriedOut (model.Create path.now) tree.old result tree.new }
 {
-    let change = Change::Made {
-        path: path.copy(alloc)?,
-    };
+    let own = path.copy(alloc)?;
     tree.make_group(alloc, path, CompactSettings::fresh())?;
+    let change = Change::Made {
+        near: tree.near(),
+        path: own,
+    };
     Ok((Outcome::Done, Inverse::of_one(alloc, change)))
 }
 
@@ -44,6 +46,7 @@ pub(crate) fn remove(
     // Each group has an entry.
     tree.laws();
     let own = path.copy(alloc)?;
+    let near = tree.near();
     let Some(settings) = tree.take_group(path) else {
         // The group of an accepted command is there.
         unreachable!()
@@ -52,11 +55,15 @@ pub(crate) fn remove(
         Ok(before) => before,
         Err(failed) => {
             // There is no memory for them: the group is put back.
-            tree.put_group(path, Some(failed.value));
+            tree.put_group(path, near, Some(failed.value));
             return Err(AllocError);
         }
     };
-    let change = Change::Removed { path: own, before };
+    let change = Change::Removed {
+        near,
+        path: own,
+        before,
+    };
     Ok((Outcome::Done, Inverse::of_one(alloc, change)))
 }
 
@@ -98,11 +105,14 @@ pub(crate) fn freeze(
     ensures { IsCarriedOut (model.Freeze path.now value) tree.old result tree.new }
 {
     let own = path.copy(alloc)?;
-    let Some(NewValue::Freeze(before)) = tree.swap_value(path, NewValue::Freeze(value)) else {
+    let near = tree.near();
+    let value_left = NewValue::Freeze(value);
+    let Some(NewValue::Freeze(before)) = tree.swap_value(path, near, value_left) else {
         // The group of an accepted command is there.
         unreachable!()
     };
     let change = Change::Freeze {
+        near,
         path: own,
         before,
         left: value,
@@ -124,11 +134,13 @@ pub(crate) fn cpus(
     let own = path.copy(alloc)?;
     let left = value.copy(alloc)?;
     let value = NewValue::Cpus(value.copy(alloc)?);
-    let Some(NewValue::Cpus(before)) = tree.swap_value(path, value) else {
+    let near = tree.near();
+    let Some(NewValue::Cpus(before)) = tree.swap_value(path, near, value) else {
         // As above.
         unreachable!()
     };
     let change = Change::Cpus {
+        near,
         path: own,
         before,
         left,
@@ -149,11 +161,13 @@ pub(crate) fn max_descendants(
 {
     let own = path.copy(alloc)?;
     let value = NewValue::MaxDescendants(limit);
-    let Some(NewValue::MaxDescendants(before)) = tree.swap_value(path, value) else {
+    let near = tree.near();
+    let Some(NewValue::MaxDescendants(before)) = tree.swap_value(path, near, value) else {
         // As above.
         unreachable!()
     };
     let change = Change::MaxDescendants {
+        near,
         path: own,
         before,
         left: limit,
@@ -174,11 +188,13 @@ pub(crate) fn max_depth(
 {
     let own = path.copy(alloc)?;
     let value = NewValue::MaxDepth(limit);
-    let Some(NewValue::MaxDepth(before)) = tree.swap_value(path, value) else {
+    let near = tree.near();
+    let Some(NewValue::MaxDepth(before)) = tree.swap_value(path, near, value) else {
         // As above.
         unreachable!()
     };
     let change = Change::MaxDepth {
+        near,
         path: own,
         before,
         left: limit,

@@ -54,6 +54,7 @@ fn changes_of(
     let mut inverse = Inverse::new(alloc);
     add_emptied(loses_cpuset(before, left), path, alloc, tree, &mut inverse)?;
     inverse.push(Change::Control {
+        near: tree.near(),
         path: path.copy(alloc)?,
         before,
         left,
@@ -81,8 +82,10 @@ fn add_emptied(
     if !goes {
         return Ok(());
     }
-    for (child, settings) in tree.children_with_cpus(alloc, path)? {
+    let mut children = tree.children_with_cpus(alloc, path)?;
+    while let Some((child, settings)) = children.next() {
         inverse.push(Change::Cpus {
+            near: children.near(),
             path: child.to_path(alloc)?,
             before: settings.cpus().copy(alloc)?,
             left: BoxedCpus::empty(),

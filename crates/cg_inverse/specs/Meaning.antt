@@ -14,14 +14,14 @@ use Rattle.cg_text.specs.declared.settings.Settings.{Settings}
 use Rattle.cg_tree.specs.Room.{TreeWithRoom, has_entry}
 
 abbrev pub change_of : Change → model.Change
-change_of (changes.Made p) = change (keys.Group p) None (Some fresh)
-change_of (changes.Removed p b) = change (keys.Group p) (Some b) None
+change_of (changes.Made n p) = change (keys.Group p) None (Some fresh)
+change_of (changes.Removed n p b) = change (keys.Group p) (Some b) None
 change_of (changes.Place k b l) = change (keys.Place k) (Some b) (Some l)
-change_of (changes.Control p b l) = change (keys.Part p keys.Control) (Some b) (Some l)
-change_of (changes.Freeze p b l) = change (keys.Part p keys.Freeze) (Some b) (Some l)
-change_of (changes.Cpus p b l) = change (keys.Part p keys.Cpus) (Some b) (Some l)
-change_of (changes.MaxDescendants p b l) = change (keys.Part p keys.MaxDescendants) (Some b) (Some l)
-change_of (changes.MaxDepth p b l) = change (keys.Part p keys.MaxDepth) (Some b) (Some l)
+change_of (changes.Control n p b l) = change (keys.Part p keys.Control) (Some b) (Some l)
+change_of (changes.Freeze n p b l) = change (keys.Part p keys.Freeze) (Some b) (Some l)
+change_of (changes.Cpus n p b l) = change (keys.Part p keys.Cpus) (Some b) (Some l)
+change_of (changes.MaxDescendants n p b l) = change (keys.Part p keys.MaxDescendants) (Some b) (Some l)
+change_of (changes.MaxDepth n p b l) = change (keys.Part p keys.MaxDepth) (Some b) (Some l)
 change_of (changes.Online b l) = change keys.Online (Some b) (Some l)
 
 -- the key holds the value left

@@ -11,15 +11,20 @@ use cg_tree::{NewValue, Tree};
 use std::alloc::{AllocError, Global};
 use std::default::MadeWith;
 
-/// One key of a tree, with what it held before a command and what the command left.
+/// One key of a tree, with what it held before a command and what the command left. What is near is the number of the entry that the
+/// group most likely has, as `Tree::near` gives it: it is for speed alone, and any does.
 pub enum Change {
     /// A group that was made: there was none at the path, and the one left has the settings of a new group.
     Made {
+        /// Near which entry.
+        near: u32,
         /// Where.
         path: Path,
     },
     /// A group that was removed: there is none at the path any more.
     Removed {
+        /// Near which entry.
+        near: u32,
         /// Where.
         path: Path,
         /// The settings before.
@@ -36,6 +41,8 @@ pub enum Change {
     },
     /// `cgroup.subtree_control` of a group.
     Control {
+        /// Near which entry.
+        near: u32,
         /// The group.
         path: Path,
         /// What it passed on before.
@@ -45,6 +52,8 @@ pub enum Change {
     },
     /// `cgroup.freeze` of a group.
     Freeze {
+        /// Near which entry.
+        near: u32,
         /// The group.
         path: Path,
         /// Its own value before.
@@ -54,6 +63,8 @@ pub enum Change {
     },
     /// `cpuset.cpus` of a group.
     Cpus {
+        /// Near which entry.
+        near: u32,
         /// The group.
         path: Path,
         /// The CPUs that it asked for before.
@@ -63,6 +74,8 @@ pub enum Change {
     },
     /// `cgroup.max.descendants` of a group.
     MaxDescendants {
+        /// Near which entry.
+        near: u32,
         /// The group.
         path: Path,
         /// Its limit before.
@@ -72,6 +85,8 @@ pub enum Change {
     },
     /// `cgroup.max.depth` of a group.
     MaxDepth {
+        /// Near which entry.
+        near: u32,
         /// The group.
         path: Path,
         /// Its limit before.
@@ -95,34 +110,43 @@ const _: () = prove!(size_of::<Change>() == 56);
 impl Drop for Change {
     fn drop(self) {
         match self {
-            Change::Made { path: _ } => {}
-            Change::Removed { path: _, before: _ } => {}
+            Change::Made { near: _, path: _ } => {}
+            Change::Removed {
+                near: _,
+                path: _,
+                before: _,
+            } => {}
             Change::Place {
                 pid: _,
                 before: _,
                 left: _,
             } => {}
             Change::Control {
+                near: _,
                 path: _,
                 before: _,
                 left: _,
             } => {}
             Change::Freeze {
+                near: _,
                 path: _,
                 before: _,
                 left: _,
             } => {}
             Change::Cpus {
+                near: _,
                 path: _,
                 before: _,
                 left: _,
             } => {}
             Change::MaxDescendants {
+                near: _,
                 path: _,
                 before: _,
                 left: _,
             } => {}
             Change::MaxDepth {
+                near: _,
                 path: _,
                 before: _,
                 left: _,
@@ -150,9 +174,9 @@ impl Change {
         ensures entries { tree.new.entries ≡ tree.old.entries }
     {
         match self {
-            Change::Made { path } => tree.put_group(&path, None),
-            Change::Removed { path, before } => {
-                tree.put_group(&path, Some(before.into_settings()));
+            Change::Made { near, path } => tree.put_group(&path, near, None),
+            Change::Removed { near, path, before } => {
+                tree.put_group(&path, near, Some(before.into_settings()));
             }
             Change::Place {
                 pid,
@@ -160,30 +184,35 @@ impl Change {
                 left: _,
             } => tree.put_place(pid, &before),
             Change::Control {
+                near,
                 path,
                 before,
                 left: _,
-            } => tree.put_value(&path, NewValue::Control(before)),
+            } => tree.put_value(&path, near, NewValue::Control(before)),
             Change::Freeze {
+                near,
                 path,
                 before,
                 left: _,
-            } => tree.put_value(&path, NewValue::Freeze(before)),
+            } => tree.put_value(&path, near, NewValue::Freeze(before)),
             Change::Cpus {
+                near,
                 path,
                 before,
                 left: _,
-            } => tree.put_value(&path, NewValue::Cpus(before)),
+            } => tree.put_value(&path, near, NewValue::Cpus(before)),
             Change::MaxDescendants {
+                near,
                 path,
                 before,
                 left: _,
-            } => tree.put_value(&path, NewValue::MaxDescendants(before)),
+            } => tree.put_value(&path, near, NewValue::MaxDescendants(before)),
             Change::MaxDepth {
+                near,
                 path,
                 before,
                 left: _,
-            } => tree.put_value(&path, NewValue::MaxDepth(before)),
+            } => tree.put_value(&path, near, NewValue::MaxDepth(before)),
             Change::Online { before, left: _ } => tree.put_online(before.get()),
         }
     }
@@ -198,19 +227,46 @@ impl Change {
         ensures without_cpus { LeavesNoCpus (change_of self.now) → IsOk result }
     {
         match self {
-            Change::Made { path } => tree.put_group(path, Some(CompactSettings::fresh())),
-            Change::Removed { path, .. } => tree.put_group(path, None),
+            Change::Made { near, path } => {
+                tree.put_group(path, *near, Some(CompactSettings::fresh()));
+            }
+            Change::Removed { near, path, .. } => tree.put_group(path, *near, None),
             Change::Place { pid, left, .. } => tree.put_place(*pid, left),
-            Change::Control { path, left, .. } => tree.put_value(path, NewValue::Control(*left)),
-            Change::Freeze { path, left, .. } => tree.put_value(path, NewValue::Freeze(*left)),
-            Change::Cpus { path, left, .. } => {
-                tree.put_value(path, NewValue::Cpus(left.copy(alloc)?));
+            Change::Control {
+                near,
+                path,
+                left,
+                ..
+            } => tree.put_value(path, *near, NewValue::Control(*left)),
+            Change::Freeze {
+                near,
+                path,
+                left,
+                ..
+            } => tree.put_value(path, *near, NewValue::Freeze(*left)),
+            Change::Cpus {
+                near,
+                path,
+                left,
+                ..
+            } => {
+                tree.put_value(path, *near, NewValue::Cpus(left.copy(alloc)?));
             }
-            Change::MaxDescendants { path, left, .. } => {
-                tree.put_value(path, NewValue::MaxDescendants(*left));
+            Change::MaxDescendants {
+                near,
+                path,
+                left,
+                ..
+            } => {
+                tree.put_value(path, *near, NewValue::MaxDescendants(*left));
             }
-            Change::MaxDepth { path, left, .. } => {
-                tree.put_value(path, NewValue::MaxDepth(*left));
+            Change::MaxDepth {
+                near,
+                path,
+                left,
+                ..
+            } => {
+                tree.put_value(path, *near, NewValue::MaxDepth(*left));
             }
             Change::Online { left, .. } => tree.put_online(left.get()),
         }
@@ -222,7 +278,7 @@ impl Change {
         ensures { IsTrue result ↔ FitsIn tree.now.tree (change_of self.now) }
     {
         match self {
-            Change::Made { path } => is_new(tree.settings(path)),
+            Change::Made { path, .. } => is_new(tree.settings(path)),
             Change::Removed { path, .. } => !tree.find(path),
             Change::Place { pid, left, .. } => tree.is_at(*pid, left),
             Change::Control { path, left, .. } => match tree.settings(path) {

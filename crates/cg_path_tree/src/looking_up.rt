@@ -82,6 +82,27 @@ impl<V: Drop> PathTree<V> {
         self.visit(path)
     }
 
+    /// As `visit`, and remembered as by that. Where the path's node is the one with the key `near`, it is found by a comparison; any
+    /// key may be given.
+    pub fn visit_from(&mut self, path: &Path, near: NodeKey) -> Option<NodeKey>
+        ensures found { result ≡ get self.old.keys path.now }
+        ensures same { self.new ≡ self.old }
+    {
+        if self.last.is_of(path) || !self.is_at(near, path) {
+            return self.visit(path);
+        }
+        let parent = self.parent(near);
+        self.remember(path, Some(near), parent);
+        Some(near)
+    }
+
+    /// The key of the node that was visited last, or added; any, where none was, or where it is gone. It is for `visit_from`, to
+    /// which any key may be given, so no clause tells of it.
+    #[inline(always)]
+    pub fn near(&self) -> NodeKey {
+        self.last.node.unwrap_or(NodeKey::new(0))
+    }
+
     /// As `find`. Where the path's node is the one with the key `near`, it is found by a comparison; any key may be given.
     #[inline(always)]
     pub fn find_near(&self, path: &Path, near: NodeKey) -> Option<NodeKey>

@@ -178,28 +178,40 @@ impl Groups {
         Ok(())
     }
 
-    // Puts the settings into the entry at the path, if there is one, and leaves those before in their place.
-    pub(crate) fn replace(&mut self, path: &Path, settings: &mut Option<CompactSettings>)
+    // The key of the node that was found last, to look near.
+    pub(crate) fn near(&self) -> NodeKey {
+        self.nodes.near()
+    }
+
+    // Puts the settings into the entry at the path, if there is one, and leaves those before in their place. The entry's node is
+    // most likely the one near, which may be any.
+    pub(crate) fn replace(
+        &mut self,
+        path: &Path,
+        near: NodeKey,
+        settings: &mut Option<CompactSettings>,
+    )
         ensures there { IsSome (get self.old.groups path.now) → self.new.groups ≡ set_at self.old.groups path.now (Some settings.old) }
         ensures absent { get self.old.groups path.now ≡ None → self.new.groups ≡ self.old.groups }
         ensures places { self.new.places ≡ self.old.places }
         ensures before { IsSome (get self.old.groups path.now) → settings.new ≡ option_flatten (get self.old.groups path.now) }
         ensures untouched { get self.old.groups path.now ≡ None → settings.new ≡ settings.old }
     {
-        let found = self.nodes.visit(path);
+        let found = self.nodes.visit_from(path, near);
         self.nodes.laws();
         if let Some(key) = found {
             put(&mut self.nodes, key, settings);
         }
     }
 
-    // Puts the value of one setting of the group at the path, if there is a group, and gives the value before.
-    pub(crate) fn change(&mut self, path: &Path, value: NewValue) -> Option<NewValue>
+    // Puts the value of one setting of the group at the path, if there is a group, and gives the value before. Its node is most
+    // likely the one near, which may be any.
+    pub(crate) fn change(&mut self, path: &Path, near: NodeKey, value: NewValue) -> Option<NewValue>
         ensures before { result ≡ option_map (value_there value) (option_flatten (get self.old.groups path.now)) }
         ensures groups { self.new.groups ≡ set_at self.old.groups path.now (option_map (with_new value) (get self.old.groups path.now)) }
         ensures places { self.new.places ≡ self.old.places }
     {
-        let found = self.nodes.visit(path);
+        let found = self.nodes.visit_from(path, near);
         self.nodes.laws();
         let Some(key) = found else {
             return None;

@@ -46,6 +46,15 @@ impl<'a> Listed<'a> {
         }
     }
 
+    /// The number of the entry of the group that came last; any, where none has come. It is for calls of the tree that look near
+    /// it, to which any number may be given, so no clause tells of it.
+    pub fn near(&self) -> u32 {
+        match key_at(self.keys.as_slice(), self.passed.saturating_sub(1)) {
+            Some(key) => key.number(),
+            None => 0,
+        }
+    }
+
     /// The same groups, looked at in the list, which doesn't go on.
     pub fn iter(&self) -> ListedIter<'_>
         ensures { result ≡ self.now }

@@ -21,6 +21,7 @@ use crate::worlds::{add_groups, add_places, add_processes, pids_of, with_entries
 use cg_boxed::CompactSettings;
 use cg_cpus::CpuSet;
 use cg_name::Path;
+use cg_path_tree::NodeKey;
 use cg_text::Controllers;
 use cg_world::{PlainTree, World};
 use std::alloc::{AllocError, Global};
@@ -289,9 +290,16 @@ impl Tree {
         }
     }
 
-    /// Puts a group with the settings at the path, which has an entry, or takes the group there away. The entry stays. Takes no
-    /// memory.
-    pub fn put_group(&mut self, path: &Path, mut settings: Option<CompactSettings>)
+    /// The number of the entry that was visited last, or made, as `visit` gives it; any, where none was. It is for calls that look
+    /// near it, to which any number may be given, so no clause tells of it.
+    #[inline(always)]
+    pub fn near(&self) -> u32 {
+        self.groups.near().number()
+    }
+
+    /// Puts a group with the settings at the path, which has an entry, or takes the group there away. The entry stays. Where its
+    /// number is `near`, it is found by a comparison; any number may be given. Takes no memory.
+    pub fn put_group(&mut self, path: &Path, near: u32, mut settings: Option<CompactSettings>)
         requires { IsSome settings → has_entry self.old path.now ≡ true }
         ensures tree { self.new.tree ≡ record self.old.tree { groups = set_at self.old.tree.groups path.now settings } }
         ensures entries { self.new.entries ≡ self.old.entries }
@@ -300,7 +308,7 @@ impl Tree {
         let _ = path.names();
         tell_cpus(&settings);
         self.may_limit |= has_limit(&settings);
-        self.groups.replace(path, &mut settings);
+        self.groups.replace(path, NodeKey::new(near), &mut settings);
     }
 
     /// Takes the group at the path away, if there is one, and gives its settings. The entry stays.
@@ -312,20 +320,22 @@ impl Tree {
         // As above.
         let _ = path.names();
         let mut taken = None;
-        self.groups.replace(path, &mut taken);
+        let near = self.groups.near();
+        self.groups.replace(path, near, &mut taken);
         taken
     }
 
-    /// Puts the value of one setting of the group at the path, if there is one. Takes no memory.
-    pub fn put_value(&mut self, path: &Path, value: NewValue)
+    /// Puts the value of one setting of the group at the path, if there is one. Where the number of its entry is `near`, it is found
+    /// by a comparison; any number may be given. Takes no memory.
+    pub fn put_value(&mut self, path: &Path, near: u32, value: NewValue)
         ensures tree { self.new.tree ≡ record self.old.tree { groups = set_at self.old.tree.groups path.now (with_new value (group self.old.tree path.now)) } }
         ensures entries { self.new.entries ≡ self.old.entries }
     {
-        let _ = self.swap_value(path, value);
+        let _ = self.swap_value(path, near, value);
     }
 
     /// The same, and gives the value that the setting had. Takes no memory.
-    pub fn swap_value(&mut self, path: &Path, value: NewValue) -> Option<NewValue>
+    pub fn swap_value(&mut self, path: &Path, near: u32, value: NewValue) -> Option<NewValue>
         ensures before { result ≡ option_map (value_there value) (group self.old.tree path.now) }
         ensures tree { self.new.tree ≡ record self.old.tree { groups = set_at self.old.tree.groups path.now (with_new value (group self.old.tree path.now)) } }
         ensures entries { self.new.entries ≡ self.old.entries }
@@ -334,7 +344,7 @@ impl Tree {
         let _ = path.names();
         value.tell_cpus();
         let is_limit = value.is_limit();
-        let before = self.groups.change(path, value);
+        let before = self.groups.change(path, NodeKey::new(near), value);
         self.may_limit |= before.is_some() & is_limit;
         before
     }

@@ -46,7 +46,8 @@ fn move_process(alloc: Global, tree: &mut Tree, pid: u32, word: &str) -> Result<
 fn ask_for_a_cpu(alloc: Global, tree: &mut Tree, word: &str) -> Result<(), Refusal> {
     let path = Path::read(alloc, word)?;
     let value = BoxedCpus::new(alloc, CpuSet::read("0")?)?;
-    tree.put_value(&path, NewValue::Cpus(value));
+    let near = tree.near();
+    tree.put_value(&path, near, NewValue::Cpus(value));
     Ok(())
 }
 
@@ -214,6 +215,7 @@ fn a_tree_is_edited(rt: HostRuntime) {
 fn makes_change(alloc: Global) -> Result<bool, Refusal> {
     let mut tree = tree(alloc, LARGER)?;
     let change = Change::Cpus {
+        near: tree.near(),
         path: Path::root(alloc),
         before: BoxedCpus::empty(),
         left: BoxedCpus::new(alloc, CpuSet::read("0")?)?,

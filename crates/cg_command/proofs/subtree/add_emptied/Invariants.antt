@@ -6,4 +6,4 @@ use Rattle.cg_command.proofs.Emptying.{each_emptied}
 use Rattle.cg_command.proofs.subtree.add_emptied.Given as goal
 
 abbrev pub invariant-loop-child : goal.invariant-loop-child
-invariant-loop-child l = l.inverse ++ each_emptied l.child-iterator ≡ l.fn.inverse ++ each_emptied (filter asks_for_cpus (children l.tree.tree l.path))
+invariant-loop-child l = l.inverse ++ each_emptied l.children ≡ l.fn.inverse ++ each_emptied (filter asks_for_cpus (children l.tree.tree l.path))

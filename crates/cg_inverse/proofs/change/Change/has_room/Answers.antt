@@ -18,15 +18,15 @@ returns-in-Place c =
     subst (λ x. Decides c.has_entry-in-Place.result (HasRoomIn c.args.tree.now (change_of x))) (sym c.in-Place.is) (λ e. sym c.has_entry-in-Place.ensures ∙ e, λ e. c.has_entry-in-Place.ensures ∙ e)
 
 -- no other change needs an entry
-others_need_none : (t : TreeWithRoom) (x : Change) → ((p : Path) (b : Settings) → ¬ (x ≡ changes.Removed p b)) → ((k : ℕ) (b l : Path) → ¬ (x ≡ changes.Place k b l)) → HasRoomIn t (change_of x)
-others_need_none t (changes.Made p) r k = tt
-others_need_none t (changes.Removed p b) r k = absurd (r p b refl)
+others_need_none : (t : TreeWithRoom) (x : Change) → ((n : ℕ) (p : Path) (b : Settings) → ¬ (x ≡ changes.Removed n p b)) → ((k : ℕ) (b l : Path) → ¬ (x ≡ changes.Place k b l)) → HasRoomIn t (change_of x)
+others_need_none t (changes.Made n p) r k = tt
+others_need_none t (changes.Removed n p b) r k = absurd (r n p b refl)
 others_need_none t (changes.Place n b l) r k = absurd (k n b l refl)
-others_need_none t (changes.Control p b l) r k = tt
-others_need_none t (changes.Freeze p b l) r k = tt
-others_need_none t (changes.Cpus p b l) r k = tt
-others_need_none t (changes.MaxDescendants p b l) r k = tt
-others_need_none t (changes.MaxDepth p b l) r k = tt
+others_need_none t (changes.Control n p b l) r k = tt
+others_need_none t (changes.Freeze n p b l) r k = tt
+others_need_none t (changes.Cpus n p b l) r k = tt
+others_need_none t (changes.MaxDescendants n p b l) r k = tt
+others_need_none t (changes.MaxDepth n p b l) r k = tt
 others_need_none t (changes.Online b l) r k = tt
 
 pub returns-in_default : goal.returns-in_default
