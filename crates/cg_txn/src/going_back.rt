@@ -47,11 +47,15 @@ pub fn back(
     ensures locks_kept { OnErr result (locks.new ≡ locks.old) }
     ensures stack_kept { OnErr result (txn.new ≡ txn.old) }
 {
+    if !txn.has_savepoint(name) {
+        return Err(Refusal::NoSavepoint);
+    }
     let number = txn.number();
     // No more commands come off than items stand.
     let standing = txn.len();
     let mut count = 0;
-    while let Some(entry) = txn.back(name)? {
+    // The savepoint stands until the last step, so its name is looked up once, before the first.
+    while let Some(entry) = txn.step_back(name) {
         take_off(tree, locks, number, entry);
         prove!(count < standing);
         count += 1;

@@ -228,8 +228,18 @@ impl Txn {
         if !self.has_savepoint(name) {
             return Err(Refusal::NoSavepoint);
         }
+        Ok(self.step_back(name))
+    }
+
+    // The step that `back` takes, for a caller that knows that a savepoint with this name stands: it isn't looked up.
+    pub(crate) fn step_back(&mut self, name: SaveName) -> Option<Entry>
+        requires { has_savepoint name self.old.items ≡ true }
+        ensures step { (taken_item result, self.new.items) ≡ next_back name self.old.items }
+        ensures number { self.new.number ≡ self.old.number }
+        ensures reserved { self.new.reserved ≡ false }
+    {
         self.reserved = false;
-        Ok(take_back(&mut self.items, &mut self.names, name))
+        take_back(&mut self.items, &mut self.names, name)
     }
 
     /// Takes the newest command off, with the savepoints above it, after which no room is reserved; what stands below it stays.

@@ -1,6 +1,5 @@
--- The commands that still stand above the savepoint come off to where all do. Where there is none of this name, nothing has
--- happened.
-use Rattle.std.proofs.Common.{◌≡◌, ◌+◌, true, false, length}
+-- The savepoint is still there, and the commands that still stand above it come off to where all do.
+use Rattle.std.proofs.Common.{◌≡◌, ◌+◌, true, length}
 use Rattle.cg_txn.specs.TakingOff.{ComesOff, MayComeOff}
 use Rattle.cg_txn.proofs.Steps.{IsOnTheWay}
 use Rattle.cg_txn.specs.Laws.{below, commands_above}
@@ -9,12 +8,11 @@ use Rattle.cg_txn.proofs.going_back.back.Given as goal
 
 abbrev pub invariant-loop-entry : goal.invariant-loop-entry
 invariant-loop-entry l = record {
-  way : has_savepoint l.name l.txn.items ≡ true → IsOnTheWay (MayComeOff l.number.0) (ComesOff l.number.0) (commands_above l.name l.fn.txn.items) l.fn.tree l.fn.locks (commands_above l.name l.txn.items) l.tree l.locks;
+  way : IsOnTheWay (MayComeOff l.number.0) (ComesOff l.number.0) (commands_above l.name l.fn.txn.items) l.fn.tree l.fn.locks (commands_above l.name l.txn.items) l.tree l.locks;
   transaction : l.txn.number ≡ l.fn.txn.number;
   same_below : below l.name l.txn.items ≡ below l.name l.fn.txn.items;
-  still_there : has_savepoint l.name l.txn.items ≡ has_savepoint l.name l.fn.txn.items;
+  still_there : has_savepoint l.name l.txn.items ≡ true;
   counted : l.count + length (commands_above l.name l.txn.items) ≡ length (commands_above l.name l.fn.txn.items);
-  untouched : has_savepoint l.name l.fn.txn.items ≡ false → (l.tree ≡ l.fn.tree) × (l.locks ≡ l.fn.locks) × (l.txn ≡ l.fn.txn);
 }
 
 abbrev pub decreases-loop-entry : goal.decreases-loop-entry

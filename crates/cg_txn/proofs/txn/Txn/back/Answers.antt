@@ -5,6 +5,10 @@ pub returns-then-not-has_savepoint-clause-refused : goal.returns-then-not-has_sa
 returns-then-not-has_savepoint-clause-refused c =
     (refl, sym c.has_savepoint.ensures ∙ c.if-not-has_savepoint.true)
 
+pub step_back-requires : goal.step_back-requires
+step_back-requires c =
+    sym c.has_savepoint.ensures ∙ c.if-not-has_savepoint.false
+
 pub returns-clause-there : goal.returns-clause-there
 returns-clause-there c =
     sym c.has_savepoint.ensures ∙ c.if-not-has_savepoint.false
