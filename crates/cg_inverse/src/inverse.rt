@@ -16,8 +16,10 @@ pub struct Inverse {
     changes: SmallVec<Change, 1>,
 }
 
-// By hand, so that whoever drops one calls this, and doesn't drop each thing in it: that makes proofs shorter.
+// By hand, so that whoever drops one calls this, and doesn't drop each thing in it: that makes proofs shorter. It
+// stands in its callers all the same: most of these have nothing to give back.
 impl Drop for Inverse {
+    #[inline(always)]
     fn drop(self) {
         let Inverse { changes: _ } = self;
     }

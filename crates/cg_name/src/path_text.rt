@@ -16,6 +16,9 @@ use std::sync::Arc;
 // moved by moves that don't overlap.
 const SHORT: usize = 12;
 
+// And of one that lies in the allocation that its copies share. A longer one lies behind that.
+const SHARED: usize = 40;
+
 // The text of a path. A copy of it takes no memory.
 #[derive(Drop)]
 pub(crate) struct PathText {
@@ -30,7 +33,7 @@ enum Kept {
     // How many bytes there are, and they, with others behind them.
     Short(u16, [u8; SHORT]),
     // Most such texts lie in the one allocation that the copies share.
-    Long(Arc<SmallVec<u8, 40>, Global>),
+    Long(Arc<SmallVec<u8, SHARED>, Global>),
 }
 
 impl Model for PathText {
@@ -136,7 +139,7 @@ impl PathText {
     }
 
     // These bytes, to be shared by the copies; an error where there is no memory for them.
-    fn shared(alloc: Global, bytes: SmallVec<u8, 40>) -> Result<PathText, AllocError>
+    fn shared(alloc: Global, bytes: SmallVec<u8, SHARED>) -> Result<PathText, AllocError>
         ensures { IfOk result (λ t. t ≡ bytes.items) }
     {
         Ok(PathText {
@@ -182,18 +185,18 @@ impl PathText {
 
 // A zero byte and these bytes, with zero bytes for their slashes; an error where there is no memory for them. Most are few, and done
 // as those of a short text are.
-fn long_names(alloc: Global, names: &[u8]) -> Result<SmallVec<u8, 40>, AllocError>
+fn long_names(alloc: Global, names: &[u8]) -> Result<SmallVec<u8, SHARED>, AllocError>
     ensures { IfOk result (λ t. t.items ≡ 0 ∷ map marked names.now) }
 {
     let len = names.len() + 1;
-    if len > 40 {
+    if len > SHARED {
         let mut bytes = SmallVec::with_capacity(alloc, len)?;
         bytes.push_reserved(0);
         bytes.extend_from_slice(names)?;
         mark_names(bytes.as_mut_slice());
         return Ok(bytes);
     }
-    let mut bytes = [0u8; 40];
+    let mut bytes = [0u8; SHARED];
     bytes[1..len].copy_from_slice(names);
     mark_names(&mut bytes);
     Ok(SmallVec::from_buf_and_len(alloc, bytes, len))

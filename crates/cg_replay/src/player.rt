@@ -386,8 +386,8 @@ impl Answerer for Player {
     }
 }
 
-// Whether this is the name at the place.
-#[inline(always)]
+// Whether this is the name at the place. It is a call: each line's answer keeps more in registers beside it.
+#[inline(never)]
 fn is_at(names: &IndexSet<SessionName>, place: usize, name: &[u8]) -> bool
     ensures valid { result ≡ true → IsSaveName name.now }
     ensures number { result ≡ true → session_number names.now.keys name.now ≡ Some (place + 1) }

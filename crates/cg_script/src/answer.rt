@@ -76,8 +76,7 @@ fn append_refusal(refusal: Refusal, out: &mut Vec<u8>) -> Result<(), AllocError>
     ensures ok { OnOk result (out.new.items ≡ out.old.items ++ refusal_text refusal) }
     ensures kept { OnErr result (take (length out.old.items) out.new.items ≡ out.old.items) }
 {
-    append_numbered("refused ", u32::from(refusal.number()), out)?;
-    append_behind(refusal.word(), out)?;
+    append_word(refusal.printed(), out)?;
     append_argument(refusal, out)
 }
 

@@ -29,8 +29,10 @@ pub struct Txn {
     reserved: bool,
 }
 
-// By hand, so that whoever drops one calls this, and doesn't drop each thing in it: that makes proofs shorter.
+// By hand, so that whoever drops one calls this, and doesn't drop each thing in it: that makes proofs shorter. It
+// stands in its callers all the same: most of these have nothing to give back.
 impl Drop for Txn {
+    #[inline(always)]
     fn drop(self) {
         let Txn {
             number: _,
