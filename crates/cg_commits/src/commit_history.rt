@@ -6,7 +6,7 @@ ghost use Rattle.cg_model.specs.Live.{live};
 ghost use Rattle.cg_model.specs.Opens.{begins, commits};
 ghost use Rattle.cg_txn.specs.Places.{places_on};
 
-use crate::room::{end_after, give_number, make_room};
+use crate::room::{AT_ONCE, end_after, give_number, make_room};
 use cg_history::{History, Record};
 use cg_txn::Txn;
 use std::alloc::{AllocError, Global};
@@ -22,6 +22,8 @@ pub struct CommitHistory {
     ends: Vec<usize>,
     // By places: which script has it, from 1, and 0 where none has.
     numbers: Vec<u32>,
+    // For how many slots more than those that are reserved there is room in these three.
+    spare: usize,
 }
 
 // By hand, so that whoever drops one calls this, and doesn't drop each thing in it: that makes proofs shorter.
@@ -32,6 +34,7 @@ impl Drop for CommitHistory {
             places: _,
             ends: _,
             numbers: _,
+            spare: _,
         } = self;
     }
 }
@@ -65,6 +68,7 @@ impl CommitHistory {
             places: Vec::new(alloc),
             ends: Vec::new(alloc),
             numbers: Vec::new(alloc),
+            spare: 0,
         }
     }
 
@@ -137,16 +141,21 @@ impl CommitHistory {
         ensures ok { OnOk result (self.new ≡ (self.old.0, self.old.1 + more)) }
         ensures err { OnErr result (self.new ≡ self.old) }
     {
-        let slots = self.history.reserved() + more;
-        let size = self.history.len() + slots;
-        make_room(
-            &mut self.places,
-            &mut self.ends,
-            &mut self.numbers,
-            slots,
-            size,
-        )?;
-        self.history.reserve(more)
+        if self.spare < more {
+            let slots = self.history.reserved() + more + AT_ONCE;
+            let size = self.history.len() + slots;
+            make_room(
+                &mut self.places,
+                &mut self.ends,
+                &mut self.numbers,
+                slots,
+                size,
+            )?;
+            self.spare = more + AT_ONCE;
+        }
+        self.history.reserve(more)?;
+        self.spare -= more;
+        Ok(())
     }
 
     /// Gives so many reserved slots up.

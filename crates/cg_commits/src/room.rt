@@ -7,11 +7,12 @@ ghost use Rattle.cg_model.specs.Opens.{among};
 
 use std::alloc::AllocError;
 
-// For how many records more than those that are due numbers are made at once.
-const AT_ONCE: usize = 256;
+// For how many slots more than those that are due room is made at once.
+pub(crate) const AT_ONCE: usize = 256;
 
 // Makes room for so many places and ends more, and for the numbers of so many records. An error, where there is no memory, leaves
-// what can be seen as it was.
+// what can be seen as it was. It is a call, seldom made.
+#[inline(never)]
 pub(crate) fn make_room(
     places: &mut Vec<u32>,
     ends: &mut Vec<usize>,
@@ -34,7 +35,7 @@ pub(crate) fn make_room(
     places.reserve(slots)?;
     ends.reserve(slots)?;
     if numbers.len() < size {
-        numbers.resize(size.saturating_add(AT_ONCE), 0)?;
+        numbers.resize(size, 0)?;
     }
     Ok(())
 }

@@ -183,6 +183,7 @@ impl<S: Source> LineReader<S> {
     /// Goes on to the next line. `Read` comes only where the source has failed since the reader was
     /// made, or where another read were one too many, and then at each later call. It may lose
     /// bytes of the line that it stands in, and no others.
+    #[inline(always)]
     pub fn next_line(&mut self) -> Result<LineKind, LineFault>
         // What was to be given is the line that is given now, and then what is still to be given.
         ensures takes { IfOk result (λ kind. TakesKnownLine (pending self.old) kind self.new.line (pending self.new)) }

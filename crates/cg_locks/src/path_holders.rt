@@ -138,6 +138,7 @@ impl PathHolders {
 
     // Whether the root's node tells that no other transaction holds what could clash with a mark of this kind, wherever that
     // is: all marks of subtrees and of groups that stay are counted there.
+    #[inline(always)]
     fn is_alone(&self, kind: Kind, path: &Path, transaction: TxnNumber) -> bool
         ensures { IsTrue result → IsLeastOther transaction.0 (in_way self.now kind path.now) None }
     {

@@ -84,6 +84,7 @@ impl<V: Drop> PathTree<V> {
 
     /// As `visit`, and remembered as by that. Where the path's node is the one with the key `near`, it is found by a comparison; any
     /// key may be given.
+    #[inline(always)]
     pub fn visit_from(&mut self, path: &Path, near: NodeKey) -> Option<NodeKey>
         ensures found { result ≡ get self.old.keys path.now }
         ensures same { self.new ≡ self.old }
@@ -168,7 +169,14 @@ impl<V: Drop> PathTree<V> {
         if path.is_root() {
             return None;
         }
-        self.find_text(parent_text(path))
+        let text = parent_text(path);
+        // It is most often that of the path before.
+        if let Some(near) = self.last.parent {
+            if self.is_live_key(near) && self.text_of(near) == text {
+                return Some(near);
+            }
+        }
+        self.find_text(text)
     }
 
     /// The root's node, if there is any node. Takes no memory.

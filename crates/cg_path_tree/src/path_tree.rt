@@ -146,6 +146,21 @@ impl<V: Drop> PathTree<V> {
         self.nodes[key.number() as usize].depth
     }
 
+    // How many names the path has, of which this is the node one name shorter.
+    fn depth_below(&self, path: &Path, parent: Option<NodeKey>) -> u32
+        requires there { HasParent self.now.keys path.now }
+        requires root { is_root path.now ≡ true → parent ≡ None }
+        requires parent { is_root path.now ≡ false → parent ≡ get self.now.keys (parent_path path.now) }
+        ensures { result ≡ length path.now }
+    {
+        // The path tells that it has few names.
+        let _ = path.names();
+        match parent {
+            Some(parent) => self.depth(parent) + 1,
+            None => 0,
+        }
+    }
+
     /// How many nodes lie right below the one with that key.
     pub fn child_count(&self, key: NodeKey) -> u32
         requires { IsKey self.now.keys key }
@@ -208,7 +223,7 @@ impl<V: Drop> PathTree<V> {
     }
 
     // The text of the path of the node with that key.
-    fn text_of(&self, key: NodeKey) -> &str
+    pub(crate) fn text_of(&self, key: NodeKey) -> &str
         requires { IsKey self.now.keys key }
         ensures packed { IsPacked result.now }
         ensures found { get self.now.keys (names_in result.now) ≡ Some key }
@@ -276,6 +291,7 @@ impl<V: Drop> PathTree<V> {
 
     /// The same, where the node of the path one name shorter is known already, as `find_parent` gives it: the path is looked
     /// up once.
+    #[inline(always)]
     pub fn add_below(
         &mut self,
         alloc: Global,
@@ -293,6 +309,7 @@ impl<V: Drop> PathTree<V> {
         ensures value_returned { IfErr result (λ failed. failed.value ≡ value) }
         ensures err { OnErr result (self.new ≡ self.old) }
     {
+        let depth = self.depth_below(path, parent);
         let Ok(()) = self.last.turn_to(alloc, path, parent) else {
             return Err(AllocFailed { value });
         };
@@ -305,7 +322,7 @@ impl<V: Drop> PathTree<V> {
         self.nodes.insert_reserved(Node {
             entry,
             parent: parent.unwrap_or(key),
-            depth: path.depth(),
+            depth,
             place,
             children: Vec::new(alloc),
             value,

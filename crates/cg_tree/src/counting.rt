@@ -125,6 +125,7 @@ fn pass_at_parent(
 }
 
 // Puts the settings at the node, and leaves those before in their place: where a group comes or goes, it is counted above.
+#[inline(always)]
 fn put_group(nodes: &mut PathTree<Entry>, key: NodeKey, settings: &mut Option<CompactSettings>)
     requires key { IsKey nodes.old.keys key }
     requires counted { AreCountedBelow nodes.old.values }

@@ -172,6 +172,7 @@ impl Tree {
     }
 
     /// The path of the group of a process, if one has this PID; an error where there is no memory for the path.
+    #[inline(always)]
     pub fn location(&self, alloc: Global, pid: u32) -> Result<Option<Path>, AllocError>
         ensures { IfOk result (λ place. place ≡ place_of self.now.tree pid) }
     {

@@ -55,7 +55,7 @@ invariant_of-self c =
     let reserved : length c.args.txn.now.items < c.self.inside.history.1 = subst (λ v. length c.args.txn.now.items < v.1) (sym c.self.view_is) c.requires.reserved in
     let few = fewer_places c.args.txn.now.items in
     let more : length c.write_places.new.numbers.items ≡ length c.self.inside.places.items + length (places_on c.args.txn.now.items) = ap length c.write_places.ensures.items ∙ length-append c.self.inside.places.items (places_on c.args.txn.now.items) in
-    subst (λ k. IsKept (record { history = k; places = c.write_places.new.numbers; ends = c.push_reserved.new.self; numbers = c.give_number.new.numbers })) (sym left)
+    subst (λ k. IsKept (record { history = k; places = c.write_places.new.numbers; ends = c.push_reserved.new.self; numbers = c.give_number.new.numbers; spare = c.self.inside.spare })) (sym left)
     (record {
       places = written;
       ends = c.push_reserved.ensures.items ∙ (λ i. c.self.invariant.ends i ++ in_all i ∷ []) ∙ sym (ap ends_of first ∙ ap (λ ls. ends_of (committed_places h) ++ length (joined ls) ∷ []) (sym first));

@@ -68,20 +68,20 @@ invariant_of-self-in_default-enter g c = record {
 
 pub add_child-requires-clause-there : goal.add_child-requires-clause-there
 add_child-requires-clause-there g c =
-    parent_node c.self.inside.index.entries c.enter.new.index.entries c.self.inside.nodes c.self.invariant.linked c.args.self.now c.self.view_is c.args.path.now c.in-Ok-enter.key (put_in c.in-Ok-enter.entry c.unwrap_or.result c.depth.result c.in-Ok-make_room.place c.new.result.items c.args.value)
+    parent_node c.self.inside.index.entries c.enter.new.index.entries c.self.inside.nodes c.self.invariant.linked c.args.self.now c.self.view_is c.args.path.now c.in-Ok-enter.key (put_in c.in-Ok-enter.entry c.unwrap_or.result c.depth_below-depth.result c.in-Ok-make_room.place c.new.result.items c.args.value)
     c.requires.absent c.requires.there c.in-Ok-enter.ensures.entries c.in-Ok-enter.ensures.packed c.enter.new.nodes c.insert_reserved.new.self
     (kept c.self.inside.nodes c.make_room.new.nodes c.enter.new.nodes c.in-Ok-enter.ensures.slots c.make_room.ensures.same) (sym (c.make_room.ensures.same c.in-Ok-enter.key) ∙ c.in-Ok-enter.ensures.vacant)
     (put_there c.make_room.new.nodes c.enter.new.nodes c.insert_reserved.new.self c.in-Ok-enter.key c.insert_reserved.result c.in-Ok-enter.ensures.slots c.in-Ok-enter.ensures.key c.insert_reserved.ensures.key c.insert_reserved.ensures.updates)
-    c.in-Ok-enter.ensures.entry c.depth.ensures.value c.new.ensures.items c.args.parent c.requires.root c.requires.parent c.unwrap_or.ensures
+    c.in-Ok-enter.ensures.entry c.depth_below-depth.ensures c.new.ensures.items c.args.parent c.requires.root c.requires.parent c.unwrap_or.ensures
     c.in-Ok-make_room.ensures.place c.in-Ok-make_room.ensures.below
 
 pub add_child-requires-clause-room : goal.add_child-requires-clause-room
 add_child-requires-clause-room g c k is =
-    let new = is_new c.self.inside.index.entries c.enter.new.index.entries c.self.inside.nodes c.self.invariant.linked c.args.self.now c.self.view_is c.args.path.now c.in-Ok-enter.key (put_in c.in-Ok-enter.entry c.unwrap_or.result c.depth.result c.in-Ok-make_room.place c.new.result.items c.args.value)
+    let new = is_new c.self.inside.index.entries c.enter.new.index.entries c.self.inside.nodes c.self.invariant.linked c.args.self.now c.self.view_is c.args.path.now c.in-Ok-enter.key (put_in c.in-Ok-enter.entry c.unwrap_or.result c.depth_below-depth.result c.in-Ok-make_room.place c.new.result.items c.args.value)
     c.requires.absent c.requires.there c.in-Ok-enter.ensures.entries c.in-Ok-enter.ensures.packed c.enter.new.nodes c.insert_reserved.new.self
     (kept c.self.inside.nodes c.make_room.new.nodes c.enter.new.nodes c.in-Ok-enter.ensures.slots c.make_room.ensures.same) (sym (c.make_room.ensures.same c.in-Ok-enter.key) ∙ c.in-Ok-enter.ensures.vacant)
     (put_there c.make_room.new.nodes c.enter.new.nodes c.insert_reserved.new.self c.in-Ok-enter.key c.insert_reserved.result c.in-Ok-enter.ensures.slots c.in-Ok-enter.ensures.key c.insert_reserved.ensures.key c.insert_reserved.ensures.updates)
-    c.in-Ok-enter.ensures.entry c.depth.ensures.value c.new.ensures.items c.args.parent c.requires.root c.requires.parent c.unwrap_or.ensures
+    c.in-Ok-enter.ensures.entry c.depth_below-depth.ensures c.new.ensures.items c.args.parent c.requires.root c.requires.parent c.unwrap_or.ensures
     c.in-Ok-make_room.ensures.place c.in-Ok-make_room.ensures.below k is in
     still_room c.make_room.new.nodes c.enter.new.nodes c.insert_reserved.new.self c.in-Ok-enter.key c.insert_reserved.result c.in-Ok-enter.ensures.slots c.in-Ok-enter.ensures.key c.insert_reserved.ensures.key c.insert_reserved.ensures.updates
     k new (c.in-Ok-make_room.ensures.room k is)
@@ -89,11 +89,11 @@ add_child-requires-clause-room g c k is =
 pub invariant_of-self-2 : goal.invariant_of-self-2
 invariant_of-self-2 g c = record {
   linked =
-      linked-added c.self.inside.index.entries c.enter.new.index.entries c.self.inside.nodes c.self.invariant.linked c.args.self.now c.self.view_is c.args.path.now c.in-Ok-enter.key (put_in c.in-Ok-enter.entry c.unwrap_or.result c.depth.result c.in-Ok-make_room.place c.new.result.items c.args.value)
+      linked-added c.self.inside.index.entries c.enter.new.index.entries c.self.inside.nodes c.self.invariant.linked c.args.self.now c.self.view_is c.args.path.now c.in-Ok-enter.key (put_in c.in-Ok-enter.entry c.unwrap_or.result c.depth_below-depth.result c.in-Ok-make_room.place c.new.result.items c.args.value)
       c.requires.absent c.requires.there c.in-Ok-enter.ensures.entries c.in-Ok-enter.ensures.packed c.enter.new.nodes c.insert_reserved.new.self
       (kept c.self.inside.nodes c.make_room.new.nodes c.enter.new.nodes c.in-Ok-enter.ensures.slots c.make_room.ensures.same) (sym (c.make_room.ensures.same c.in-Ok-enter.key) ∙ c.in-Ok-enter.ensures.vacant)
       (put_there c.make_room.new.nodes c.enter.new.nodes c.insert_reserved.new.self c.in-Ok-enter.key c.insert_reserved.result c.in-Ok-enter.ensures.slots c.in-Ok-enter.ensures.key c.insert_reserved.ensures.key c.insert_reserved.ensures.updates)
-      c.in-Ok-enter.ensures.entry c.depth.ensures.value c.new.ensures.items c.args.parent c.requires.root c.requires.parent c.unwrap_or.ensures
+      c.in-Ok-enter.ensures.entry c.depth_below-depth.ensures c.new.ensures.items c.args.parent c.requires.root c.requires.parent c.unwrap_or.ensures
       c.in-Ok-make_room.ensures.place c.in-Ok-make_room.ensures.below
       c.add_child.new.nodes c.add_child.ensures.none c.add_child.ensures.some
       (subst (λ n. n < 4294967295) c.in-Ok-enter.ensures.entry c.in-Ok-enter.ensures.below);
@@ -101,11 +101,11 @@ invariant_of-self-2 g c = record {
       subst (λ keys. IsTrueOf keys c.gain.new.self)
       (ap (λ q. set_at c.args.self.now.keys q (Some c.in-Ok-enter.key)) c.in-Ok.ensures.path
       ∙ sym (
-      keys-added c.self.inside.index.entries c.enter.new.index.entries c.self.inside.nodes c.self.invariant.linked c.args.self.now c.self.view_is c.args.path.now c.in-Ok-enter.key (put_in c.in-Ok-enter.entry c.unwrap_or.result c.depth.result c.in-Ok-make_room.place c.new.result.items c.args.value)
+      keys-added c.self.inside.index.entries c.enter.new.index.entries c.self.inside.nodes c.self.invariant.linked c.args.self.now c.self.view_is c.args.path.now c.in-Ok-enter.key (put_in c.in-Ok-enter.entry c.unwrap_or.result c.depth_below-depth.result c.in-Ok-make_room.place c.new.result.items c.args.value)
       c.requires.absent c.requires.there c.in-Ok-enter.ensures.entries c.in-Ok-enter.ensures.packed c.enter.new.nodes c.insert_reserved.new.self
       (kept c.self.inside.nodes c.make_room.new.nodes c.enter.new.nodes c.in-Ok-enter.ensures.slots c.make_room.ensures.same) (sym (c.make_room.ensures.same c.in-Ok-enter.key) ∙ c.in-Ok-enter.ensures.vacant)
       (put_there c.make_room.new.nodes c.enter.new.nodes c.insert_reserved.new.self c.in-Ok-enter.key c.insert_reserved.result c.in-Ok-enter.ensures.slots c.in-Ok-enter.ensures.key c.insert_reserved.ensures.key c.insert_reserved.ensures.updates)
-      c.in-Ok-enter.ensures.entry c.depth.ensures.value c.new.ensures.items c.args.parent c.requires.root c.requires.parent c.unwrap_or.ensures
+      c.in-Ok-enter.ensures.entry c.depth_below-depth.ensures c.new.ensures.items c.args.parent c.requires.root c.requires.parent c.unwrap_or.ensures
       c.in-Ok-make_room.ensures.place c.in-Ok-make_room.ensures.below
       c.add_child.new.nodes c.add_child.ensures.none c.add_child.ensures.some
       ))
@@ -117,29 +117,29 @@ invariant_of-self-2 g c = record {
 
 pub returns-clause-keys : goal.returns-clause-keys
 returns-clause-keys g c =
-    keys-added c.self.inside.index.entries c.enter.new.index.entries c.self.inside.nodes c.self.invariant.linked c.args.self.now c.self.view_is c.args.path.now c.in-Ok-enter.key (put_in c.in-Ok-enter.entry c.unwrap_or.result c.depth.result c.in-Ok-make_room.place c.new.result.items c.args.value)
+    keys-added c.self.inside.index.entries c.enter.new.index.entries c.self.inside.nodes c.self.invariant.linked c.args.self.now c.self.view_is c.args.path.now c.in-Ok-enter.key (put_in c.in-Ok-enter.entry c.unwrap_or.result c.depth_below-depth.result c.in-Ok-make_room.place c.new.result.items c.args.value)
     c.requires.absent c.requires.there c.in-Ok-enter.ensures.entries c.in-Ok-enter.ensures.packed c.enter.new.nodes c.insert_reserved.new.self
     (kept c.self.inside.nodes c.make_room.new.nodes c.enter.new.nodes c.in-Ok-enter.ensures.slots c.make_room.ensures.same) (sym (c.make_room.ensures.same c.in-Ok-enter.key) ∙ c.in-Ok-enter.ensures.vacant)
     (put_there c.make_room.new.nodes c.enter.new.nodes c.insert_reserved.new.self c.in-Ok-enter.key c.insert_reserved.result c.in-Ok-enter.ensures.slots c.in-Ok-enter.ensures.key c.insert_reserved.ensures.key c.insert_reserved.ensures.updates)
-    c.in-Ok-enter.ensures.entry c.depth.ensures.value c.new.ensures.items c.args.parent c.requires.root c.requires.parent c.unwrap_or.ensures
+    c.in-Ok-enter.ensures.entry c.depth_below-depth.ensures c.new.ensures.items c.args.parent c.requires.root c.requires.parent c.unwrap_or.ensures
     c.in-Ok-make_room.ensures.place c.in-Ok-make_room.ensures.below
     c.add_child.new.nodes c.add_child.ensures.none c.add_child.ensures.some
 
 pub returns-clause-values : goal.returns-clause-values
 returns-clause-values g c =
-    values-added c.self.inside.index.entries c.enter.new.index.entries c.self.inside.nodes c.self.invariant.linked c.args.self.now c.self.view_is c.args.path.now c.in-Ok-enter.key (put_in c.in-Ok-enter.entry c.unwrap_or.result c.depth.result c.in-Ok-make_room.place c.new.result.items c.args.value)
+    values-added c.self.inside.index.entries c.enter.new.index.entries c.self.inside.nodes c.self.invariant.linked c.args.self.now c.self.view_is c.args.path.now c.in-Ok-enter.key (put_in c.in-Ok-enter.entry c.unwrap_or.result c.depth_below-depth.result c.in-Ok-make_room.place c.new.result.items c.args.value)
     c.requires.absent c.requires.there c.in-Ok-enter.ensures.entries c.in-Ok-enter.ensures.packed c.enter.new.nodes c.insert_reserved.new.self
     (kept c.self.inside.nodes c.make_room.new.nodes c.enter.new.nodes c.in-Ok-enter.ensures.slots c.make_room.ensures.same) (sym (c.make_room.ensures.same c.in-Ok-enter.key) ∙ c.in-Ok-enter.ensures.vacant)
     (put_there c.make_room.new.nodes c.enter.new.nodes c.insert_reserved.new.self c.in-Ok-enter.key c.insert_reserved.result c.in-Ok-enter.ensures.slots c.in-Ok-enter.ensures.key c.insert_reserved.ensures.key c.insert_reserved.ensures.updates)
-    c.in-Ok-enter.ensures.entry c.depth.ensures.value c.new.ensures.items c.args.parent c.requires.root c.requires.parent c.unwrap_or.ensures
+    c.in-Ok-enter.ensures.entry c.depth_below-depth.ensures c.new.ensures.items c.args.parent c.requires.root c.requires.parent c.unwrap_or.ensures
     c.in-Ok-make_room.ensures.place c.in-Ok-make_room.ensures.below
     c.add_child.new.nodes c.add_child.ensures.none c.add_child.ensures.some
 
 pub returns-clause-fresh : goal.returns-clause-fresh
 returns-clause-fresh g c =
-    fresh c.self.inside.index.entries c.enter.new.index.entries c.self.inside.nodes c.self.invariant.linked c.args.self.now c.self.view_is c.args.path.now c.in-Ok-enter.key (put_in c.in-Ok-enter.entry c.unwrap_or.result c.depth.result c.in-Ok-make_room.place c.new.result.items c.args.value)
+    fresh c.self.inside.index.entries c.enter.new.index.entries c.self.inside.nodes c.self.invariant.linked c.args.self.now c.self.view_is c.args.path.now c.in-Ok-enter.key (put_in c.in-Ok-enter.entry c.unwrap_or.result c.depth_below-depth.result c.in-Ok-make_room.place c.new.result.items c.args.value)
     c.requires.absent c.requires.there c.in-Ok-enter.ensures.entries c.in-Ok-enter.ensures.packed c.enter.new.nodes c.insert_reserved.new.self
     (kept c.self.inside.nodes c.make_room.new.nodes c.enter.new.nodes c.in-Ok-enter.ensures.slots c.make_room.ensures.same) (sym (c.make_room.ensures.same c.in-Ok-enter.key) ∙ c.in-Ok-enter.ensures.vacant)
     (put_there c.make_room.new.nodes c.enter.new.nodes c.insert_reserved.new.self c.in-Ok-enter.key c.insert_reserved.result c.in-Ok-enter.ensures.slots c.in-Ok-enter.ensures.key c.insert_reserved.ensures.key c.insert_reserved.ensures.updates)
-    c.in-Ok-enter.ensures.entry c.depth.ensures.value c.new.ensures.items c.args.parent c.requires.root c.requires.parent c.unwrap_or.ensures
+    c.in-Ok-enter.ensures.entry c.depth_below-depth.ensures c.new.ensures.items c.args.parent c.requires.root c.requires.parent c.unwrap_or.ensures
     c.in-Ok-make_room.ensures.place c.in-Ok-make_room.ensures.below
