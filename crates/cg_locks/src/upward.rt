@@ -186,6 +186,7 @@ pub(crate) fn add_mark(
 }
 
 // One holding less by the transaction of the mark of this kind at the node's path, where it has one.
+#[inline(always)]
 pub(crate) fn remove_mark(
     nodes: &mut PathTree<Held>,
     key: NodeKey,

@@ -333,6 +333,7 @@ impl<V: Drop> PathTree<V> {
     }
 
     /// Takes out a node that has none right below, and gives its value. Takes no memory.
+    #[inline(always)]
     pub fn remove(&mut self, key: NodeKey) -> V
         requires there { IsKey self.old.keys key }
         requires leaf { (p : List (List ℕ)) → get self.old.keys p ≡ Some key → IsLeaf self.old.keys p }

@@ -132,6 +132,7 @@ impl Groups {
 
     // Makes a group at a path that has no entry, the root's or one whose parent has an entry; an error where there is no
     // memory for its entry, which leaves all as it was.
+    #[inline(always)]
     pub(crate) fn insert(
         &mut self,
         alloc: Global,

@@ -336,6 +336,7 @@ impl Tree {
     }
 
     /// The same, and gives the value that the setting had. Takes no memory.
+    #[inline(always)]
     pub fn swap_value(&mut self, path: &Path, near: u32, value: NewValue) -> Option<NewValue>
         ensures before { result ≡ option_map (value_there value) (group self.old.tree path.now) }
         ensures tree { self.new.tree ≡ record self.old.tree { groups = set_at self.old.tree.groups path.now (with_new value (group self.old.tree path.now)) } }
