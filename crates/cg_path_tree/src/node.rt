@@ -11,7 +11,7 @@ use std::alloc::AllocError;
 #[derive(Clone, Copy, PartialEq, Eq, Hash, Debug)]
 pub struct NodeKey(u32);
 
-// What is kept at one path.
+// What is kept at one path. Most look-ups want the value, which stands in the same line of the cache, and not the children.
 #[derive(Drop)]
 pub(crate) struct Node<V> {
     // The number of the path's entry in the index.
@@ -22,9 +22,9 @@ pub(crate) struct Node<V> {
     pub(crate) depth: u32,
     // Its place among the children of its parent; of the root, 0.
     pub(crate) place: u32,
+    pub(crate) value: V,
     // The nodes right below, in no order. Each knows its place.
     pub(crate) children: Vec<NodeKey>,
-    pub(crate) value: V,
 }
 
 impl NodeKey {

@@ -5,19 +5,19 @@ ghost use Rattle.cg_tree.specs.Entries.{counted, CanCount};
 use crate::passing::Passing;
 use cg_boxed::CompactSettings;
 
-// The settings of a group, how many groups are below and what those right below pass on, and how many processes are in it and
-// below.
+// The settings of a group, how many processes are in it and below, how many groups are below, and what those right below pass on.
+// What most commands look at stands first, in one line of the cache or two.
 pub(crate) struct Entry {
     // The settings of the group, and `None` where the path is dead.
     pub(crate) settings: Option<CompactSettings>,
+    // How many processes are in the groups at the path and below it.
+    pub(crate) processes: u32,
     // How many groups are below the path.
     pub(crate) below: u32,
     // How many of them are right below it.
     pub(crate) right_below: u32,
     // For each controller, how many of these pass it on.
     pub(crate) passing: Passing,
-    // How many processes are in the groups at the path and below it.
-    pub(crate) processes: u32,
 }
 
 // Which count of an entry changes at each path above.
@@ -34,10 +34,10 @@ impl Drop for Entry {
     fn drop(self) {
         let Entry {
             settings: _,
+            processes: _,
             below: _,
             right_below: _,
             passing: _,
-            processes: _,
         } = self;
     }
 }
