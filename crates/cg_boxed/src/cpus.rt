@@ -1,5 +1,5 @@
 //! Sets of CPU numbers in memory that their copies share.
-ghost use Rattle.std.specs.Prelude.{◌≡◌, ◌<◌, ℕ, IfOk, IsOk, IsTrue, true};
+ghost use Rattle.std.specs.Prelude.{◌≡◌, ◌<◌, ℕ, cond, IfOk, IsOk, IsTrue, true};
 ghost use Rattle.std.proofs.Common.{nat_eq, rules};
 ghost use Rattle.std.specs.Cmp.Lexicographic.{pointwise};
 ghost use Rattle.std.specs.Cmp.Rules.{comparing};
@@ -118,13 +118,13 @@ impl BoxedCpus {
         }
     }
 
-    /// The numbers that both sets have.
-    pub fn intersect(&self, other: CpuSet) -> CpuSet
-        ensures { result ≡ in_common self.now other }
+    /// Leaves of these CPUs those that the set has too, or all of them where there are none.
+    pub fn narrow(&self, cpus: &mut CpuSet)
+        ensures { let both = in_common self.now cpus.old in cpus.new ≡ cond (is_empty_set both) cpus.old both }
     {
         match &self.kept {
-            Kept::Low(word) => other.intersect_low(*word),
-            Kept::Wide(set) => set.intersect(other),
+            Kept::Low(word) => cpus.narrow_low(*word),
+            Kept::Wide(set) => cpus.narrow(set),
         }
     }
 

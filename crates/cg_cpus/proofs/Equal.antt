@@ -17,7 +17,7 @@ same_numbers (x ∷ xs) (y ∷ ys) h = λ i. eqb-true x y (and_parts (x == y) _ 
 pub equal_sets : (s t : FiniteSet) → pointwise nat_eq (members s) (members t) ≡ true → s ≡ t
 equal_sets s t h = sym (set_of-members s) ∙ ap set_of (same_numbers (members s) (members t) h) ∙ set_of-members t
 
-same_tests : (a b : Bool) → (a ≡ true → b ≡ true) → (b ≡ true → a ≡ true) → a ≡ b
+pub same_tests : (a b : Bool) → (a ≡ true → b ≡ true) → (b ≡ true → a ≡ true) → a ≡ b
 same_tests true b f g = sym (f refl)
 same_tests false true f g = g refl
 same_tests false false f g = refl

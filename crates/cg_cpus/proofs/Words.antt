@@ -1,9 +1,9 @@
 -- Looking for a bit of the words, a word at a time.
-use Rattle.std.proofs.Common.{◌≡◌, ℕ, suc, ◌+◌, ◌-◌, ◌*◌, ◌/◌, ◌%◌, ◌^◌, ◌<◌, ◌≤◌, true, false, true≢false, IsTrue, ◌==◌, ◌&&◌, nat_lt, List, get_or, refl, sym, ap, ◌∙◌, arith}
-use Rattle.std.specs.Int.{bit_at, bit_not, w64}
+use Rattle.std.proofs.Common.{◌≡◌, ℕ, suc, ◌+◌, ◌-◌, ◌*◌, ◌/◌, ◌%◌, ◌^◌, ◌<◌, ◌≤◌, Bool, true, false, not, true≢false, IsTrue, ◌==◌, ◌&&◌, nat_lt, List, get_or, refl, sym, ap, ◌∙◌, arith}
+use Rattle.std.specs.Int.{bit_at, bit_not, trailing_zeros, w64}
 use Rattle.std.proofs.Math.Nat.{div-add-mod, mod-lt, mul_comm, two-pow-succ}
 use Rattle.std.proofs.lemmas.Nat.{pow_pos}
-use Rattle.std.proofs.lemmas.Nat.Bits.{bit_at_lowest, bit_at-lt, bit_at_above, bit_at_cat_high, bit_at_not}
+use Rattle.std.proofs.lemmas.Nat.Bits.{bit_at_lowest, bit_at-lt, bit_at_above, bit_at_cat_high, bit_at_not, bit_at-zero, bit_at-trailing_zeros}
 use Rattle.std.proofs.lemmas.Bool.Decides.{nat_tests}
 use Rattle.cg_maps.specs.FiniteSet.{FiniteSet, has}
 use Rattle.cg_cpus.specs.Words.{set_in}
@@ -78,3 +78,42 @@ at_most s n m h above = elim (nat_lt m n) as (λ b. nat_lt m n ≡ b → n ≤ m
   | true ↦ λ e. let l : m < n = grind (arith, nat_tests) in absurd (true≢false (sym h ∙ above l))
   | false ↦ λ e. grind (arith, nat_tests)
 ] refl
+
+pub on_either_side : {P : Type 0} (n m : ℕ) → (n < m → P) → (m ≤ n → P) → P
+on_either_side {P = P} n m before behind = elim (nat_lt n m) as (λ b. nat_lt n m ≡ b → P) [
+  | true ↦ λ e. before (grind (arith, nat_tests))
+  | false ↦ λ e. behind (grind (arith, nat_tests))
+] refl
+
+-- the first number of a word that is in a set, or that isn't, by the bits from cpu on of those that are so
+module _ (s : FiniteSet) (present : Bool) (cpu found : ℕ)
+    (here : (k : ℕ) → k < 64 - cpu % 64 → bit_at found k ≡ 1 → has s (cpu + k) ≡ present)
+    (passed : (k : ℕ) → k < 64 - cpu % 64 → bit_at found k ≡ 0 → has s (cpu + k) ≡ not present)
+    (rest : (k : ℕ) → 64 - cpu % 64 ≤ k → bit_at found k ≡ 0)
+  where
+    pub all_passed : found ≡ 0 → (n : ℕ) → cpu ≤ n → n < cpu + (64 - cpu % 64) → has s n ≡ not present
+    all_passed none n from below =
+        let place : n ≡ cpu + (n - cpu) = omega arith in
+        ap (has s) place ∙ passed (n - cpu) (omega arith) (ap (λ w. bit_at w (n - cpu)) none ∙ bit_at-zero (n - cpu))
+
+    module _ (some : 0 < found) (width : found < 2 ^ 64) where
+      lowest : (trailing_zeros w64 found < 64) × (bit_at found (trailing_zeros w64 found) ≡ 1) × ((i : ℕ) → i < trailing_zeros w64 found → bit_at found i ≡ 0)
+      lowest = bit_at-trailing_zeros w64 found some width
+
+      pub first_within : trailing_zeros w64 found < 64 - cpu % 64
+      first_within = elim (nat_lt (trailing_zeros w64 found) (64 - cpu % 64)) as (λ b. nat_lt (trailing_zeros w64 found) (64 - cpu % 64) ≡ b → trailing_zeros w64 found < 64 - cpu % 64) [
+        | true ↦ λ e. grind (arith, nat_tests)
+        | false ↦ λ e.
+            let past : 64 - cpu % 64 ≤ trailing_zeros w64 found = grind (arith, nat_tests) in
+            let none : ◌≡◌ {A = ℕ} 0 1 = sym (rest (trailing_zeros w64 found) past) ∙ lowest.1 in
+            absurd (omega (arith, none))
+      ] refl
+
+      pub first_passed : (n : ℕ) → cpu ≤ n → n < cpu + trailing_zeros w64 found → has s n ≡ not present
+      first_passed n from below =
+          let within = first_within in
+          let place : n ≡ cpu + (n - cpu) = omega arith in
+          ap (has s) place ∙ passed (n - cpu) (omega arith) (lowest.2 (n - cpu) (omega arith))
+
+      pub first_here : has s (cpu + trailing_zeros w64 found) ≡ present
+      first_here = here (trailing_zeros w64 found) first_within lowest.1

@@ -1,5 +1,5 @@
 //! Sets of CPU numbers.
-ghost use Rattle.std.specs.Prelude.{◌≡◌, ◌∷◌, [], not, ◌++◌, ◌+◌, ◌-◌, ◌*◌, ◌/◌, ◌%◌, ◌<◌, ◌≤◌, ◌↔◌, ◌⊎◌, IsTrue, IfOk, IfErr, IfNone, IfSome, OnOk, OnErr, ℕ};
+ghost use Rattle.std.specs.Prelude.{◌≡◌, ◌∷◌, [], not, cond, ◌++◌, ◌+◌, ◌-◌, ◌*◌, ◌/◌, ◌%◌, ◌<◌, ◌≤◌, ◌↔◌, ◌⊎◌, IsTrue, IfOk, IfErr, IfNone, IfSome, OnOk, OnErr, ℕ};
 ghost use Rattle.std.proofs.Common.{nat_eq, rules};
 ghost use Rattle.std.specs.Cmp.Lexicographic.{pointwise};
 ghost use Rattle.std.specs.Cmp.Rules.{comparing};
@@ -161,22 +161,30 @@ impl CpuSet {
         None
     }
 
-    /// What is in both sets.
-    pub fn intersect(self, other: CpuSet) -> CpuSet
-        ensures { result ≡ in_common self other }
+    /// Leaves those of its numbers that the other set has too, or all of them where there are none.
+    pub fn narrow(&mut self, by: &CpuSet)
+        ensures { let both = in_common by.now self.old in self.new ≡ cond (is_empty_set both) self.old both }
     {
-        let mut words = self.words;
-        for i in 0..words.len() {
-            words[i] &= other.words[i];
+        // The loop has no way out, so that the compiler can take several words at once.
+        let mut common = by.words;
+        let mut bits = 0;
+        for i in 0..common.len() {
+            common[i] &= self.words[i];
+            bits |= common[i];
         }
-        CpuSet { words }
+        if bits != 0 {
+            self.words = common;
+        }
     }
 
-    /// What is in this set of the numbers below 64 whose bits the word has.
-    pub fn intersect_low(&self, word: u64) -> CpuSet
-        ensures { result ≡ in_common (low_set word) self.now }
+    /// Leaves those of its numbers that are below 64 and whose bits the word has, or all of them where there are none.
+    pub fn narrow_low(&mut self, word: u64)
+        ensures { let both = in_common (low_set word) self.old in self.new ≡ cond (is_empty_set both) self.old both }
     {
-        CpuSet::from_low(word & self.words[0])
+        let common = word & self.words[0];
+        if common != 0 {
+            *self = CpuSet::from_low(common);
+        }
     }
 
     // The first number from `from` on that is in the set, or that isn't; 1,024 where none is.
@@ -186,13 +194,29 @@ impl CpuSet {
         ensures before { (n : ℕ) → from ≤ n → n < result → has self.now n ≡ not present }
         ensures here { result < 1024 → has self.now result ≡ present }
     {
-        let mut cpu = from;
-        while cpu < CpuSet::LIMIT {
+        if from == CpuSet::LIMIT {
+            return CpuSet::LIMIT;
+        }
+        let found = self.bits_from(from, present);
+        if found != 0 {
+            return from + found.trailing_zeros() as u16;
+        }
+        self.first_from_word(from / 64 + 1, present)
+    }
+
+    // The same from the first number of this word on, so that no word has to be cut.
+    fn first_from_word(&self, first: u16, present: bool) -> u16
+        requires { first ≤ 16 }
+        ensures bounds { (first * 64 ≤ result) × (result ≤ 1024) }
+        ensures before { (n : ℕ) → first * 64 ≤ n → n < result → has self.now n ≡ not present }
+        ensures here { result < 1024 → has self.now result ≡ present }
+    {
+        for index in first..CpuSet::LIMIT / 64 {
+            let cpu = index * 64;
             let found = self.bits_from(cpu, present);
             if found != 0 {
                 return cpu + found.trailing_zeros() as u16;
             }
-            cpu += 64 - cpu % 64;
         }
         CpuSet::LIMIT
     }

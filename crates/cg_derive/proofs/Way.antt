@@ -1,13 +1,12 @@
 -- The way from below the root down to a path, by the first names of the path.
-use Rattle.std.proofs.Common.{◌≡◌, ℕ, zero, suc, ◌<◌, ◌≤◌, ◌==◌, ◌&&◌, nat_lt, Bool, true, false, cond, List, [], ◌∷◌, ◌++◌, length, take, drop, Option, None, Some, refl, sym, ap, ◌∙◌, arith}
+use Rattle.std.proofs.Common.{◌≡◌, ℕ, zero, suc, ◌<◌, ◌≤◌, ◌==◌, ◌&&◌, nat_lt, Bool, true, false, cond, List, [], ◌∷◌, ◌++◌, length, take, drop, Option, None, refl, sym, ap, ◌∙◌, arith}
 use Rattle.std.proofs.lemmas.Bool.Decides.{nat_tests}
 use Rattle.cg_name.specs.Path.{Path, along}
 use Rattle.cg_text.specs.declared.settings.Settings.{Settings}
 use Rattle.cg_model.specs.Tree.{Tree, group}
 use Rattle.std.specs.List.{list_any}
 use Rattle.cg_derive.specs.Upward.{narrowed_upward}
-use Rattle.cg_maps.specs.FiniteSet.{FiniteSet, has, in_common, is_empty_set}
-use Rattle.cg_maps.proofs.Sets.{empty_has_none, has-in_common, none_in_empty}
+use Rattle.cg_maps.specs.FiniteSet.{FiniteSet}
 use Rattle.cg_model.specs.Derived.{down_to, effective_cpus, has_freeze, is_frozen, narrowed, narrowed_along}
 use Rattle.cg_tree.specs.declared.ancestors.Ancestor.{Ancestor}
 use Rattle.cg_tree.specs.Ancestors.{ancestor_at, ancestors, downward}
@@ -35,10 +34,6 @@ next_on_way T (m ∷ p) n h = at_prefix (λ q. group T (m ∷ q)) p n (omega (ar
 pub end_of_way : (T : Tree) (p : Path) → drop (length p) (down_to T p) ≡ []
 end_of_way T [] = refl
 end_of_way T (m ∷ p) = behind_all (λ q. group T (m ∷ q)) p
-
--- a group that asks for no CPUs narrows none
-pub narrowed_by_none : (e : FiniteSet) (s : Settings) → is_empty_set s.cpus ≡ true → narrowed e (Some s) ≡ e
-narrowed_by_none e s none = ap (λ b. cond b e (in_common s.cpus e)) ((empty_has_none (in_common s.cpus e)).1 (λ n. has-in_common s.cpus e n ∙ ap (λ b. b && has e n) (none_in_empty s.cpus none n)))
 
 -- ---- from the path up to the root
 

@@ -104,14 +104,7 @@ fn narrow_upward(mut groups: Ancestors<'_>, cpus: &mut CpuSet)
 fn narrow(cpus: &mut CpuSet, group: Option<&CompactSettings>)
     ensures { cpus.new ≡ narrowed cpus.old (option_copied group.entry) }
 {
-    let Some(settings) = group else {
-        return;
-    };
-    if settings.cpus().is_empty() {
-        return;
-    }
-    let both = settings.cpus().intersect(*cpus);
-    if !both.is_empty() {
-        *cpus = both;
+    if let Some(settings) = group {
+        settings.cpus().narrow(cpus);
     }
 }

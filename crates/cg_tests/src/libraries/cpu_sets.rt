@@ -29,6 +29,21 @@ const SETS: [Row; 8] = [
     ("0,63-64,1023", [true, true, true, true], None),
 ];
 
+// A set, the CPUs that it narrows, and those that are left.
+type Narrowing = (&'static str, &'static str, &'static str);
+
+const NARROWED: [Narrowing; 9] = [
+    ("", "0-3", "0-3"),
+    ("0-3", "", ""),
+    ("2,5", "0-3", "2"),
+    ("5", "0-3", "0-3"),
+    ("0,63", "63-64", "63"),
+    ("0-63", "64,1023", "64,1023"),
+    ("1-70", "0,64-71", "64-70"),
+    ("64", "0-63", "0-63"),
+    ("5,1023", "0-3,512-1023", "1023"),
+];
+
 // The set of the row, kept.
 fn kept(alloc: Global, row: &Row) -> Result<BoxedCpus, Refusal> {
     Ok(BoxedCpus::new(alloc, CpuSet::read(row.0)?)?)
@@ -56,17 +71,26 @@ fn holds_of_set(alloc: Global, row: &Row) -> Result<bool, Refusal> {
     Ok(set.get() == CpuSet::read(row.0)? && set.is_empty() == row.0.is_empty() && copy == set)
 }
 
-// Whether the two sets have in common what both rows say, and are equal where they are one.
-fn holds_of_both(alloc: Global, left: &Row, right: &Row) -> Result<bool, Refusal> {
-    let set = kept(alloc, left)?;
-    let other = kept(alloc, right)?;
-    let common = set.intersect(other.get());
-    for i in 0..NUMBERS.len() {
-        if common.contains(NUMBERS[i]) != (left.1[i] && right.1[i]) {
-            return Ok(false);
-        }
+// Whether the two sets are equal where they are one.
+fn compared(alloc: Global, left: &Row, right: &Row) -> Result<bool, Refusal> {
+    let equal = kept(alloc, left)? == kept(alloc, right)?;
+    Ok(equal == (left.0 == right.0))
+}
+
+// Whether the set narrows the CPUs to those of the row, as a set, as a word where it has one, and kept.
+fn narrows(alloc: Global, row: &Narrowing) -> Result<bool, Refusal> {
+    let set = CpuSet::read(row.0)?;
+    let left = CpuSet::read(row.2)?;
+    let mut by_set = CpuSet::read(row.1)?;
+    let mut by_word = by_set;
+    let mut by_kept = by_set;
+    by_set.narrow(&set);
+    match set.low() {
+        Some(word) => by_word.narrow_low(word),
+        None => by_word.narrow(&set),
     }
-    Ok((set == other) == (left.0 == right.0))
+    BoxedCpus::new(alloc, set)?.narrow(&mut by_kept);
+    Ok(by_set == left && by_word == left && by_kept == left)
 }
 
 #[test]
@@ -84,16 +108,29 @@ fn kept_sets_have_their_numbers(rt: HostRuntime) {
 }
 
 #[test]
-fn kept_sets_are_compared_and_intersected(rt: HostRuntime) {
+fn kept_sets_are_compared(rt: HostRuntime) {
     for left in &SETS {
         for right in &SETS {
             assert_eq!(rt;
-                holds_of_both(rt.alloc(), left, right),
+                compared(rt.alloc(), left, right),
                 Ok(true),
                 "{} and {}",
                 left.0,
                 right.0
             );
         }
+    }
+}
+
+#[test]
+fn sets_narrow_cpus(rt: HostRuntime) {
+    for row in &NARROWED {
+        assert_eq!(rt;
+            narrows(rt.alloc(), row),
+            Ok(true),
+            "{} narrows {}",
+            row.0,
+            row.1
+        );
     }
 }
