@@ -2,6 +2,7 @@
 ghost use Rattle.std.specs.Prelude.{◌≡◌, ◌+◌, ◌-◌, ◌<◌, ◌≤◌, ◌^◌, ◌∷◌, [], length, OnErr, OnOk};
 ghost use Rattle.cg_model.specs.Opens.{begins, commits};
 
+use crate::recent_texts::RecentTexts;
 use crate::record::{Answer, Record};
 use std::alloc::{AllocError, Global};
 use std::marker::Model;
@@ -13,6 +14,7 @@ pub struct History {
     reserved: usize,
     begun: u32,
     committed: u32,
+    texts: RecentTexts,
 }
 
 // By hand, so that whoever drops one calls this, and doesn't drop each thing in it: that makes proofs shorter.
@@ -23,6 +25,7 @@ impl Drop for History {
             reserved: _,
             begun: _,
             committed: _,
+            texts: _,
         } = self;
     }
 }
@@ -58,6 +61,7 @@ impl History {
             reserved: 0,
             begun: 0,
             committed: 0,
+            texts: RecentTexts::new(alloc),
         }
     }
 
@@ -97,12 +101,14 @@ impl History {
     }
 
     /// Reserves so many slots more. An error, where there is no memory for them, leaves the history as it was.
+    #[inline(always)]
     pub fn reserve(&mut self, more: usize) -> Result<(), AllocError>
         requires { self.old.1 + more < 2 ^ 32 }
         ensures ok { OnOk result (self.new ≡ (self.old.0, self.old.1 + more)) }
         ensures err { OnErr result (self.new ≡ self.old) }
     {
         let reserved = self.reserved + more;
+        self.texts.make_room()?;
         self.records.reserve(reserved)?;
         self.reserved = reserved;
         Ok(())
@@ -117,14 +123,16 @@ impl History {
     }
 
     /// Adds a record in a slot that was reserved for it.
-    pub fn push(&mut self, entry: Record)
+    #[inline(always)]
+    pub fn push(&mut self, mut entry: Record)
         requires reserved { 0 < self.old.1 }
         requires few { length self.old.0 < 2 ^ 32 - 1 }
         ensures { self.new ≡ (record_of entry ∷ self.old.0, self.old.1 - 1) }
     {
-        match entry.answer {
+        match &mut entry.answer {
             Answer::Begun(_) => self.begun += 1,
             Answer::Committed(_) => self.committed += 1,
+            Answer::Text(text) => self.texts.share_in(text),
             _ => {}
         }
         self.records.push_reserved(entry);

@@ -1,0 +1,78 @@
+//! Texts that were recorded last.
+ghost use Rattle.std.specs.Prelude.{◌≡◌, ◌<◌};
+
+use cg_command::BoxedText;
+use std::alloc::{AllocError, Global};
+
+// How many places there are for them.
+const PLACES: usize = 64;
+
+// Texts that were recorded last. One that comes again shares the memory of the one before: most interface files hold one of few
+// texts. That is for room alone, and no clause tells which texts these are.
+#[derive(Drop)]
+pub(crate) struct RecentTexts {
+    // For the texts of one hash the one that came last, where there is room.
+    places: Vec<Option<BoxedText>>,
+}
+
+impl RecentTexts {
+    // None yet, and no room for any.
+    pub(crate) fn new(alloc: Global) -> RecentTexts {
+        RecentTexts {
+            places: Vec::new(alloc),
+        }
+    }
+
+    // Makes room, where there is none yet. An error, where there is no memory for it.
+    #[inline(always)]
+    pub(crate) fn make_room(&mut self) -> Result<(), AllocError> {
+        if self.places.is_empty() {
+            self.places.resize_with(PLACES, || None)?;
+        }
+        Ok(())
+    }
+
+    // Where an equal text was recorded shortly before, this one shares its memory from now on. It stays the same text. Takes no
+    // memory. It is a call, seldom made.
+    #[inline(never)]
+    pub(crate) fn share_in(&mut self, text: &mut BoxedText)
+        ensures { text.new ≡ text.old }
+    {
+        let alloc = *self.places.allocator();
+        let Some(place) = self.places.get_mut(place_of(text.as_slice())) else {
+            return;
+        };
+        match place {
+            Some(kept) if *kept == *text => {
+                if let Ok(copy) = kept.copy(alloc) {
+                    *text = copy;
+                }
+            }
+            _ => *place = text.copy(alloc).ok(),
+        }
+    }
+}
+
+// Where a text of these bytes is kept: the upper six bits of a hash of them.
+fn place_of(bytes: &[u8]) -> usize
+    ensures { result < 64 }
+{
+    (hash_of(bytes) >> 58) as usize
+}
+
+// A hash of the bytes, of which eight are taken at once as long as there are so many.
+fn hash_of(bytes: &[u8]) -> u64 {
+    let mut hash = 0;
+    let mut rest = bytes;
+    'words: while let Some((word, behind)) = rest.split_first_chunk::<8>() {
+        hash = hashed(hash, u64::from_le_bytes(*word));
+        rest = behind;
+    }
+    rest.iter()
+        .fold(hash, |hash, byte| hashed(hash, u64::from(*byte)))
+}
+
+// The hash with a word more. The factor is odd, and its bits are mixed.
+fn hashed(hash: u64, word: u64) -> u64 {
+    (hash ^ word).wrapping_mul(0x9e37_79b9_7f4a_7c15)
+}
