@@ -246,8 +246,9 @@ def alone(crate, edit):
     with tempfile.TemporaryDirectory(prefix="rt-kept-") as room:
         kept = f"{room}/kept"
         shutil.copytree(f"{crate.folder}/{KEPT}", kept)
-        kind, said = rt.must_fail(crate, edit.file, ["--jobs", "1"], kept)
-        return kind in (rt.REFUSED, rt.AT_LIMIT), said
+        came_to, said = rt.must_fail(crate, edit.file, ["--jobs", "1"], kept)
+        # (some rt tell only whether it was refused)
+        return came_to if isinstance(came_to, bool) else came_to in (rt.REFUSED, rt.AT_LIMIT), said
 
 
 def try_together(crate, edits, harmless, jobs):

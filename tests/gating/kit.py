@@ -87,8 +87,12 @@ def crates(aside=None):
     rt.Crate = Crate
     Crate.allowed = rt.handles_of(TOP)
     if aside:
-        found = rt.crates_of(TOP)
-        rt.set_aside(TOP, os.listdir(f"{TOP}/crates"), aside)
+        # (some rt set aside by a function of its own)
+        if hasattr(rt, "set_aside"):
+            found = rt.crates_of(TOP)
+            rt.set_aside(TOP, os.listdir(f"{TOP}/crates"), aside)
+        else:
+            found = rt.crates_of(TOP, aside)
     else:
         rtlib.Crate = Crate
         found = sorted(rtlib.crates_below(TOP), key=lambda it: len(it.below()))
