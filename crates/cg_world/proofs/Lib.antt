@@ -1,5 +1,4 @@
 pub mod Puts
 pub mod Representable
-pub mod Runs
 mod SoundTrees
 pub mod Trees
