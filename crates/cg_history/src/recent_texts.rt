@@ -33,7 +33,7 @@ impl RecentTexts {
     }
 
     // Where an equal text was recorded shortly before, this one shares its memory from now on. It stays the same text. Takes no
-    // memory. It is a call, seldom made.
+    // memory. It is a call, made for shown texts alone.
     #[inline(never)]
     pub(crate) fn share_in(&mut self, text: &mut BoxedText)
         ensures { text.new ≡ text.old }
