@@ -1,4 +1,5 @@
 pub mod Puts
 pub mod Representable
+pub mod Runs
 mod SoundTrees
 pub mod Trees

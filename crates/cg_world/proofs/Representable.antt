@@ -54,6 +54,20 @@ group_representable T p s h path low = record {
   processes = h.processes;
 }
 
+pub no_groups_representable : (T : Tree) → IsRepresentable T → IsRepresentable (record T { groups = empty })
+no_groups_representable T h = record {
+  online = h.online;
+  groups = none_held path_cmp_total path_cmp_exact IsGroup;
+  processes = h.processes;
+}
+
+pub no_processes_representable : (T : Tree) → IsRepresentable T → IsRepresentable (record T { places = empty })
+no_processes_representable T h = record {
+  online = h.online;
+  groups = h.groups;
+  processes = none_held nat_cmp_total nat_cmp-IsAntisymmetric IsProcess;
+}
+
 pub process_representable : (T : Tree) (k : ℕ) (p : Path) → IsRepresentable T → IsPid k → IsPath p → IsRepresentable (with_process T k p)
 process_representable T k p h pid path = record {
   online = h.online;

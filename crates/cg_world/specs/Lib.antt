@@ -1,3 +1,6 @@
+pub mod Entries
+pub mod Gathered
+pub mod GatheredTree
 pub mod Making
 pub mod Plain
 pub mod Representable

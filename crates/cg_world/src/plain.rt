@@ -5,6 +5,7 @@ ghost use Rattle.std.specs.Ordering.{nat_cmp};
 ghost use Rattle.cg_maps.specs.FiniteMap.{set_at, empty, from_entries};
 ghost use Rattle.cg_name.specs.Path.{path_cmp};
 ghost use Rattle.cg_model.specs.Tree.{Tree, group, place_of};
+ghost use Rattle.cg_world.specs.Entries.{tree_of_entries};
 ghost use Rattle.cg_world.specs.Representable.{IsPid, IsRepresentable};
 
 use cg_boxed::CompactSettings;
@@ -63,6 +64,24 @@ impl PlainTree {
             online,
             groups: BTreeMap::new(alloc),
             places: BTreeMap::new(alloc),
+        }
+    }
+
+    // The tree of these maps.
+    pub(crate) fn from_maps(
+        controllers: Controllers,
+        online: CpuSet,
+        groups: BTreeMap<Path, CompactSettings>,
+        places: BTreeMap<u32, Path>,
+    ) -> PlainTree
+        requires { IsRepresentable (tree_of_entries controllers online groups.entries places.entries) }
+        ensures { result ≡ tree_of_entries controllers online groups.entries places.entries }
+    {
+        PlainTree {
+            controllers,
+            online,
+            groups,
+            places,
         }
     }
 

@@ -5,6 +5,7 @@ use crate::stage::Stage;
 use crate::statement::Statement;
 use cg_boxed::CompactSettings;
 use cg_name::Path;
+use cg_world::Kept;
 use indexmap::IndexSet;
 use std::alloc::{AllocError, Global};
 use std::collections::BTreeMap;
@@ -89,13 +90,42 @@ fn long_paths(alloc: Global, stage: &Stage) -> Result<Option<IndexSet<Path>>, Al
 // Those of these groups.
 fn long_paths_of(
     alloc: Global,
+    groups: &Kept<Path, CompactSettings>,
+) -> Result<IndexSet<Path>, AllocError> {
+    match groups {
+        Kept::Run(run) => long_paths_of_run(alloc, run.as_slice()),
+        Kept::Map(map) => long_paths_of_map(alloc, map),
+    }
+}
+
+// Those of the groups in a row.
+fn long_paths_of_run(
+    alloc: Global,
+    groups: &[(Path, CompactSettings)],
+) -> Result<IndexSet<Path>, AllocError> {
+    let mut paths = IndexSet::with_capacity(alloc, groups.len())?;
+    for (path, _settings) in groups {
+        keep_long(alloc, &mut paths, path)?;
+    }
+    Ok(paths)
+}
+
+// Those of the groups in a map.
+fn long_paths_of_map(
+    alloc: Global,
     groups: &BTreeMap<Path, CompactSettings>,
 ) -> Result<IndexSet<Path>, AllocError> {
     let mut paths = IndexSet::with_capacity(alloc, groups.len())?;
     for (path, _settings) in groups {
-        if path.as_bytes().len() >= WORTH_SHARING {
-            paths.insert(path.copy(alloc)?)?;
-        }
+        keep_long(alloc, &mut paths, path)?;
     }
     Ok(paths)
+}
+
+// Keeps the path, where its text is long.
+fn keep_long(alloc: Global, paths: &mut IndexSet<Path>, path: &Path) -> Result<(), AllocError> {
+    if path.as_bytes().len() >= WORTH_SHARING {
+        paths.insert(path.copy(alloc)?)?;
+    }
+    Ok(())
 }

@@ -15,7 +15,7 @@ use crate::version::Version;
 use cg_boxed::{BoxedCpus, CompactSettings};
 use cg_name::{Path, Refusal};
 use cg_text::Controllers;
-use cg_world::PlainTree;
+use cg_world::{GatheredTree, PlainTree};
 use std::alloc::Global;
 use std::mem;
 
@@ -29,9 +29,9 @@ pub(crate) enum Stage {
     /// The computer's controllers too.
     Controlled(Version, Controllers),
     /// The online CPUs too, and these groups.
-    Groups(Version, PlainTree),
+    Groups(Version, GatheredTree),
     /// All groups, and these processes.
-    Processes(Version, PlainTree),
+    Processes(Version, GatheredTree),
     /// All.
     Ended(Version, PlainTree),
 }
@@ -52,7 +52,7 @@ impl Stage {
     }
 
     // The tree so far, where the line of a group or of a process can have come.
-    pub(crate) fn tree(&self) -> Option<&PlainTree> {
+    pub(crate) fn tree(&self) -> Option<&GatheredTree> {
         match self {
             Stage::Groups(_, tree) | Stage::Processes(_, tree) => Some(tree),
             _ => None,
@@ -67,9 +67,9 @@ impl Stage {
         ensures refusals { IfErr result IsSyntaxOrMemory }
     {
         match statement {
-            Statement::Group(path, settings) => self.take_group(path, settings),
-            Statement::Process(pid, path) => self.take_process(pid, path),
-            Statement::End => self.take_end(),
+            Statement::Group(path, settings) => self.take_group(alloc, path, settings),
+            Statement::Process(pid, path) => self.take_process(alloc, pid, path),
+            Statement::End => self.take_end(alloc),
             Statement::Version(version) => self.take_version(version),
             Statement::Controllers(controllers) => self.take_controllers(controllers),
             Statement::Online(online) => self.take_online(alloc, &online),
@@ -77,19 +77,24 @@ impl Stage {
     }
 
     // Takes the line of a group.
-    fn take_group(&mut self, path: Path, settings: CompactSettings) -> Result<(), Refusal>
+    fn take_group(
+        &mut self,
+        alloc: Global,
+        path: Path,
+        settings: CompactSettings,
+    ) -> Result<(), Refusal>
         ensures value { OnOk result (taken self.old (Group path settings) ≡ Some self.new) }
         ensures syntax { IsErrOf result Refusal.Syntax → taken self.old (Group path settings) ≡ None }
         ensures refusals { IfErr result IsSyntaxOrMemory }
     {
         match self {
-            Stage::Groups(_, tree) => add_group(tree, path, settings),
+            Stage::Groups(_, tree) => add_group(alloc, tree, path, settings),
             _ => Err(Refusal::Syntax),
         }
     }
 
     // Takes the line of a process.
-    fn take_process(&mut self, pid: u32, path: Path) -> Result<(), Refusal>
+    fn take_process(&mut self, alloc: Global, pid: u32, path: Path) -> Result<(), Refusal>
         requires { IsPid pid }
         ensures value { OnOk result (taken self.old (Process pid path) ≡ Some self.new) }
         ensures syntax { IsErrOf result Refusal.Syntax → taken self.old (Process pid path) ≡ None }
@@ -97,7 +102,7 @@ impl Stage {
     {
         self.pass_groups();
         match self {
-            Stage::Processes(_, tree) => add_process(tree, pid, path),
+            Stage::Processes(_, tree) => add_process(alloc, tree, pid, path),
             _ => Err(Refusal::Syntax),
         }
     }
@@ -115,14 +120,14 @@ impl Stage {
     }
 
     // Takes the end's line.
-    fn take_end(&mut self) -> Result<(), Refusal>
+    fn take_end(&mut self, alloc: Global) -> Result<(), Refusal>
         ensures value { OnOk result (taken self.old End ≡ Some self.new) }
-        ensures syntax { OnErr result (taken self.old End ≡ None) }
-        ensures refusals { IfErr result (λ e. e ≡ Syntax) }
+        ensures syntax { IsErrOf result Refusal.Syntax → taken self.old End ≡ None }
+        ensures refusals { IfErr result IsSyntaxOrMemory }
     {
         match mem::replace(self, Stage::Begun) {
             Stage::Groups(version, tree) | Stage::Processes(version, tree) => {
-                *self = Stage::Ended(version, tree);
+                *self = Stage::Ended(version, tree.finish(alloc)?);
                 Ok(())
             }
             _ => Err(Refusal::Syntax),
@@ -167,7 +172,7 @@ impl Stage {
     {
         match *self {
             Stage::Controlled(version, controllers) => {
-                *self = Stage::Groups(version, PlainTree::new(alloc, controllers, online.get()));
+                *self = Stage::Groups(version, GatheredTree::new(alloc, controllers, online.get()));
                 Ok(())
             }
             _ => Err(Refusal::Syntax),
@@ -176,27 +181,32 @@ impl Stage {
 }
 
 // Adds a group to a tree; `Syntax` where it has it already. After an error nothing is told of the tree.
-fn add_group(tree: &mut PlainTree, path: Path, settings: CompactSettings) -> Result<(), Refusal>
+fn add_group(
+    alloc: Global,
+    tree: &mut GatheredTree,
+    path: Path,
+    settings: CompactSettings,
+) -> Result<(), Refusal>
     ensures free { OnOk result (is_some (group tree.old path) ≡ false) }
     ensures value { OnOk result (tree.new ≡ with_group tree.old path settings) }
     ensures syntax { IsErrOf result Refusal.Syntax → is_some (group tree.old path) ≡ true }
     ensures refusals { IfErr result IsSyntaxOrMemory }
 {
-    if tree.set_group(path, settings)? {
+    if tree.set_group(alloc, path, settings)? {
         return Err(Refusal::Syntax);
     }
     Ok(())
 }
 
 // Adds a process to a tree; `Syntax` where it has it already. After an error nothing is told of the tree.
-fn add_process(tree: &mut PlainTree, pid: u32, path: Path) -> Result<(), Refusal>
+fn add_process(alloc: Global, tree: &mut GatheredTree, pid: u32, path: Path) -> Result<(), Refusal>
     requires { IsPid pid }
     ensures free { OnOk result (is_some (place_of tree.old pid) ≡ false) }
     ensures value { OnOk result (tree.new ≡ with_process tree.old pid path) }
     ensures syntax { IsErrOf result Refusal.Syntax → is_some (place_of tree.old pid) ≡ true }
     ensures refusals { IfErr result IsSyntaxOrMemory }
 {
-    if tree.set_place(pid, path)? {
+    if tree.set_place(alloc, pid, path)? {
         return Err(Refusal::Syntax);
     }
     Ok(())

@@ -1,0 +1,117 @@
+//! Maps made of entries that come one by one, mostly by ascending keys.
+ghost use Rattle.std.specs.Prelude.{◌≡◌, ◌⊎◌, [], IfOk, OnErr, OnOk, IsTrue, Some, is_some};
+ghost use Rattle.std.specs.List.{AllByRecursion};
+ghost use Rattle.std.specs.declared.cmp.Ordering.TheVariants.{Less};
+ghost use Rattle.std.specs.List.Sorted.{IsStrictlySortedBy};
+ghost use Rattle.std.specs.Map.{keys_of};
+ghost use Rattle.std.specs.FinMap.{IsAntisymmetric};
+ghost use Rattle.cg_maps.specs.FiniteMap.{get, set_at, from_entries};
+ghost use Rattle.cg_world.specs.Gathered.{entries_of};
+
+use std::alloc::{AllocError, Global};
+use std::collections::BTreeMap;
+use std::iter::FromIterator;
+use std::marker::Model;
+use std::mem;
+
+/// The entries so far.
+#[derive(Drop)]
+pub enum Kept<K: Ord + Drop, V: Drop> {
+    /// In the order in which they came, each key greater than the one before.
+    Run(Vec<(K, V)>),
+    /// In a map, since one came whose key was not.
+    Map(BTreeMap<K, V>),
+}
+
+/// A map that is made of entries that come one by one. As long as they come by ascending keys, they are only kept in a row, and the
+/// map is made of them all at once: that takes no search for each, and leaves no half-full node.
+#[derive(Drop)]
+pub(crate) struct Gathered<K: Ord + Drop, V: Drop> {
+    kept: Kept<K, V>,
+}
+
+impl<K: Ord + Drop, V: Drop> Model for Gathered<K, V> {
+    ghost use Rattle.std.specs.Prelude.{List};
+    ghost use Rattle.std.specs.Map.{keys_of};
+    ghost use Rattle.std.specs.List.Sorted.{IsStrictlySortedBy};
+
+    ghost Value = { List (K × V) };
+
+    ghost use Rattle.cg_world.specs.Gathered.{entries_of};
+
+    ghost view = { λ g. entries_of g.kept };
+
+    ghost invariant = { λ g. IsStrictlySortedBy K.cmp (keys_of (entries_of g.kept)) };
+}
+
+impl<K: Ord + Drop, V: Drop> Gathered<K, V> {
+    /// No entry.
+    pub(crate) fn new(alloc: Global) -> Gathered<K, V>
+        ensures { result ≡ [] }
+    {
+        Gathered {
+            kept: Kept::Run(Vec::new(alloc)),
+        }
+    }
+
+    /// The entries so far.
+    pub(crate) fn kept(&self) -> &Kept<K, V>
+        ensures { entries_of result.now ≡ self.now }
+    {
+        &self.kept
+    }
+
+    /// Puts a value at the key, and answers whether there was one. An error, where there is no memory, leaves the entries or none.
+    pub(crate) fn insert(&mut self, alloc: Global, key: K, value: V) -> Result<bool, AllocError>
+        ensures ok { OnOk result (IsAntisymmetric K.cmp → from_entries K.cmp self.new ≡ set_at (from_entries K.cmp self.old) key (Some value)) }
+        ensures had { IfOk result (λ had. IsAntisymmetric K.cmp → had ≡ is_some (get (from_entries K.cmp self.old) key)) }
+        ensures err { OnErr result ((self.new ≡ self.old) ⊎ (self.new ≡ [])) }
+    {
+        if let Kept::Run(run) = &mut self.kept {
+            if is_behind(run.as_slice(), &key) {
+                run.push((key, value))?;
+                return Ok(false);
+            }
+        }
+        let mut map = map_of(
+            alloc,
+            mem::replace(&mut self.kept, Kept::Run(Vec::new(alloc))),
+        )?;
+        let former = map.insert(key, value)?;
+        self.kept = Kept::Map(map);
+        Ok(former.is_some())
+    }
+
+    /// The map of what was gathered; an error where there is no memory for it.
+    pub(crate) fn finish(self, alloc: Global) -> Result<BTreeMap<K, V>, AllocError>
+        ensures { IfOk result (λ map. IsAntisymmetric K.cmp → from_entries K.cmp map.entries ≡ from_entries K.cmp self) }
+    {
+        let Gathered { kept } = self;
+        map_of(alloc, kept)
+    }
+}
+
+// Whether the key is greater than that of the last entry, where there is one.
+fn is_behind<K: Ord, V: Drop>(run: &[(K, V)], key: &K) -> bool
+    requires { IsStrictlySortedBy K.cmp (keys_of run.now) }
+    ensures { IsTrue result → AllByRecursion (λ k. K.cmp k key.now ≡ Less) (keys_of run.now) }
+{
+    match run.last() {
+        Some((last, _)) => last.cmp(key).is_lt(),
+        None => true,
+    }
+}
+
+// The map of these entries.
+fn map_of<K: Ord + Drop, V: Drop>(
+    alloc: Global,
+    kept: Kept<K, V>,
+) -> Result<BTreeMap<K, V>, AllocError>
+    requires { IsStrictlySortedBy K.cmp (keys_of (entries_of kept)) }
+    ensures { IfOk result (λ map. IsAntisymmetric K.cmp → from_entries K.cmp map.entries ≡ from_entries K.cmp (entries_of kept)) }
+{
+    match kept {
+        Kept::Run(run) => BTreeMap::from_iter(alloc, run),
+        Kept::Map(map) => Ok(map),
+    }
+}
