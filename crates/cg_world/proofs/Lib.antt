@@ -1,5 +1,7 @@
+pub mod Hints
 pub mod Puts
 pub mod Representable
 pub mod Runs
 mod SoundTrees
+pub mod Taken
 pub mod Trees

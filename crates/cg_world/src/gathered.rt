@@ -8,11 +8,17 @@ ghost use Rattle.std.specs.FinMap.{IsAntisymmetric};
 ghost use Rattle.cg_maps.specs.FiniteMap.{get, set_at, from_entries};
 ghost use Rattle.cg_world.specs.Gathered.{entries_of};
 
+use crate::counts_hints::CountsHints;
 use std::alloc::{AllocError, Global};
+use std::cell::Cell;
 use std::collections::BTreeMap;
 use std::iter::FromIterator;
 use std::marker::Model;
 use std::mem;
+
+// The entries that a node of a map has places for. A row of more shows whether `from_iter` was refused the room for all of it, since
+// the room in which it goes on then has places for 8 at most.
+const FEW: usize = 15;
 
 /// The entries so far.
 #[derive(Drop)]
@@ -111,7 +117,48 @@ fn map_of<K: Ord + Drop, V: Drop>(
     ensures { IfOk result (λ map. IsAntisymmetric K.cmp → from_entries K.cmp map.entries ≡ from_entries K.cmp (entries_of kept)) }
 {
     match kept {
-        Kept::Run(run) => BTreeMap::from_iter(alloc, run),
+        Kept::Run(run) => map_of_run(alloc, run),
         Kept::Map(map) => Ok(map),
     }
+}
+
+// The map of the entries in a row.
+//
+// `from_iter` makes it without searches, of full nodes. Where the room for all entries is refused, it goes on in room for a few, and
+// tells nobody. But it asks for their number whenever it needs room, and where it has the room for all, that is once. So a second
+// time is want of memory too: no growth is refused unheard.
+fn map_of_run<K: Ord + Drop, V: Drop>(
+    alloc: Global,
+    run: Vec<(K, V)>,
+) -> Result<BTreeMap<K, V>, AllocError>
+    requires { IsStrictlySortedBy K.cmp (keys_of run.items) }
+    ensures { IfOk result (λ map. IsAntisymmetric K.cmp → from_entries K.cmp map.entries ≡ from_entries K.cmp run.items) }
+{
+    if run.len() <= FEW {
+        return map_of_few(alloc, run);
+    }
+    let hints = Cell::new(0);
+    let entries = CountsHints {
+        items: run.into_iter(),
+        hints: &hints,
+    };
+    let map = BTreeMap::from_iter(alloc, entries)?;
+    if hints.get() > 1 {
+        return Err(AllocError);
+    }
+    Ok(map)
+}
+
+// The map of a few entries. They go into it from the last to the first, so that each is compared with one key alone.
+fn map_of_few<K: Ord + Drop, V: Drop>(
+    alloc: Global,
+    mut run: Vec<(K, V)>,
+) -> Result<BTreeMap<K, V>, AllocError>
+    ensures { IfOk result (λ map. IsAntisymmetric K.cmp → from_entries K.cmp map.entries ≡ from_entries K.cmp run.items) }
+{
+    let mut map = BTreeMap::new(alloc);
+    while let Some((key, value)) = run.pop() {
+        map.insert(key, value)?;
+    }
+    Ok(map)
 }

@@ -1,6 +1,7 @@
 //! Trees in plain ordered maps, and worlds: the sound ones.
 #![tactic(auto)]
 
+mod counts_hints;
 mod gathered;
 mod gathered_tree;
 mod plain;
