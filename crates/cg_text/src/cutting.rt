@@ -9,10 +9,10 @@ ghost use Rattle.cg_name.specs.Word.{is_bare_byte, is_blank};
 ghost use Rattle.cg_text.specs.Cutting.{BeginsWith, Closes, behind, is_escaped, say_something, starts_blank};
 ghost use Rattle.cg_text.specs.Words.{Cuts, EndsWord, Line, Says, Word, is_silent};
 
+use crate::line_words::LineWords;
 use crate::marks::{SHORT_LINE, marks_of};
 use cg_name::{Refusal, is_bare_byte};
 use memchr::{memchr, memchr3};
-use smallvec::SmallVec;
 
 /// The most bytes of a line, its newline left out.
 pub const LONGEST_LINE: usize = 65_536;
@@ -20,16 +20,13 @@ pub const LONGEST_LINE: usize = 65_536;
 // How many bytes a word has at most that is short.
 const SHORT_WORD: usize = 16;
 
-/// The words of a line, as they stand in it. Most lines have few, which take no memory.
-pub type LineWords<'a> = SmallVec<&'a str, 8>;
-
 /// Puts the words of a line, as they stand in it, with their quotation marks, in the place of those that `words` has.
 /// Blanks separate them, and may stand before the first and behind the last. Between quotation marks a backslash stands
 /// before a quotation mark, a backslash or an `n`, for a newline, and before nothing else. `Syntax` where a quotation
 /// mark isn't closed, where a bare word has a mark, or where something but a blank stands behind a word. After a refusal
 /// nothing is told of `words`.
 pub fn cut_words<'a>(line: &'a str, words: &mut LineWords<'a>) -> Result<(), Refusal>
-    ensures value { OnOk result (Cuts line.now (map (λ w. w.now) words.new.items)) }
+    ensures value { OnOk result (Cuts line.now words.new) }
     ensures syntax { IsErrOf result Refusal.Syntax → (ws : List Word) → Cuts line.now ws → ⊥ }
     ensures refusals { IfErr result IsSyntaxOrMemory }
 {
@@ -50,7 +47,7 @@ pub fn cut_words<'a>(line: &'a str, words: &mut LineWords<'a>) -> Result<(), Ref
 /// the line's end is dropped. A line that is too long or isn't UTF-8 is `Syntax`, and so is one that says something and
 /// can't be cut into words. After a refusal nothing is told of `words`.
 pub fn read_words<'a>(line: &'a [u8], words: &mut LineWords<'a>) -> Result<bool, Refusal>
-    ensures words { IfOk result (λ says. says ≡ true → Says line.now (Some (map (λ w. w.now) words.new.items))) }
+    ensures words { IfOk result (λ says. says ≡ true → Says line.now (Some words.new)) }
     ensures silent { IfOk result (λ says. says ≡ false → Says line.now None) }
     ensures syntax { IsErrOf result Refusal.Syntax → (said : Option (List Word)) → Says line.now said → ⊥ }
     ensures refusals { IfErr result IsSyntaxOrMemory }
@@ -60,7 +57,7 @@ pub fn read_words<'a>(line: &'a [u8], words: &mut LineWords<'a>) -> Result<bool,
     }
     let line = without_carriage_return(line);
     if line.len() <= SHORT_LINE && cut_plain(line, words)? {
-        return Ok(say_something(words));
+        return Ok(say_something(words.as_slice()));
     }
     let Some(line) = as_text(line) else {
         return Err(Refusal::Syntax);
@@ -77,7 +74,7 @@ pub fn read_words<'a>(line: &'a [u8], words: &mut LineWords<'a>) -> Result<bool,
 // `words`.
 fn cut_plain<'a>(line: &'a [u8], words: &mut LineWords<'a>) -> Result<bool, Refusal>
     requires short { length line.now ≤ 63 }
-    ensures words { IfOk result (λ cut. cut ≡ true → IsUtf8 line.now × Cuts line.now (map (λ w. w.now) words.new.items)) }
+    ensures words { IfOk result (λ cut. cut ≡ true → IsUtf8 line.now × Cuts line.now words.new) }
     ensures refusals { IfErr result (λ refusal. refusal ≡ Refusal.Memory) }
 {
     words.clear();

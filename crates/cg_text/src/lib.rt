@@ -6,6 +6,7 @@ mod controllers;
 mod cutting;
 pub mod laws;
 mod limit;
+mod line_words;
 mod marks;
 mod reading;
 mod settings;
@@ -14,8 +15,9 @@ mod writing;
 pub use cg_name::{FileName, write_quoted};
 pub use control_ops::ControlOps;
 pub use controllers::Controllers;
-pub use cutting::{LONGEST_LINE, LineWords, cut_words, read_words};
+pub use cutting::{LONGEST_LINE, cut_words, read_words};
 pub use limit::{Limit, LimitNumber};
+pub use line_words::LineWords;
 pub use reading::{LAST_PID, read_flag, read_limit, read_ops, read_pid};
 pub use settings::Settings;
 pub use writing::{

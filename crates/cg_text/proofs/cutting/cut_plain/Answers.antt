@@ -1,8 +1,7 @@
-use Rattle.std.proofs.Common.{◌≡◌, ◌==◌, false, ◌++◌, ◌∷◌, ℕ, ◌<◌, ◌≤◌, ◌+◌, ◌^◌, ◌/◌, min, [], List, Bor, map, length, take, ap, sym, subst, ◌∙◌, arith}
-use Rattle.std.proofs.lemmas.List.{map-append, nil_from_length, append-nil}
+use Rattle.std.proofs.Common.{◌≡◌, ◌==◌, false, ◌++◌, ◌∷◌, ℕ, ◌<◌, ◌≤◌, ◌+◌, ◌^◌, ◌/◌, min, [], List, length, take, ap, sym, subst, ◌∙◌, arith}
+use Rattle.std.proofs.lemmas.List.{nil_from_length, append-nil}
 use Rattle.std.proofs.lemmas.Bool.{eqb-false}
 use Rattle.std.specs.Int.{w64, trailing_zeros}
-use Rattle.cg_text.specs.Words.{Word}
 use Rattle.cg_text.proofs.Masks.{marks}
 use Rattle.cg_text.proofs.PlainWords.{IsCutPlainTo, IsPlain, plain_from_start, plain_word, plain_to_end, plain_last, plain_behind, plain_behind_word, behind_first, length-behind_first, marks_behind, marks_behind_word}
 use Rattle.cg_text.proofs.cutting.cut_plain.Goals as goal
@@ -14,20 +13,16 @@ word_at rest word m n short value end front filled =
     let some : 0 < length word = omega (arith, eqb-false (length word) 0 (sym filled)) in
     subst IsPlain (sym front) (plain_word rest n short at (subst (λ w. 0 < length w) front some))
 
--- the words, with the pushed one
-pushed : (items more : List (Bor (List ℕ))) (text : Bor (List ℕ)) (word : Word) → more ≡ items ++ text ∷ [] → text.now ≡ word → map (λ w. w.now) more ≡ map (λ w. w.now) items ++ word ∷ []
-pushed items more text word e same = ap (map (λ w. w.now)) e ∙ map-append (λ w. w.now) items (text ∷ []) ∙ ap (λ z. map (λ w. w.now) items ++ z ∷ []) same
-
 pub loop-rest-init : goal.loop-rest-init
 loop-rest-init c = record {
   short = c.requires.short;
   value = c.marks_of-marks.ensures;
-  cut = subst (λ done. IsCutPlainTo c.args.line.now done c.args.line.now) (ap (map (λ w. w.now)) (sym c.clear.ensures.items)) (plain_from_start c.args.line.now);
+  cut = subst (λ done. IsCutPlainTo c.args.line.now done c.args.line.now) (sym c.clear.ensures) (plain_from_start c.args.line.now);
 }
 
 pub returns-in-empty-clause-words : goal.returns-in-empty-clause-words
 returns-in-empty-clause-words c = λ _.
-    let done : List Word = map (λ w. w.now) c.loop-rest.words.items in
+    let done = c.loop-rest.words in
     plain_to_end c.args.line.now done (subst (IsCutPlainTo c.args.line.now done) (nil_from_length c.loop-rest.rest.now (omega arith)) c.loop-rest.invariant.cut)
 
 pub from_utf8_unchecked-requires : goal.from_utf8_unchecked-requires
@@ -39,10 +34,10 @@ returns-in-empty-behind-clause-words c = λ _.
     let line = c.args.line.now in
     let rest = c.loop-rest.rest.now in
     let word = c.split_at.result.0.now in
-    let done : List Word = map (λ w. w.now) c.loop-rest.words.items in
+    let done = c.loop-rest.words in
     let plain = word_at rest word c.loop-rest.marks c.min-end.result c.loop-rest.invariant.short c.loop-rest.invariant.value c.min-end.ensures c.split_at.ensures.front c.if-is_empty.ensures in
     let whole : rest ≡ word = c.split_at.ensures.by_index.0 ∙ ap (λ z. word ++ z) (nil_from_length c.split_at.result.1.now (omega arith)) ∙ append-nil word in
-    rw (pushed c.loop-rest.words.items c.push.new.self.items c.from_utf8_unchecked.result word c.in_ok-push-in_default.ensures.ok c.from_utf8_unchecked.ensures)
+    rw (c.in_ok-push-in_default.ensures.ok ∙ ap (λ z. done ++ z ∷ []) c.from_utf8_unchecked.ensures)
     (plain_last line done word (subst (IsCutPlainTo line done) whole c.loop-rest.invariant.cut) plain)
 
 pub loop-rest-preserved-in-len1-up : goal.loop-rest-preserved-in-len1-up
@@ -60,7 +55,7 @@ loop-rest-preserved c =
     let rest = c.loop-rest.rest.now in
     let word = c.split_at.result.0.now in
     let behind = c.split_at.result.1.now in
-    let done : List Word = map (λ w. w.now) c.loop-rest.words.items in
+    let done = c.loop-rest.words in
     let plain = word_at rest word c.loop-rest.marks c.min-end.result c.loop-rest.invariant.short c.loop-rest.invariant.value c.min-end.ensures c.split_at.ensures.front c.if-is_empty.ensures in
     record {
       short = omega (arith, length-behind_first behind);
@@ -69,6 +64,6 @@ loop-rest-preserved c =
           ∙ ap (λ z. marks (behind_first z)) (sym c.split_at.ensures.back);
       cut =
           subst (λ ws. IsCutPlainTo line ws (behind_first behind))
-          (sym (pushed c.loop-rest.words.items c.push.new.self.items c.from_utf8_unchecked.result word c.in_ok-push-in_default.ensures.ok c.from_utf8_unchecked.ensures))
+          (sym (c.in_ok-push-in_default.ensures.ok ∙ ap (λ z. done ++ z ∷ []) c.from_utf8_unchecked.ensures))
           (plain_behind_word line done word behind (subst (IsCutPlainTo line done) c.split_at.ensures.by_index.0 c.loop-rest.invariant.cut) plain c.in-len1-up-behind.len_at_least (sym c.if-is_blank-2.ensures));
     }

@@ -1,9 +1,8 @@
-use Rattle.std.proofs.Common.{◌≡◌, ℕ, ◌<◌, ◌≤◌, ◌==◌, Bor, true≢false, ◌++◌, List, map, [], ◌∷◌, length, sym, ap, subst, ◌∙◌, arith}
+use Rattle.std.proofs.Common.{◌≡◌, ◌<◌, ◌≤◌, ◌==◌, true≢false, [], length, sym, ap, subst, ◌∙◌, arith}
 use Rattle.std.proofs.lemmas.Bool.{eqb-true}
-use Rattle.std.proofs.lemmas.List.{map-append, nil_from_length}
+use Rattle.std.proofs.lemmas.List.{nil_from_length}
 use Rattle.cg_name.specs.Word.{is_blank}
 use Rattle.cg_text.specs.Cutting.{behind}
-use Rattle.cg_text.specs.Words.{Word}
 use Rattle.cg_text.proofs.Cuts.{IsCutTo, cut_from_start, cut_more, cut_to_end, cut_by_none}
 use Rattle.cg_text.proofs.FirstWord.{rest_is_shorter}
 use Rattle.cg_text.proofs.Lists.{behind_is_shorter}
@@ -13,8 +12,8 @@ pub loop-rest-init : goal.loop-rest-init
 loop-rest-init c = record {
   utf8 = c.behind_blanks-rest.utf8;
   cut =
-      subst (IsCutTo c.args.line.now (map (λ w. w.now) c.clear.new.self.items)) (sym c.behind_blanks-rest.ensures)
-      (subst (λ done. IsCutTo c.args.line.now done (behind is_blank c.args.line.now)) (ap (map (λ w. w.now)) (sym c.clear.ensures.items)) (cut_from_start c.args.line.now));
+      subst (IsCutTo c.args.line.now c.clear.new.self) (sym c.behind_blanks-rest.ensures)
+      (subst (λ done. IsCutTo c.args.line.now done (behind is_blank c.args.line.now)) (sym c.clear.ensures) (cut_from_start c.args.line.now));
 }
 
 pub returns-in_default-clause-syntax : goal.returns-in_default-clause-syntax
@@ -27,14 +26,12 @@ returns-in_default-clause-syntax c = λ _ ws h.
 pub loop-rest-preserved : goal.loop-rest-preserved
 loop-rest-preserved c =
     let line = c.args.line.now in
-    let texts : List (Bor (List ℕ)) → List Word = map (λ w. w.now) in
-    let more : texts c.push.new.self.items ≡ texts c.loop-rest.words.items ++ c.in-Some.word.now ∷ [] = ap texts c.in_ok-push.ensures.ok ∙ map-append (λ w. w.now) c.loop-rest.words.items (c.in-Some.word ∷ []) in
     record {
       utf8 = c.behind_blanks-rest-in-loop-rest.utf8;
       cut =
-          subst (IsCutTo line (texts c.push.new.self.items)) (sym c.behind_blanks-rest-in-loop-rest.ensures)
-          (subst (λ done. IsCutTo line done (behind is_blank c.in-Some.others.now)) (sym more)
-          (cut_more line (texts c.loop-rest.words.items) c.loop-rest.rest.now c.in-Some.word.now c.in-Some.others.now c.loop-rest.invariant.cut c.in-Some.ensures));
+          subst (IsCutTo line c.push.new.self) (sym c.behind_blanks-rest-in-loop-rest.ensures)
+          (subst (λ done. IsCutTo line done (behind is_blank c.in-Some.others.now)) (sym c.in_ok-push.ensures.ok)
+          (cut_more line c.loop-rest.words c.loop-rest.rest.now c.in-Some.word.now c.in-Some.others.now c.loop-rest.invariant.cut c.in-Some.ensures));
     }
 
 pub loop-rest-smaller : goal.loop-rest-smaller
@@ -46,6 +43,5 @@ loop-rest-smaller c =
 pub returns-clause-value : goal.returns-clause-value
 returns-clause-value c =
     let line = c.args.line.now in
-    let texts : List (Bor (List ℕ)) → List Word = map (λ w. w.now) in
     let empty : length c.loop-rest.rest.now ≡ 0 = eqb-true (length c.loop-rest.rest.now) 0 (sym c.is_empty.ensures ∙ c.loop-rest-test.false) in
-    cut_to_end line (texts c.loop-rest.words.items) (subst (IsCutTo line (texts c.loop-rest.words.items)) (nil_from_length c.loop-rest.rest.now empty) c.loop-rest.invariant.cut)
+    cut_to_end line c.loop-rest.words (subst (IsCutTo line c.loop-rest.words) (nil_from_length c.loop-rest.rest.now empty) c.loop-rest.invariant.cut)

@@ -1,4 +1,4 @@
-use Rattle.std.proofs.Common.{◌≡◌, ◌≤◌, Bool, not, List, length, map, ap, sym, subst, ◌∙◌, arith}
+use Rattle.std.proofs.Common.{◌≡◌, ◌≤◌, Bool, not, List, length, ap, sym, subst, ◌∙◌, arith}
 use Rattle.std.specs.Str.{IsUtf8}
 use Rattle.std.specs.Str.Lines.{strip_carriage_return}
 use Rattle.cg_text.specs.Cutting.{say_something}
@@ -20,10 +20,10 @@ is_cut line stripped ws says short e h told =
 
 pub returns-then-branch-clause-words : goal.returns-then-branch-clause-words
 returns-then-branch-clause-words c = λ says.
-    let cut = is_cut c.args.line.now c.without_carriage_return-line.result.now (map (λ w. w.now) c.cut_plain.new.words.items) c.say_something.result (omega arith) c.without_carriage_return-line.ensures (c.in_ok-cut_plain.ensures.words c.if-branch.true) (c.say_something.ensures ∙ ap (λ ws. say_something (map (λ w. w.now) ws)) c.deref.ensures) in
+    let cut = is_cut c.args.line.now c.without_carriage_return-line.result.now c.cut_plain.new.words c.say_something.result (omega arith) c.without_carriage_return-line.ensures (c.in_ok-cut_plain.ensures.words c.if-branch.true) (c.say_something.ensures ∙ ap say_something c.as_slice.ensures) in
     (cut.is_line, cut.silent ∙ ap not says, cut.words)
 
 pub returns-then-branch-clause-silent : goal.returns-then-branch-clause-silent
 returns-then-branch-clause-silent c = λ says.
-    let cut = is_cut c.args.line.now c.without_carriage_return-line.result.now (map (λ w. w.now) c.cut_plain.new.words.items) c.say_something.result (omega arith) c.without_carriage_return-line.ensures (c.in_ok-cut_plain.ensures.words c.if-branch.true) (c.say_something.ensures ∙ ap (λ ws. say_something (map (λ w. w.now) ws)) c.deref.ensures) in
+    let cut = is_cut c.args.line.now c.without_carriage_return-line.result.now c.cut_plain.new.words c.say_something.result (omega arith) c.without_carriage_return-line.ensures (c.in_ok-cut_plain.ensures.words c.if-branch.true) (c.say_something.ensures ∙ ap say_something c.as_slice.ensures) in
     (cut.is_line, cut.silent ∙ ap not says)
