@@ -407,6 +407,11 @@ fn end_line(answer: &Answer, out: &mut Vec<u8>) -> Result<(), AllocError>
     ensures ok { OnOk result (out.new.items ≡ out.old.items ++ (answer_text (answer_of answer.now) ++ newline)) }
     ensures err { OnErr result (out.new.items ≡ out.old.items) }
 {
+    // Most answers are this one, which is appended in one step.
+    if let Answer::Done = answer {
+        out.extend_from_slice(b"done\n")?;
+        return Ok(());
+    }
     let start = out.len();
     let written = append_line(answer, out);
     or_truncate(written, start, out)
