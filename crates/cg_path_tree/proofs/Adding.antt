@@ -7,10 +7,10 @@ use Rattle.cg_name.specs.Path.{Path, path_cmp, is_root, is_parent}
 use Rattle.cg_path_tree.specs.declared.node.Node.{Node}
 use Rattle.cg_path_tree.specs.declared.node.NodeKey.{NodeKey}
 use Rattle.cg_path_tree.specs.Nodes.{Nodes, parent_path, HasParent, IsKey}
-use Rattle.cg_path_tree.specs.Linked.{NodeView, paths_of, children_in, node_in, kin_of, kin_in, value_of, values_at, HavePaths, Writes, AreKin, IsNodeAt, IsTree, IsLinked, seen}
+use Rattle.cg_path_tree.specs.Chains.{path_hash}
+use Rattle.cg_path_tree.specs.Linked.{NodeView, children_in, node_in, kin_of, kin_in, value_of, values_at, Writes, AreKin, IsNodeAt, IsTree, IsLinked, seen}
 use Rattle.cg_path_tree.proofs.ListChanges.{same_some, some_not_none}
 use Rattle.cg_path_tree.proofs.Finding.{find-push}
-use Rattle.cg_path_tree.proofs.Indexed.{length-by_paths}
 use Rattle.cg_path_tree.proofs.Parents.{parent_is, not_root, no_child, root_no_child, below_parent, length-parent, count-push, count_none}
 use Rattle.cg_path_tree.proofs.Linking.{has_nodes, node_found, still_found, tree-push, tree-write, tree-recount, values-write, keys-changed, values-changed}
 use Rattle.cg_path_tree.proofs.Kinship.{kin-root, kin-below}
@@ -24,40 +24,40 @@ given : {A : Type 0} (o : Option A) (d : A) → IsSome o → o ≡ Some (unwrap_
 given None d h = absurd (true≢false (sym h))
 given (Some x) d h = refl
 
-module _ {V : Type 0} (es fs : List (List ℕ × NodeKey)) (nodes : slab.Slab (Node V)) (l : IsLinked es nodes) (g : Nodes V) (is : seen es nodes ≡ g) (p : Path) (k : NodeKey) (m : NodeView V) (absent : get g.keys p ≡ None) (below : HasParent g.keys p)
-    (entered : paths_of fs ≡ paths_of es ++ (p, k) ∷ []) (packed : HavePaths fs) (grown put : slab.Slab (Node V)) (kept : (i : NodeKey) → node_in grown i ≡ node_in nodes i) (vacant : node_in nodes k ≡ None) (up : Writes grown put k (Some m))
-    (entry : m.entry ≡ length es) (depth : m.depth ≡ length p) (childless : m.children ≡ []) (parent : Option NodeKey) (root : is_root p ≡ true → parent ≡ None) (value : is_root p ≡ false → parent ≡ get g.keys (parent_path p)) (own : m.parent ≡ unwrap_or parent k)
+module _ {V : Type 0} (es fs : List (Path × NodeKey)) (nodes : slab.Slab (Node V)) (l : IsLinked es nodes) (g : Nodes V) (is : seen es nodes ≡ g) (p : Path) (k : NodeKey) (m : NodeView V) (absent : get g.keys p ≡ None) (below : HasParent g.keys p)
+    (entered : fs ≡ es ++ (p, k) ∷ []) (grown put : slab.Slab (Node V)) (kept : (i : NodeKey) → node_in grown i ≡ node_in nodes i) (vacant : node_in nodes k ≡ None) (up : Writes grown put k (Some m))
+    (owned : m.own ≡ (p, path_hash p)) (entry : m.entry ≡ length es) (depth : m.depth ≡ length p) (childless : m.children ≡ []) (parent : Option NodeKey) (root : is_root p ≡ true → parent ≡ None) (value : is_root p ≡ false → parent ≡ get g.keys (parent_path p)) (own : m.parent ≡ unwrap_or parent k)
     (place : (kp : NodeKey) (n : NodeView V) → parent ≡ Some kp → node_in nodes kp ≡ Some n → m.place ≡ length n.children) (low : m.place < 4294967295) where
   others : (i : NodeKey) → i ≢ k → node_in put i ≡ node_in nodes i
   others i ne = up.others i ne ∙ kept i
 
-  not_found : find path_cmp p (paths_of es) ≡ None
+  not_found : find path_cmp p es ≡ None
   not_found = found_is es nodes l g is p ∙ absent
 
   -- nothing lies below a path that isn't there
-  no_children : children_in (paths_of es) p ≡ 0
-  no_children = count_none (λ (e : Path × NodeKey). is_parent p e.0) (paths_of es) (λ j e h.
+  no_children : children_in es p ≡ 0
+  no_children = count_none (λ (e : Path × NodeKey). is_parent p e.0) es (λ j e h.
       let x = l.tree.node_of j e h in
       by e x.0 x.2 (is_parent p e.0) refl)
     where
-      by : (e : Path × NodeKey) (n : NodeView V) {j : ℕ} → IsNodeAt (children_in (paths_of es)) (paths_of es) j e.0 n → (b : Bool) → is_parent p e.0 ≡ b → b ≡ false
+      by : (e : Path × NodeKey) (n : NodeView V) {j : ℕ} → IsNodeAt (children_in es) es j e.0 n → (b : Bool) → is_parent p e.0 ≡ b → b ≡ false
       by e n at true t =
-          absurd (some_not_none n.parent (find path_cmp p (paths_of es)) (ap (λ q. find path_cmp q (paths_of es)) (parent_is p e.0 t) ∙ at.parent (not_root p e.0 t)) not_found)
+          absurd (some_not_none n.parent (find path_cmp p es) (ap (λ q. find path_cmp q es) (parent_is p e.0 t) ∙ at.parent (not_root p e.0 t)) not_found)
       by e n at false t = refl
 
   parent_some : is_root p ≡ false → parent ≡ Some m.parent
   parent_some r = given parent k (subst IsSome (sym (value r)) (below r)) ∙ ap Some (sym own)
 
-  parent_found : is_root p ≡ false → find path_cmp (parent_path p) (paths_of es) ≡ Some m.parent
+  parent_found : is_root p ≡ false → find path_cmp (parent_path p) es ≡ Some m.parent
   parent_found r = found_is es nodes l g is (parent_path p) ∙ sym (value r) ∙ parent_some r
 
-  pushed : IsTree (children_in (paths_of es)) (paths_of es ++ (p, k) ∷ []) (node_in put)
+  pushed : IsTree (children_in es) (es ++ (p, k) ∷ []) (node_in put)
   pushed =
-      tree-push (children_in (paths_of es)) (paths_of es) (node_in nodes) (node_in put) p k m l.tree not_found vacant up.changed others
-      (entry ∙ sym (length-by_paths (λ s. s) es)) depth (ap length childless ∙ sym no_children) parent_found
+      tree-push (children_in es) es (node_in nodes) (node_in put) p k m l.tree not_found vacant up.changed others
+      owned entry depth (ap length childless ∙ sym no_children) parent_found
 
-  counted : (q : Path) → children_in (paths_of es ++ (p, k) ∷ []) q ≡ children_in (paths_of es) q + cond (is_parent q p) 1 0
-  counted q = count-push (λ (e : Path × NodeKey). is_parent q e.0) (paths_of es) (p, k)
+  counted : (q : Path) → children_in (es ++ (p, k) ∷ []) q ≡ children_in es q + cond (is_parent q p) 1 0
+  counted q = count-push (λ (e : Path × NodeKey). is_parent q e.0) es (p, k)
 
   not_the_root : (kp : NodeKey) → parent ≡ Some kp → is_root p ≡ false
   not_the_root kp e = by (is_root p) refl
@@ -66,39 +66,39 @@ module _ {V : Type 0} (es fs : List (List ℕ × NodeKey)) (nodes : slab.Slab (N
       by true r = absurd (some_not_none kp parent e (root r))
       by false r = refl
 
-  parent_before : (kp : NodeKey) → parent ≡ Some kp → find path_cmp (parent_path p) (paths_of es) ≡ Some kp
+  parent_before : (kp : NodeKey) → parent ≡ Some kp → find path_cmp (parent_path p) es ≡ Some kp
   parent_before kp e = found_is es nodes l g is (parent_path p) ∙ sym (value (not_the_root kp e)) ∙ e
 
   pub is_new : (kp : NodeKey) → parent ≡ Some kp → kp ≢ k
-  is_new kp e = (still_found (children_in (paths_of es)) (paths_of es) (node_in nodes) (node_in put) p k m l.tree not_found vacant up.changed others (parent_path p) kp (parent_before kp e)).1
+  is_new kp e = (still_found (children_in es) es (node_in nodes) (node_in put) p k m l.tree not_found vacant up.changed others (parent_path p) kp (parent_before kp e)).1
 
-  parent_after : (kp : NodeKey) → parent ≡ Some kp → find path_cmp (parent_path p) (paths_of es ++ (p, k) ∷ []) ≡ Some kp
+  parent_after : (kp : NodeKey) → parent ≡ Some kp → find path_cmp (parent_path p) (es ++ (p, k) ∷ []) ≡ Some kp
   parent_after kp e =
-      (still_found (children_in (paths_of es)) (paths_of es) (node_in nodes) (node_in put) p k m l.tree not_found vacant up.changed others (parent_path p) kp
+      (still_found (children_in es) es (node_in nodes) (node_in put) p k m l.tree not_found vacant up.changed others (parent_path p) kp
       (found_is es nodes l g is (parent_path p) ∙ sym (value (not_the_root kp e)) ∙ e)).0
 
   pub parent_node : (kp : NodeKey) → parent ≡ Some kp → IsSome (node_in put kp)
   parent_node kp e =
-      let x = node_found (children_in (paths_of es)) (paths_of es ++ (p, k) ∷ []) (node_in put) pushed (parent_path p) kp (parent_after kp e) in
+      let x = node_found (children_in es) (es ++ (p, k) ∷ []) (node_in put) pushed (parent_path p) kp (parent_after kp e) in
       ap is_some x.3
 
   module _ (later : slab.Slab (Node V)) (none : parent ≡ None → later ≡ put)
       (some : (kp : NodeKey) (n : NodeView V) → parent ≡ Some kp → node_in put kp ≡ Some n → Writes put later kp (Some (record n { children = n.children ++ k ∷ [] }))) where
     -- a tree, and the values as they were put
     pub record IsAdded : Type 0 where
-      pub tree : IsTree (children_in (paths_of es ++ (p, k) ∷ [])) (paths_of es ++ (p, k) ∷ []) (node_in later)
-      pub kin : AreKin (paths_of es ++ (p, k) ∷ []) (kin_in later)
+      pub tree : IsTree (children_in (es ++ (p, k) ∷ [])) (es ++ (p, k) ∷ []) (node_in later)
+      pub kin : AreKin (es ++ (p, k) ∷ []) (kin_in later)
       pub values : (i : NodeKey) → value_of (node_in later i) ≡ value_of (node_in put i)
 
     is_added : (o : Option NodeKey) → parent ≡ o → IsAdded
     is_added None e =
         let r : is_root p ≡ true = at_root (is_root p) refl in
-        let same : (q : Path) → children_in (paths_of es ++ (p, k) ∷ []) q ≡ children_in (paths_of es) q = λ q.
-        counted q ∙ ap (λ b. children_in (paths_of es) q + cond b 1 0) (root_no_child q p r) ∙ add-zero (children_in (paths_of es) q) in
+        let same : (q : Path) → children_in (es ++ (p, k) ∷ []) q ≡ children_in es q = λ q.
+        counted q ∙ ap (λ b. children_in es q + cond b 1 0) (root_no_child q p r) ∙ add-zero (children_in es q) in
         record {
-          tree = subst (λ s. IsTree (children_in (paths_of es ++ (p, k) ∷ [])) (paths_of es ++ (p, k) ∷ []) (node_in s)) (sym (none e))
-              (tree-recount (children_in (paths_of es)) (children_in (paths_of es ++ (p, k) ∷ [])) (paths_of es ++ (p, k) ∷ []) (node_in put) pushed same);
-          kin = kin-root (paths_of es) (kin_in nodes) l.kin (kin_in later) p k (kin_of m) (ap (option_map kin_of) vacant) not_found childless
+          tree = subst (λ s. IsTree (children_in (es ++ (p, k) ∷ [])) (es ++ (p, k) ∷ []) (node_in s)) (sym (none e))
+              (tree-recount (children_in es) (children_in (es ++ (p, k) ∷ [])) (es ++ (p, k) ∷ []) (node_in put) pushed same);
+          kin = kin-root es (kin_in nodes) l.kin (kin_in later) p k (kin_of m) (ap (option_map kin_of) vacant) not_found childless
               (ap (λ s. kin_in s k) (none e) ∙ ap (option_map kin_of) up.changed)
               (λ i ne. ap (λ s. kin_in s i) (none e) ∙ ap (option_map kin_of) (others i ne)) (depth ∙ no_names p r);
           values = λ i. ap (λ s. value_of (node_in s i)) (none e);
@@ -108,20 +108,20 @@ module _ {V : Type 0} (es fs : List (List ℕ × NodeKey)) (nodes : slab.Slab (N
         at_root true r = r
         at_root false r = absurd (some_not_none m.parent parent (parent_some r) e)
     is_added (Some kp) e =
-        let x = node_found (children_in (paths_of es)) (paths_of es ++ (p, k) ∷ []) (node_in put) pushed (parent_path p) kp (parent_after kp e) in
+        let x = node_found (children_in es) (es ++ (p, k) ∷ []) (node_in put) pushed (parent_path p) kp (parent_after kp e) in
         let n : NodeView V = x.1 in
         let up' = some kp n e x.3 in
         let r = not_the_root kp e in
         let apart : (i : NodeKey) → i ≢ kp → node_in later i ≡ node_in put i = λ i ne. up'.others i ne in
         let new : kp ≢ k = is_new kp e in
         let before : node_in nodes kp ≡ Some n = sym (others kp new) ∙ x.3 in
-        let here : length (n.children ++ k ∷ []) ≡ children_in (paths_of es ++ (p, k) ∷ []) (parent_path p) =
-        length-append n.children (k ∷ []) ∙ ap (λ c. c + 1) x.4.children ∙ sym (counted (parent_path p) ∙ ap (λ b. children_in (paths_of es) (parent_path p) + cond b 1 0) (below_parent p r)) in
+        let here : length (n.children ++ k ∷ []) ≡ children_in (es ++ (p, k) ∷ []) (parent_path p) =
+        length-append n.children (k ∷ []) ∙ ap (λ c. c + 1) x.4.children ∙ sym (counted (parent_path p) ∙ ap (λ b. children_in es (parent_path p) + cond b 1 0) (below_parent p r)) in
         record {
-          tree = tree-write (node_in put) (node_in later) kp n (record n { children = n.children ++ k ∷ [] }) x.3 up'.changed apart (children_in (paths_of es)) (children_in (paths_of es ++ (p, k) ∷ [])) (paths_of es ++ (p, k) ∷ [])
-              (parent_path p) pushed (parent_after kp e) refl refl refl here
-              (λ q ne. counted q ∙ ap (λ b. children_in (paths_of es) q + cond b 1 0) (no_child q p ne) ∙ add-zero (children_in (paths_of es) q));
-          kin = kin-below (paths_of es) (kin_in nodes) l.kin (kin_in later) p k (kin_of m) (ap (option_map kin_of) vacant) not_found childless
+          tree = tree-write (node_in put) (node_in later) kp n (record n { children = n.children ++ k ∷ [] }) x.3 up'.changed apart (children_in es) (children_in (es ++ (p, k) ∷ [])) (es ++ (p, k) ∷ [])
+              (parent_path p) pushed (parent_after kp e) refl refl refl refl here
+              (λ q ne. counted q ∙ ap (λ b. children_in es q + cond b 1 0) (no_child q p ne) ∙ add-zero (children_in es q));
+          kin = kin-below es (kin_in nodes) l.kin (kin_in later) p k (kin_of m) (ap (option_map kin_of) vacant) not_found childless
               (ap (option_map kin_of) (apart k (λ same. new (sym same)) ∙ up.changed)) kp (kin_of n) (ap (option_map kin_of) before) (ap (option_map kin_of) up'.changed)
               (λ i old ne. ap (option_map kin_of) (apart i ne ∙ others i old)) (same_some m.parent kp (sym (parent_some r) ∙ e))
               (depth ∙ sym (length-parent p r) ∙ ap suc (sym x.4.depth)) (place kp n e before) (omega (arith, place kp n e before));
@@ -133,59 +133,56 @@ module _ {V : Type 0} (es fs : List (List ℕ × NodeKey)) (nodes : slab.Slab (N
 
     longer : length fs ≡ length es + 1
     longer =
-        sym (length-by_paths (λ k. k) fs) ∙ ap length entered ∙ length-append (paths_of es) ((p, k) ∷ [])
-        ∙ ap (λ n. n + 1) (length-by_paths (λ k. k) es)
+        ap length entered ∙ length-append es ((p, k) ∷ [])
 
     pub linked-added : length es < 4294967295 → IsLinked fs later
     linked-added few = record {
-      packed = packed;
       tree = subst (λ xs. IsTree (children_in xs) xs (node_in later)) (sym entered) added.tree;
       kin = subst (λ xs. AreKin xs (kin_in later)) (sym entered) added.kin;
       few = omega (arith, longer);
     }
 
-    pub keys-added : from_entries path_cmp (paths_of fs) ≡ set_at g.keys p (Some k)
+    pub keys-added : from_entries path_cmp fs ≡ set_at g.keys p (Some k)
     keys-added =
         ap (from_entries path_cmp) entered
-        ∙ keys-changed (paths_of es) (paths_of es ++ (p, k) ∷ []) (node_in nodes) (node_in later) p (Some k) (Some m.value)
-        (has_nodes (paths_of es) (node_in nodes) (children_in (paths_of es)) l.tree)
-        (has_nodes (paths_of es ++ (p, k) ∷ []) (node_in later) (children_in (paths_of es ++ (p, k) ∷ [])) added.tree)
-        (find-push (paths_of es) p k not_found)
+        ∙ keys-changed es (es ++ (p, k) ∷ []) (node_in nodes) (node_in later) p (Some k) (Some m.value)
+        (has_nodes es (node_in nodes) (children_in es) l.tree)
+        (has_nodes (es ++ (p, k) ∷ []) (node_in later) (children_in (es ++ (p, k) ∷ [])) added.tree)
+        (find-push es p k not_found)
         ∙ ap (λ v. set_at v.keys p (Some k)) is
 
-    pub values-added : from_entries path_cmp (values_at (node_in later) (paths_of fs)) ≡ set_at g.values p (Some m.value)
+    pub values-added : from_entries path_cmp (values_at (node_in later) fs) ≡ set_at g.values p (Some m.value)
     values-added =
         ap (λ xs. from_entries path_cmp (values_at (node_in later) xs)) entered
-        ∙ values-changed (paths_of es) (paths_of es ++ (p, k) ∷ []) (node_in nodes) (node_in later) p (Some k) (Some m.value)
-        (has_nodes (paths_of es) (node_in nodes) (children_in (paths_of es)) l.tree)
-        (has_nodes (paths_of es ++ (p, k) ∷ []) (node_in later) (children_in (paths_of es ++ (p, k) ∷ [])) added.tree)
-        (find-push (paths_of es) p k not_found)
+        ∙ values-changed es (es ++ (p, k) ∷ []) (node_in nodes) (node_in later) p (Some k) (Some m.value)
+        (has_nodes es (node_in nodes) (children_in es) l.tree)
+        (has_nodes (es ++ (p, k) ∷ []) (node_in later) (children_in (es ++ (p, k) ∷ [])) added.tree)
+        (find-push es p k not_found)
         (added.values k ∙ ap value_of up.changed)
         (λ q i ne found.
-        let apart = (still_found (children_in (paths_of es)) (paths_of es) (node_in nodes) (node_in put) p k m l.tree not_found vacant up.changed others q i found).1 in
+        let apart = (still_found (children_in es) es (node_in nodes) (node_in put) p k m l.tree not_found vacant up.changed others q i found).1 in
         added.values i ∙ ap value_of (others i apart))
         ∙ ap (λ v. set_at v.values p (Some m.value)) is
 
   -- the key was that of no node
   pub fresh : ¬ (IsKey g.keys k)
   fresh key =
-      let x = node_found (children_in (paths_of es)) (paths_of es) (node_in nodes) l.tree key.0 k (found_is es nodes l g is key.0 ∙ key.1) in
+      let x = node_found (children_in es) es (node_in nodes) l.tree key.0 k (found_is es nodes l g is key.0 ∙ key.1) in
       some_not_none x.1 (node_in nodes k) x.3 vacant
 
 -- nodes that are seen alike are the same tree
-module _ {V : Type 0} (es fs : List (List ℕ × NodeKey)) (nodes later : slab.Slab (Node V)) (l : IsLinked es nodes) (same : fs ≡ es) (alike : (i : NodeKey) → node_in later i ≡ node_in nodes i) where
+module _ {V : Type 0} (es fs : List (Path × NodeKey)) (nodes later : slab.Slab (Node V)) (l : IsLinked es nodes) (same : fs ≡ es) (alike : (i : NodeKey) → node_in later i ≡ node_in nodes i) where
   all_alike : node_in later ≡ node_in nodes
   all_alike = λ j i. alike i j
 
   pub linked-same : IsLinked fs later
   linked-same =
       let kept : IsLinked es later = record {
-        packed = l.packed;
-        tree = subst (λ f. IsTree (children_in (paths_of es)) (paths_of es) f) (sym all_alike) l.tree;
-        kin = subst (λ (f : NodeKey → Option (NodeView V)). AreKin (paths_of es) (λ i. option_map kin_of (f i))) (sym all_alike) l.kin;
+        tree = subst (λ f. IsTree (children_in es) es f) (sym all_alike) l.tree;
+        kin = subst (λ (f : NodeKey → Option (NodeView V)). AreKin es (λ i. option_map kin_of (f i))) (sym all_alike) l.kin;
         few = l.few;
       } in
       subst (λ xs. IsLinked xs later) (sym same) kept
 
   pub seen-same : seen fs later ≡ seen es nodes
-  seen-same = λ i. record { values = from_entries path_cmp (values_at (all_alike i) (paths_of (same i))); keys = from_entries path_cmp (paths_of (same i)) }
+  seen-same = λ i. record { values = from_entries path_cmp (values_at (all_alike i) (same i)); keys = from_entries path_cmp (same i) }

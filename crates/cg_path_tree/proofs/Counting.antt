@@ -7,7 +7,7 @@ use Rattle.cg_maps.proofs.Maps.{same_map, get-retain}
 use Rattle.cg_name.specs.Order.{path_cmp_total, path_cmp_exact}
 use Rattle.cg_name.specs.Path.{Path, path_cmp}
 use Rattle.cg_path_tree.proofs.Finding.{Once, once-rest, absent_by, standing_of}
-use Rattle.cg_path_tree.proofs.Indexed.{get_by_find}
+use Rattle.cg_path_tree.proofs.Finding.{get_by_find}
 use Rattle.cg_path_tree.proofs.Parents.{count-cons}
 
 len-empty : (X : Type 0) → len (empty {X = X} {R = path_cmp}) ≡ 0

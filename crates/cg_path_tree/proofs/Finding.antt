@@ -3,7 +3,8 @@ use Rattle.std.proofs.Common.{◌≡◌, ◌≢◌, ◌⊎◌, ℕ, zero, suc, B
 use Rattle.std.specs.List.{slice_get}
 use Rattle.std.specs.Ordering.{eq_by_cmp}
 use Rattle.std.specs.FinMap.Entries.{find, find-append}
-use Rattle.cg_maps.proofs.Maps.{here, is_same, apart, cases}
+use Rattle.cg_maps.specs.FiniteMap.{from_entries, get}
+use Rattle.cg_maps.proofs.Maps.{here, is_same, apart, cases, get-from_entries}
 use Rattle.cg_name.specs.Order.{path_cmp_total, path_cmp_exact}
 use Rattle.cg_name.specs.Path.{Path, path_cmp}
 use Rattle.cg_path_tree.proofs.ListChanges.{same_some, some_not_none, pushed_cases, LosesAt, left_cases, still_there}
@@ -16,6 +17,9 @@ itself = here path_cmp_total path_cmp_exact
 
 pub differs : (q p : Path) → q ≢ p → eq_by_cmp path_cmp q p ≡ false
 differs = apart path_cmp_total path_cmp_exact
+
+pub get_by_find : {X : Type 0} (es : List (Path × X)) (q : Path) → get (from_entries path_cmp es) q ≡ find path_cmp q es
+get_by_find es q = get-from_entries path_cmp_total path_cmp_exact es q
 
 module _ {X : Type 0} where
   -- no path stands twice

@@ -1,5 +1,5 @@
 -- What is remembered of the path that was looked up last stays so.
-use Rattle.std.proofs.Common.{◌≡◌, ◌≢◌, ℕ, List, length, true, false, Option, None, Some, refl, sym, ap, subst, ◌∙◌, inl, inr, arith}
+use Rattle.std.proofs.Common.{◌≡◌, ◌≢◌, List, length, true, false, Option, None, Some, refl, sym, ap, subst, ◌∙◌, inl, inr, arith}
 use Rattle.slab.specs.Slab as slab
 use Rattle.cg_maps.specs.FiniteMap.{FiniteMap, empty, from_entries, get, set_at}
 use Rattle.cg_maps.proofs.Maps.{get-empty, get_here, get_apart}
@@ -10,7 +10,7 @@ use Rattle.cg_path_tree.specs.declared.node.Node.{Node}
 use Rattle.cg_path_tree.specs.declared.node.NodeKey.{NodeKey}
 use Rattle.cg_path_tree.specs.LastFound.{IsTrueOf}
 use Rattle.cg_path_tree.specs.Nodes.{Nodes, parent_path, HaveOnePath}
-use Rattle.cg_path_tree.specs.Linked.{paths_of, seen}
+use Rattle.cg_path_tree.specs.Linked.{seen}
 use Rattle.cg_path_tree.proofs.Finding.{tell}
 use Rattle.cg_path_tree.proofs.Parents.{length-parent}
 
@@ -18,12 +18,12 @@ pub true_of_none : (p : Path) → IsTrueOf empty (record { path = p; node = None
 true_of_none p = record { node = sym (get-empty path_cmp p); root = λ r. refl; parent = λ r. sym (get-empty path_cmp (parent_path p)) }
 
 -- of the tree that is seen
-pub true_of_seen : {V : Type 0} (es : List (List ℕ × NodeKey)) (nodes : slab.Slab (Node V)) (g : Nodes V) (l : LastFound) → seen es nodes ≡ g → IsTrueOf (from_entries path_cmp (paths_of es)) l → IsTrueOf g.keys l
+pub true_of_seen : {V : Type 0} (es : List (Path × NodeKey)) (nodes : slab.Slab (Node V)) (g : Nodes V) (l : LastFound) → seen es nodes ≡ g → IsTrueOf (from_entries path_cmp es) l → IsTrueOf g.keys l
 true_of_seen {V = V} es nodes g l is = subst (λ (v : Nodes V). IsTrueOf v.keys l) is
 
 -- what is known of a path that has no node
-pub true_of_absent : {V : Type 0} (es : List (List ℕ × NodeKey)) (nodes : slab.Slab (Node V)) (g : Nodes V) (p : Path) (parent : Option NodeKey) → seen es nodes ≡ g → get g.keys p ≡ None → (is_root p ≡ true → parent ≡ None)
-    → (is_root p ≡ false → parent ≡ get g.keys (parent_path p)) → IsTrueOf (from_entries path_cmp (paths_of es)) (record { path = p; node = None; parent = parent })
+pub true_of_absent : {V : Type 0} (es : List (Path × NodeKey)) (nodes : slab.Slab (Node V)) (g : Nodes V) (p : Path) (parent : Option NodeKey) → seen es nodes ≡ g → get g.keys p ≡ None → (is_root p ≡ true → parent ≡ None)
+    → (is_root p ≡ false → parent ≡ get g.keys (parent_path p)) → IsTrueOf (from_entries path_cmp es) (record { path = p; node = None; parent = parent })
 true_of_absent {V = V} es nodes g p parent is absent root value =
     subst (λ (v : Nodes V). IsTrueOf v.keys (record { path = p; node = None; parent = parent })) (sym is) (record { node = sym absent; root = root; parent = value })
 

@@ -1,8 +1,10 @@
 pub mod Adding
+pub mod Chaining
 pub mod Changing
+pub mod Coming
 pub mod Counting
 pub mod Finding
-pub mod Indexed
+pub mod Going
 pub mod Kinship
 pub mod LastFound
 pub mod LastName
@@ -10,10 +12,13 @@ pub mod Leading
 pub mod Linking
 pub mod ListChanges
 pub mod Listing
+pub mod Ordered
 pub mod Parents
 pub mod PathEntries
 pub mod Prefixes
 pub mod Removing
+pub mod Searching
 pub mod Seen
 pub mod Texts
+pub mod Unchaining
 pub mod Views

@@ -1,19 +1,19 @@
 -- The nodes of a tree and what is seen of it, as it grows and shrinks.
-use Rattle.std.proofs.Common.{◌≡◌, ◌≢◌, ◌⊎◌, ℕ, suc, Bool, true, false, cond, List, [], ◌∷◌, ◌++◌, length, Option, None, Some, refl, sym, ap, subst, ◌∙◌, inl, inr, arith}
+use Rattle.std.proofs.Common.{◌≡◌, ◌≢◌, ◌⊎◌, ℕ, suc, Bool, true, false, cond, List, [], ◌∷◌, ◌++◌, length, Option, None, Some, refl, sym, ap, subst, ◌∙◌, inl, inr, arith, eqb, eq-eqb, true≢false}
 use Rattle.std.specs.List.{slice_get}
 use Rattle.std.specs.Ordering.{eq_by_cmp}
 use Rattle.std.specs.FinMap.Entries.{find}
-use Rattle.std.proofs.lemmas.Bool.{cases_eq}
+use Rattle.std.proofs.lemmas.Bool.{cases_eq, eqb-true}
 use Rattle.cg_maps.specs.FiniteMap.{from_entries, get, set_at}
 use Rattle.cg_maps.proofs.Maps.{same_map, get-set_at}
 use Rattle.cg_name.specs.Order.{path_cmp_total, path_cmp_exact}
 use Rattle.cg_name.specs.Path.{Path, path_cmp, is_root, is_parent}
 use Rattle.cg_path_tree.specs.declared.node.NodeKey.{NodeKey}
 use Rattle.cg_path_tree.specs.Nodes.{parent_path}
+use Rattle.cg_path_tree.specs.Chains.{path_hash}
 use Rattle.cg_path_tree.specs.Linked.{NodeView, value_of, valued, values_at, IsNodeAt, IsTree}
 use Rattle.cg_path_tree.proofs.ListChanges.{same_some, some_not_none, pushed_cases, LosesAt, left_cases}
-use Rattle.cg_path_tree.proofs.Finding.{tell, itself, differs, found_at, standing_of, find-push, once-push, find-lose, once-lose}
-use Rattle.cg_path_tree.proofs.Indexed.{get_by_find}
+use Rattle.cg_path_tree.proofs.Finding.{get_by_find, tell, itself, differs, found_at, standing_of, find-push, once-push, find-lose, once-lose}
 use Rattle.cg_path_tree.proofs.Parents.{below_parent}
 
 -- keys are told apart
@@ -22,6 +22,12 @@ cases_key k l = elim (cases_eq k.0 l.0) [
   | inl same ↦ inl (λ i. record { 0 = same i })
   | inr apart ↦ inr (λ same. apart (ap (λ (x : NodeKey). x.0) same))
 ]
+
+pub same_key : (k l : NodeKey) (b : Bool) → b ≡ eqb k.0 l.0 → b ≡ true → k ≡ l
+same_key k l b is h = λ i. record { 0 = eqb-true k.0 l.0 (sym is ∙ h) i }
+
+pub other_key : (k l : NodeKey) (b : Bool) → b ≡ eqb k.0 l.0 → b ≡ false → k ≢ l
+other_key k l b is h same = true≢false (sym (eq-eqb k.0 l.0 (ap (λ (x : NodeKey). x.0) same)) ∙ sym is ∙ h)
 
 module _ {V : Type 0} where
   -- the value of the node that was found
@@ -118,9 +124,9 @@ module _ {V : Type 0} where
 
   module _ (node later : NodeKey → Option (NodeView V)) (k : NodeKey) (n m : NodeView V) (at : node k ≡ Some n) (changed : later k ≡ Some m) (others : (i : NodeKey) → i ≢ k → later i ≡ node i) where
     -- the counts may change at the path of that node alone
-    pub tree-write : (count counts : Path → ℕ) (es : List (Path × NodeKey)) (p : Path) → IsTree count es node → find path_cmp p es ≡ Some k → m.entry ≡ n.entry → m.depth ≡ n.depth → m.parent ≡ n.parent → length m.children ≡ counts p
+    pub tree-write : (count counts : Path → ℕ) (es : List (Path × NodeKey)) (p : Path) → IsTree count es node → find path_cmp p es ≡ Some k → m.own ≡ n.own → m.entry ≡ n.entry → m.depth ≡ n.depth → m.parent ≡ n.parent → length m.children ≡ counts p
         → ((q : Path) → q ≢ p → counts q ≡ count q) → IsTree counts es later
-    tree-write count counts es p t there entry depth parent children same = record {
+    tree-write count counts es p t there owned entry depth parent children same = record {
       once = t.once;
       node_of = λ j e h.
           let x = t.node_of j e h in
@@ -132,6 +138,7 @@ module _ {V : Type 0} where
                   m,
                   ap later is ∙ changed,
                   record {
+                    own = owned ∙ ap (λ (z : NodeView V). z.own) own ∙ x.2.own;
                     entry = entry ∙ ap (λ (z : NodeView V). z.entry) own ∙ x.2.entry;
                     depth = depth ∙ ap (λ (z : NodeView V). z.depth) own ∙ x.2.depth;
                     children = children ∙ ap counts (sym path);
@@ -142,7 +149,7 @@ module _ {V : Type 0} where
                 let apart : e.0 ≢ p = λ path. ne (same_some e.1 k (sym found ∙ ap (λ q. find path_cmp q es) path ∙ there)) in (
                   x.0,
                   others e.1 ne ∙ x.1,
-                  record { entry = x.2.entry; depth = x.2.depth; children = x.2.children ∙ sym (same e.0 apart); parent = x.2.parent },
+                  record { own = x.2.own; entry = x.2.entry; depth = x.2.depth; children = x.2.children ∙ sym (same e.0 apart); parent = x.2.parent },
                 )
           ];
     }
@@ -160,20 +167,20 @@ module _ {V : Type 0} where
     once = t.once;
     node_of = λ j e h.
         let x = t.node_of j e h in
-        (x.0, x.1, record { entry = x.2.entry; depth = x.2.depth; children = x.2.children ∙ sym (same e.0); parent = x.2.parent });
+        (x.0, x.1, record { own = x.2.own; entry = x.2.entry; depth = x.2.depth; children = x.2.children ∙ sym (same e.0); parent = x.2.parent });
   }
 
-  -- each node that is there is there, and says the same but for its children
+  -- each node that is there is there, and says the same but for its place and its children
   pub tree-over : (count counts : Path → ℕ) (es : List (Path × NodeKey)) (node later : NodeKey → Option (NodeView V)) → IsTree count es node
       → ((p : Path) (k : NodeKey) (n : NodeView V) → find path_cmp p es ≡ Some k → node k ≡ Some n → length n.children ≡ count p
-      → (m : NodeView V) × (later k ≡ Some m) × (m.entry ≡ n.entry) × (m.depth ≡ n.depth) × (m.parent ≡ n.parent) × (length m.children ≡ counts p))
+      → (m : NodeView V) × (later k ≡ Some m) × (m.own ≡ n.own) × (m.entry ≡ n.entry) × (m.depth ≡ n.depth) × (m.parent ≡ n.parent) × (length m.children ≡ counts p))
       → IsTree counts es later
   tree-over count counts es node later t over = record {
     once = t.once;
     node_of = λ j e h.
         let x = t.node_of j e h in
         let y = over e.0 e.1 x.0 (found_at es t.once j e h) x.1 x.2.children in
-        (y.0, y.1, record { entry = y.2 ∙ x.2.entry; depth = y.3 ∙ x.2.depth; children = y.5; parent = λ r. x.2.parent r ∙ ap Some (sym y.4) });
+        (y.0, y.1, record { own = y.2 ∙ x.2.own; entry = y.3 ∙ x.2.entry; depth = y.4 ∙ x.2.depth; children = y.6; parent = λ r. x.2.parent r ∙ ap Some (sym y.5) });
   }
 
   -- ---- a new node
@@ -189,8 +196,8 @@ module _ {V : Type 0} where
           λ same. some_not_none x.1 (node i) x.3 (ap node same ∙ vacant),
         )
 
-    pub tree-push : m.entry ≡ length es → m.depth ≡ length p → length m.children ≡ count p → (is_root p ≡ false → find path_cmp (parent_path p) es ≡ Some m.parent) → IsTree count (es ++ (p, k) ∷ []) later
-    tree-push entry depth children parent = record {
+    pub tree-push : m.own ≡ (p, path_hash p) → m.entry ≡ length es → m.depth ≡ length p → length m.children ≡ count p → (is_root p ≡ false → find path_cmp (parent_path p) es ≡ Some m.parent) → IsTree count (es ++ (p, k) ∷ []) later
+    tree-push owned entry depth children parent = record {
       once = once-push es p k absent t.once;
       node_of = λ j e h.
           elim (pushed_cases es (p, k) j e h) [
@@ -199,12 +206,13 @@ module _ {V : Type 0} where
                 let other : e.1 ≢ k = (still_found e.0 e.1 (found_at es t.once j e old)).1 in (
                   x.0,
                   others e.1 other ∙ x.1,
-                  record { entry = x.2.entry; depth = x.2.depth; children = x.2.children; parent = λ r. (still_found (parent_path e.0) x.0.parent (x.2.parent r)).0 },
+                  record { own = x.2.own; entry = x.2.entry; depth = x.2.depth; children = x.2.children; parent = λ r. (still_found (parent_path e.0) x.0.parent (x.2.parent r)).0 },
                 )
             | inr new ↦ (
               m,
               ap (λ (f : Path × NodeKey). later f.1) (sym new.1) ∙ changed,
               record {
+                own = owned ∙ ap (λ (f : Path × NodeKey). (f.0, path_hash f.0)) new.1;
                 entry = entry ∙ sym new.0;
                 depth = depth ∙ ap (λ (f : Path × NodeKey). length f.0) new.1;
                 children = children ∙ ap (λ (f : Path × NodeKey). count f.0) new.1;
@@ -234,7 +242,7 @@ module _ {V : Type 0} where
         some_not_none e.1 (find path_cmp e.0 es) (found_at es t.once j e h) (leaf e.0 (ap (λ q. is_parent q e.0) (sym same) ∙ below_parent e.0 r))
 
     pub tree-lose : ((q : Path) → is_parent p q ≡ true → find path_cmp q es ≡ None)
-        → ((e : Path × NodeKey) (n : NodeView V) → slice_get fs i ≡ Some e → mid e.1 ≡ Some n → (m : NodeView V) × (later e.1 ≡ Some m) × (m.entry ≡ i) × (m.depth ≡ n.depth) × (m.children ≡ n.children) × (m.parent ≡ n.parent))
+        → ((e : Path × NodeKey) (n : NodeView V) → slice_get fs i ≡ Some e → mid e.1 ≡ Some n → (m : NodeView V) × (later e.1 ≡ Some m) × (m.own ≡ n.own) × (m.entry ≡ i) × (m.depth ≡ n.depth) × (m.children ≡ n.children) × (m.parent ≡ n.parent))
         → ((j : ℕ) (e : Path × NodeKey) → slice_get fs j ≡ Some e → j ≢ i → later e.1 ≡ mid e.1)
         → IsTree count fs later
     tree-lose leaf moved kept = record {
@@ -254,17 +262,18 @@ module _ {V : Type 0} where
                   now.0,
                   now.1,
                   record {
-                    entry = now.2 ∙ sym a.0;
-                    depth = now.3 ∙ x.2.depth;
-                    children = ap length now.4 ∙ x.2.children;
-                    parent = λ r. gives (length fs) a.2 x.0 x.2 r ∙ ap Some (sym now.5);
+                    own = now.2 ∙ x.2.own;
+                    entry = now.3 ∙ sym a.0;
+                    depth = now.4 ∙ x.2.depth;
+                    children = ap length now.5 ∙ x.2.children;
+                    parent = λ r. gives (length fs) a.2 x.0 x.2 r ∙ ap Some (sym now.6);
                   },
                 )
             | inr a ↦
                 let x = t.node_of j e a.2 in (
                   x.0,
                   kept j e h a.0 ∙ others e.1 (left_key j e a.2 a.0) ∙ x.1,
-                  record { entry = x.2.entry; depth = x.2.depth; children = x.2.children; parent = gives j a.2 x.0 x.2 },
+                  record { own = x.2.own; entry = x.2.entry; depth = x.2.depth; children = x.2.children; parent = gives j a.2 x.0 x.2 },
                 )
           ];
     }

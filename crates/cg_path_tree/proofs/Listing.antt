@@ -1,5 +1,5 @@
 -- Keys by ascending texts are the keys by ascending paths.
-use Rattle.std.proofs.Common.{◌≡◌, ◌≢◌, ℕ, zero, suc, ◌+◌, ◌<◌, ◌≤◌, ◌==◌, Bool, true, false, cond, List, [], ◌∷◌, ◌++◌, map, length, get_or, take, Option, None, Some, Contains, option_map, refl, sym, ap, subst, ◌∙◌, arith, true≢false, eq-eqb}
+use Rattle.std.proofs.Common.{◌≡◌, ◌≢◌, ℕ, zero, suc, ◌+◌, ◌<◌, ◌≤◌, ◌==◌, Bool, true, false, cond, List, [], ◌∷◌, ◌++◌, map, length, get_or, take, Option, None, Some, Contains, refl, sym, ap, subst, ◌∙◌, arith, true≢false, eq-eqb}
 use Rattle.std.specs.List.{AllByRecursion, IsDistinct, slice_get}
 use Rattle.std.specs.List.Sorted.{IsPermutation, IsStrictlySortedBy}
 use Rattle.std.specs.declared.cmp.Ordering.{Ordering}
@@ -9,7 +9,7 @@ use Rattle.std.specs.Cmp.Lexicographic.{slice_cmp, nat_list_cmp_total}
 use Rattle.std.specs.FinMap.{slice_cmp-IsAntisymmetric, nat_cmp-IsAntisymmetric}
 use Rattle.std.specs.FinMap.Entries.{find}
 use Rattle.std.specs.Map.{keys_of}
-use Rattle.std.proofs.lemmas.List.{length-map, take_more}
+use Rattle.std.proofs.lemmas.List.{length-map}
 use Rattle.std.proofs.lemmas.List.Elements.{All-from_recursion, recursion_from_All}
 use Rattle.std.proofs.lemmas.List.Sorted.{IsPermutation-map, All-permutation, Contains-permutation, IsPermutation-sym}
 use Rattle.std.proofs.lemmas.Map.Keys.{IsDistinct-from_apart, apart_from_distinct, IsDistinct-IsPermutation, sorted_from_all_adjacent}
@@ -25,15 +25,14 @@ use Rattle.cg_path_tree.proofs.PathEntries.{path_entries, entries-by_paths}
 use Rattle.slab.specs.Slab as slab
 use Rattle.cg_path_tree.specs.declared.node.Node.{Node}
 use Rattle.cg_path_tree.specs.declared.node.NodeKey.{NodeKey}
-use Rattle.cg_path_tree.specs.Linked.{paths_of, children_in, node_in, IsLinked, seen}
-use Rattle.cg_path_tree.specs.Nodes.{Nodes, with_paths, ArePassing, HaveOnePath}
+use Rattle.cg_path_tree.specs.Linked.{children_in, node_in, IsLinked, seen}
+use Rattle.cg_path_tree.specs.Nodes.{Nodes, with_paths, ArePassing, HaveOnePath, IsKey}
 use Rattle.cg_path_tree.specs.Listing.{keys_in, IsText, AreTexts, AreInOrder}
 use Rattle.cg_path_tree.proofs.ListChanges.{same_some, some_not_none, contains_at, at_contained, at_mapped, mapped_at}
-use Rattle.cg_path_tree.proofs.Finding.{found_at, standing_of, absent_by, itself}
-use Rattle.cg_path_tree.proofs.Indexed.{get_by_find, by_path, same_at, packed_at}
+use Rattle.cg_path_tree.proofs.Finding.{get_by_find, standing_of, absent_by, itself}
+use Rattle.cg_path_tree.proofs.Ordered.{keys_among, key_stands, entry_stands}
 use Rattle.cg_path_tree.proofs.Linking.{one_entry}
-use Rattle.cg_path_tree.proofs.Seen.{found_is}
-use Rattle.cg_path_tree.proofs.Views.{unmap}
+use Rattle.cg_path_tree.proofs.Seen.{found_is, key_of_entry}
 use Rattle.cg_path_tree.proofs.Changing.{path_of-is}
 
 -- ---- lists by places
@@ -200,11 +199,7 @@ module _ (keys m : FiniteMap path_cmp NodeKey) (one : HaveOnePath keys) (es : Li
       ∙ sym (entries-by_paths (λ t. t) ss (path_entries (λ t. t) ss (packed_all ss all_texts) ascending))
       ∙ ap entries (same_map path_cmp_total path_cmp_exact (from_entries path_cmp bs) m (λ q. get_by_find bs q ∙ sym (same_found q (find path_cmp q bs) refl)))
 
--- ---- all nodes, and those that pass a test
-
-pub all_in_order : (keys : FiniteMap path_cmp NodeKey) (es : List (List ℕ × NodeKey)) (ks : List NodeKey) → HaveOnePath keys → AreTexts keys es → StandOnce (keys_in es) → AreInOrder es ks
-    → ((q : Path) (k : NodeKey) → get keys q ≡ Some k → Contains (keys_in es) k) → with_paths keys ks ≡ entries keys
-all_in_order keys es ks one texts once order each = in_order keys keys one es ks texts once order (λ q k h. h) each (λ q k has h. h)
+-- ---- the nodes that pass a test
 
 pub passing_in_order : (keys : FiniteMap path_cmp NodeKey) (test : Path → Bool) (es : List (List ℕ × NodeKey)) (ks : List NodeKey) → HaveOnePath keys → AreTexts keys es → StandOnce (keys_in es) → AreInOrder es ks
     → ArePassing keys test (keys_in es) → with_paths keys ks ≡ entries (retain keys test)
@@ -218,33 +213,35 @@ passing_in_order keys test es ks one texts once order passing =
     kept q k true t h = (t, sym (get-retain path_cmp_total path_cmp_exact keys test q ∙ ap (λ b. cond b (get keys q) None) t) ∙ h)
     kept q k false t h = absurd (some_not_none k (get (retain keys test) q) h (get-retain path_cmp_total path_cmp_exact keys test q ∙ ap (λ b. cond b (get keys q) None) t))
 
--- ---- the entries of a tree
+-- ---- all nodes
 
-pub entries_more : (es : List (List ℕ × NodeKey)) (i : ℕ) (e : List ℕ × NodeKey) → slice_get es i ≡ Some e → take (i + 1) es ≡ take i es ++ e ∷ []
-entries_more es i e h = take_more es i e (slice_get_within es i e h) ∙ ap (λ (x : List ℕ × NodeKey). take i es ++ x ∷ []) (get_or_from_slice_get es i e e h)
+all_kept : (keys : FiniteMap path_cmp NodeKey) → retain keys (λ _. true) ≡ keys
+all_kept keys = same_map path_cmp_total path_cmp_exact _ _ (λ q. get-retain path_cmp_total path_cmp_exact keys (λ _. true) q)
 
-module _ {V : Type 0} (es : List (List ℕ × NodeKey)) (nodes : slab.Slab (Node V)) (l : IsLinked es nodes) (g : Nodes V) (is : seen es nodes ≡ g) where
-  path_entry : (j : ℕ) (e : List ℕ × NodeKey) → slice_get es j ≡ Some e → slice_get (paths_of es) j ≡ Some (names_in e.0, e.1)
-  path_entry j e h = same_at (λ s. s) es j ∙ ap (option_map (by_path (λ s. s))) h
+module _ {V : Type 0} (es : List (Path × NodeKey)) (nodes : slab.Slab (Node V)) (l : IsLinked es nodes) (g : Nodes V) (is : seen es nodes ≡ g) (order : List NodeKey) (ordered : keys_among es ≡ order) where
+  pub all_live : (j : ℕ) (k : NodeKey) → slice_get order j ≡ Some k → IsKey g.keys k
+  all_live j k h =
+      let e = entry_stands es order ordered j k h in
+      subst (IsKey g.keys) e.2 (key_of_entry es nodes l g is j e.0 e.1)
 
-  -- the entry at a place of the keys
-  entry_at : (j : ℕ) (k : NodeKey) → slice_get (keys_in es) j ≡ Some k → (e : List ℕ × NodeKey) × (slice_get es j ≡ Some e) × (e.1 ≡ k)
-  entry_at j k h = mapped_at (λ (y : List ℕ × NodeKey). y.1) es j k h
+  pub all_once : StandOnce order
+  all_once i j k a b =
+      let x = entry_stands es order ordered i k a in
+      let y = entry_stands es order ordered j k b in
+      one_entry (children_in es) es (node_in nodes) l.tree i j x.0 y.0 x.1 y.1 (x.2 ∙ sym y.2)
 
-  pub entries_are_texts : AreTexts g.keys es
-  entries_are_texts = all_from_each (IsText g.keys) es (λ j e h. record {
-    packed = packed_at (λ s. s) es l.packed j e h;
-    found = sym (found_is es nodes l g is (names_in e.0)) ∙ found_at (paths_of es) l.tree.once j (names_in e.0, e.1) (path_entry j e h);
-  })
+  pub all_listed : (k : NodeKey) → IsKey g.keys k → (j : ℕ) × (slice_get order j ≡ Some k)
+  all_listed k key =
+      let at = standing_of es key.0 k (found_is es nodes l g is key.0 ∙ key.1) in
+      (at.0, key_stands es order ordered at.0 (key.0, k) at.1)
 
-  pub entries_once : StandOnce (keys_in es)
-  entries_once i j k a b =
-      let x = entry_at i k a in
-      let y = entry_at j k b in
-      one_entry (children_in (paths_of es)) (paths_of es) (node_in nodes) l.tree i j (names_in x.0.0, x.0.1) (names_in y.0.0, y.0.1) (path_entry i x.0 x.1) (path_entry j y.0 y.1) (x.2 ∙ sym y.2)
+  all_pass : ArePassing g.keys (λ _. true) order
+  all_pass q k h = (
+    (λ _.
+        let at = all_listed k (q, h) in
+        contains_at order at.0 k at.1),
+    (λ _. refl),
+  )
 
-  pub entries_all : (q : Path) (k : NodeKey) → get g.keys q ≡ Some k → Contains (keys_in es) k
-  entries_all q k h =
-      let at = standing_of (paths_of es) q k (found_is es nodes l g is q ∙ h) in
-      let e = unmap (by_path (λ s. s)) (slice_get es at.0) (q, k) (sym (same_at (λ s. s) es at.0) ∙ at.1) in
-      contains_at (keys_in es) at.0 k (at_mapped (λ (y : List ℕ × NodeKey). y.1) es at.0 e.0 e.1 ∙ ap (λ (y : Path × NodeKey). Some y.1) e.2)
+  pub all_sorted : (ks : List NodeKey) → ((test : Path → Bool) → ArePassing g.keys test order → with_paths g.keys ks ≡ entries (retain g.keys test)) → with_paths g.keys ks ≡ entries g.keys
+  all_sorted ks h = h (λ _. true) all_pass ∙ ap entries (all_kept g.keys)

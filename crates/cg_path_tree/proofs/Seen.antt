@@ -6,56 +6,49 @@ use Rattle.std.proofs.Math.Seq.{take-append_seam, take-length}
 use Rattle.std.proofs.lemmas.List.{take-take}
 use Rattle.std.proofs.lemmas.Bool.{cases_eq}
 use Rattle.cg_name.proofs.Packing.{prefix_rest}
-use Rattle.cg_name.specs.Packed.{names_in, IsPacked}
 use Rattle.slab.specs.Slab as slab
 use Rattle.cg_maps.specs.FiniteMap.{get, len, retain}
 use Rattle.cg_name.specs.Path.{Path, path_cmp, is_root, is_parent}
 use Rattle.cg_path_tree.specs.declared.node.Node.{Node}
 use Rattle.cg_path_tree.specs.declared.node.NodeKey.{NodeKey}
 use Rattle.cg_path_tree.specs.Nodes.{Nodes, parent_path, AreClosed, IsKey, IsLeaf, IsRightBelow, HaveOnePath}
-use Rattle.cg_path_tree.specs.Linked.{NodeView, Kin, paths_of, children_in, node_view, node_in, kin_of, kin_in, value_of, IsNodeAt, IsLinked, seen}
+use Rattle.cg_path_tree.specs.Chains.{path_hash}
+use Rattle.cg_path_tree.specs.Linked.{NodeView, Kin, children_in, node_view, node_in, kin_of, kin_in, value_of, IsNodeAt, IsLinked, seen}
 use Rattle.cg_path_tree.proofs.ListChanges.{same_some, some_not_none, contains_at, at_contained}
-use Rattle.cg_path_tree.proofs.Finding.{found_at, standing_of, absent_by}
-use Rattle.cg_path_tree.proofs.Indexed.{get_by_find, length-by_paths, by_path, same_at, packed_at}
+use Rattle.cg_path_tree.proofs.Finding.{get_by_find, found_at, standing_of, absent_by}
 use Rattle.cg_path_tree.proofs.Parents.{none_counted, below_parent, not_root, parent_is}
-use Rattle.cg_path_tree.proofs.Views.{some_there, there_mapped, unmap}
+use Rattle.cg_path_tree.proofs.Views.{some_there, there_mapped}
 use Rattle.cg_path_tree.proofs.Counting.{count_is, len-from_entries, distinct_from_once}
 use Rattle.cg_path_tree.proofs.Linking.{value_there, has_nodes, get-values, node_found, node_there, one_path}
 
-module _ {V : Type 0} (es : List (List ℕ × NodeKey)) (nodes : slab.Slab (Node V)) (l : IsLinked es nodes) (g : Nodes V) (is : seen es nodes ≡ g) where
+module _ {V : Type 0} (es : List (Path × NodeKey)) (nodes : slab.Slab (Node V)) (l : IsLinked es nodes) (g : Nodes V) (is : seen es nodes ≡ g) where
   abbrev count : Path → ℕ
-  count = children_in (paths_of es)
+  count = children_in es
 
-  pub found_is : (p : Path) → find path_cmp p (paths_of es) ≡ get g.keys p
-  found_is p = sym (get_by_find (paths_of es) p) ∙ ap (λ v. get v.keys p) is
-
-  no_bytes : (bs : List ℕ) → length bs ≡ 0 → names_in bs ≡ []
-  no_bytes [] h = refl
-  no_bytes (b ∷ bs) h = absurd (omega (arith, h))
+  pub found_is : (p : Path) → find path_cmp p es ≡ get g.keys p
+  found_is p = sym (get_by_find es p) ∙ ap (λ v. get v.keys p) is
 
   first_found : (xs : List (Path × NodeKey)) (k : NodeKey) → slice_get xs 0 ≡ Some ([], k) → find path_cmp [] xs ≡ Some k
   first_found [] k h = absurd (some_not_none ([], k) None h refl)
   first_found (x ∷ xs) k h = ap (λ (y : Path × NodeKey). find path_cmp [] (y ∷ xs)) (same_some x ([], k) h)
 
-  -- an entry that stands first, and has no names, is the root's
-  pub first_is_root : (e : List ℕ × NodeKey) → slice_get es 0 ≡ Some e → length e.0 ≡ 0 → Some e.1 ≡ get g.keys []
-  first_is_root e there none =
-      let path : names_in e.0 ≡ [] = no_bytes e.0 none in
-      let first : slice_get (paths_of es) 0 ≡ Some ([], e.1) = same_at (λ k. k) es 0 ∙ ap (option_map (by_path (λ k. k))) there ∙ ap (λ p. Some (p, e.1)) path in
-      sym (first_found (paths_of es) e.1 first) ∙ found_is []
+  -- a node whose entry stands first, and has no names, is the root's
+  pub first_is_root : (p : Path) (k : NodeKey) → slice_get es 0 ≡ Some (p, k) → length p ≡ 0 → Some k ≡ get g.keys []
+  first_is_root [] k there none = sym (first_found es k there) ∙ found_is []
+  first_is_root (n ∷ p) k there none = absurd (omega arith)
 
-  pub value_is : (p : Path) → value_there (node_in nodes) (find path_cmp p (paths_of es)) ≡ get g.values p
-  value_is p = sym (get-values (node_in nodes) (paths_of es) (has_nodes (paths_of es) (node_in nodes) count l.tree) p) ∙ ap (λ v. get v.values p) is
+  pub value_is : (p : Path) → value_there (node_in nodes) (find path_cmp p es) ≡ get g.values p
+  value_is p = sym (get-values (node_in nodes) es (has_nodes es (node_in nodes) count l.tree) p) ∙ ap (λ v. get v.values p) is
 
   -- the node with the key of a path
   pub node_of_key : (p : Path) (k : NodeKey) → get g.keys p ≡ Some k → (n : NodeView V) × (node_in nodes k ≡ Some n)
-  node_of_key p k h = let x = node_found count (paths_of es) (node_in nodes) l.tree p k (found_is p ∙ h) in (x.1, x.3)
+  node_of_key p k h = let x = node_found count es (node_in nodes) l.tree p k (found_is p ∙ h) in (x.1, x.3)
 
   pub key_there : (k : NodeKey) → IsKey g.keys k → IsSome (node_in nodes k)
   key_there k key = let x = node_of_key key.0 k key.1 in ap is_some x.1
 
-  pub node_at : (p : Path) (k : NodeKey) (n : NodeView V) → get g.keys p ≡ Some k → node_in nodes k ≡ Some n → (j : ℕ) × (slice_get (paths_of es) j ≡ Some (p, k)) × IsNodeAt count (paths_of es) j p n
-  node_at p k n h at = node_there count (paths_of es) (node_in nodes) l.tree p k n (found_is p ∙ h) at
+  pub node_at : (p : Path) (k : NodeKey) (n : NodeView V) → get g.keys p ≡ Some k → node_in nodes k ≡ Some n → (j : ℕ) × (slice_get es j ≡ Some (p, k)) × IsNodeAt count es j p n
+  node_at p k n h at = node_there count es (node_in nodes) l.tree p k n (found_is p ∙ h) at
 
   pub value_at : (p : Path) (k : NodeKey) (n : NodeView V) → get g.keys p ≡ Some k → node_in nodes k ≡ Some n → get g.values p ≡ Some n.value
   value_at p k n h at = sym (value_is p) ∙ ap (value_there (node_in nodes)) (found_is p ∙ h) ∙ ap value_of at
@@ -67,19 +60,19 @@ module _ {V : Type 0} (es : List (List ℕ × NodeKey)) (nodes : slab.Slab (Node
   parent_at p k n h at r = sym ((node_at p k n h at).2.parent r) ∙ found_is (parent_path p)
 
   pub children_at : (p : Path) (k : NodeKey) (n : NodeView V) → get g.keys p ≡ Some k → node_in nodes k ≡ Some n → length n.children ≡ len (retain g.keys (is_parent p))
-  children_at p k n h at = (node_at p k n h at).2.children ∙ count_is (is_parent p) (paths_of es) l.tree.once ∙ ap (λ v. len (retain v.keys (is_parent p))) is
+  children_at p k n h at = (node_at p k n h at).2.children ∙ count_is (is_parent p) es l.tree.once ∙ ap (λ v. len (retain v.keys (is_parent p))) is
 
   pub leaf_at : (p : Path) (k : NodeKey) (n : NodeView V) → get g.keys p ≡ Some k → node_in nodes k ≡ Some n → length n.children ≡ 0 → IsLeaf g.keys p
   leaf_at p k n h at none q below = absent_by (get g.keys q) (λ x there.
-      let at_q = standing_of (paths_of es) q x (found_is q ∙ there) in
+      let at_q = standing_of es q x (found_is q ∙ there) in
       let zero_count : count p ≡ 0 = sym ((node_at p k n h at).2.children) ∙ none in
-      true≢false (sym below ∙ none_counted (λ (e : Path × NodeKey). is_parent p e.0) (paths_of es) zero_count at_q.0 (q, x) at_q.1))
+      true≢false (sym below ∙ none_counted (λ (e : Path × NodeKey). is_parent p e.0) es zero_count at_q.0 (q, x) at_q.1))
 
   pub len_is : len g.keys ≡ length es
-  len_is = ap (λ v. len v.keys) (sym is) ∙ len-from_entries (paths_of es) (distinct_from_once (paths_of es) l.tree.once) ∙ length-by_paths (λ k. k) es
+  len_is = ap (λ v. len v.keys) (sym is) ∙ len-from_entries es (distinct_from_once es l.tree.once)
 
   pub have_one_path : HaveOnePath g.keys
-  have_one_path p q k a b = one_path count (paths_of es) (node_in nodes) l.tree p q k (found_is p ∙ a) (found_is q ∙ b)
+  have_one_path p q k a b = one_path count es (node_in nodes) l.tree p q k (found_is p ∙ a) (found_is q ∙ b)
 
   both_so : (o : Option NodeKey) → ((k : NodeKey) → o ≡ Some k → IsSome (node_in nodes k)) → is_some (value_there (node_in nodes) o) ≡ is_some o
   both_so None h = refl
@@ -91,7 +84,7 @@ module _ {V : Type 0} (es : List (List ℕ × NodeKey)) (nodes : slab.Slab (Node
 
   pub both_there : (p : Path) → is_some (get g.values p) ≡ is_some (get g.keys p)
   both_there p =
-      ap is_some (sym (value_is p)) ∙ both_so (find path_cmp p (paths_of es)) (λ k h. key_there k (p, sym (found_is p) ∙ h)) ∙ ap is_some (found_is p)
+      ap is_some (sym (value_is p)) ∙ both_so (find path_cmp p es) (λ k h. key_there k (p, sym (found_is p) ∙ h)) ∙ ap is_some (found_is p)
 
   -- ---- where there is a node, there is one at each prefix
 
@@ -155,29 +148,18 @@ module _ {V : Type 0} (es : List (List ℕ × NodeKey)) (nodes : slab.Slab (Node
       nonempty [] e = absurd (e refl)
       nonempty (m ∷ x) e = refl
 
-  -- ---- the entry of a node
+  -- ---- the path of a node
 
-  -- the entry whose number the node with a key knows
-  pub record IsEntryOf (k : NodeKey) (e : List ℕ × NodeKey) : Type 0 where
-    pub packed : IsPacked e.0
-    pub found : get g.keys (names_in e.0) ≡ Some k
+  pub path_at : (p : Path) (k : NodeKey) (n : NodeView V) → get g.keys p ≡ Some k → node_in nodes k ≡ Some n → n.own.0 ≡ p
+  path_at p k n h at = ap (λ (o : Path × ℕ). o.0) (node_at p k n h at).2.own
 
-  entry_at : (k : NodeKey) (n : NodeView V) (key : IsKey g.keys k) → node_in nodes k ≡ Some n → option_map (by_path (λ s. s)) (slice_get es n.entry) ≡ Some (key.0, k)
-  entry_at k n key at =
+  pub own_found : (k : NodeKey) (n : NodeView V) → IsKey g.keys k → node_in nodes k ≡ Some n → get g.keys n.own.0 ≡ Some k
+  own_found k n key at = ap (get g.keys) (path_at key.0 k n key.1 at) ∙ key.1
+
+  pub hash_there : (k : NodeKey) (n : NodeView V) → IsKey g.keys k → node_in nodes k ≡ Some n → n.own.1 ≡ path_hash n.own.0
+  hash_there k n key at =
       let x = node_at key.0 k n key.1 at in
-      ap (λ j. option_map (by_path (λ s. s)) (slice_get es j)) x.2.entry ∙ sym (same_at (λ s. s) es x.0) ∙ x.1
-
-  pub entry_there : (k : NodeKey) (n : NodeView V) → IsKey g.keys k → node_in nodes k ≡ Some n → slice_get es n.entry ≢ None
-  entry_there k n key at none = some_not_none (key.0, k) None (sym (ap (option_map (by_path (λ s. s))) none) ∙ entry_at k n key at) refl
-
-  pub entry_of : (k : NodeKey) (n : NodeView V) → IsKey g.keys k → node_in nodes k ≡ Some n → (e : List ℕ × NodeKey) → slice_get es n.entry ≡ Some e → IsEntryOf k e
-  entry_of k n key at e there =
-      let same : by_path (λ s. s) e ≡ (key.0, k) =
-      same_some (by_path (λ s. s) e) (key.0, k) (sym (ap (option_map (by_path (λ s. s))) there) ∙ entry_at k n key at) in
-      record {
-        packed = packed_at (λ s. s) es l.packed n.entry e there;
-        found = ap (λ (f : Path × NodeKey). get g.keys f.0) same ∙ key.1;
-      }
+      ap (λ (o : Path × ℕ). o.1) x.2.own ∙ ap (λ (o : Path × ℕ). path_hash o.0) (sym x.2.own)
 
   -- what a node says of its parent is so
   pub parent_so : (p : Path) (k : NodeKey) (n : NodeView V) → get g.keys p ≡ Some k → node_in nodes k ≡ Some n → (o : Option NodeKey) → (n.depth ≡ 0 → o ≡ None) → (n.depth ≢ 0 → o ≡ Some n.parent)
@@ -191,38 +173,27 @@ module _ {V : Type 0} (es : List (List ℕ × NodeKey)) (nodes : slab.Slab (Node
         (ap is_some (value some) ∙ sym (ap not r), λ deep. value some ∙ parent_at p k n h at deep)
   ]
 
-  pub the_entry : (k : NodeKey) (n : NodeView V) → IsKey g.keys k → node_in nodes k ≡ Some n → (e : List ℕ × NodeKey) × (slice_get es n.entry ≡ Some e)
-  the_entry k n key at = by (slice_get es n.entry) refl
-    where
-      by : (o : Option (List ℕ × NodeKey)) → slice_get es n.entry ≡ o → (e : List ℕ × NodeKey) × (slice_get es n.entry ≡ Some e)
-      by None none = absurd (entry_there k n key at none)
-      by (Some e) some = (e, some)
-
   -- each entry has a node, and each value is that of an entry's node
-  pub entry_slot : (j number : ℕ) (e : List ℕ × NodeKey) → slice_get es j ≡ Some e → number ≡ e.1.0 → IsSome (slab.get nodes number)
-  entry_slot j number e there is =
-      let x = l.tree.node_of j (by_path (λ s. s) e) (same_at (λ s. s) es j ∙ ap (option_map (by_path (λ s. s))) there) in
-      subst (λ i. IsSome (slab.get nodes i)) (sym is) (there_mapped node_view (slab.get nodes e.1.0) (ap is_some x.1))
-
-  pub entry_of_value : (p : Path) (v : V) → get g.values p ≡ Some v → (j : ℕ) × (e : List ℕ × NodeKey) × (n : NodeView V) × (slice_get es j ≡ Some e) × (node_in nodes e.1 ≡ Some n) × (n.value ≡ v)
+  pub entry_of_value : (p : Path) (v : V) → get g.values p ≡ Some v → (j : ℕ) × (k : NodeKey) × (n : NodeView V) × (slice_get es j ≡ Some (p, k)) × (node_in nodes k ≡ Some n) × (n.value ≡ v)
   entry_of_value p v h =
       let k = some_there (get g.keys p) (sym (both_there p) ∙ ap is_some h) in
       let n = node_of_key p k.0 k.1 in
       let x = node_at p k.0 n.0 k.1 n.1 in
-      let e = unmap (by_path (λ s. s)) (slice_get es x.0) (p, k.0) (sym (same_at (λ s. s) es x.0) ∙ x.1) in
-      (x.0, e.0, n.0, e.1, ap (λ (f : Path × NodeKey). node_in nodes f.1) e.2 ∙ n.1, same_some n.0.value v (sym (value_at p k.0 n.0 k.1 n.1) ∙ h))
+      (x.0, k.0, n.0, x.1, n.1, same_some n.0.value v (sym (value_at p k.0 n.0 k.1 n.1) ∙ h))
 
-  -- ---- a key is that of a node where the entry with the node's number has it
+  pub entry_found : (j : ℕ) (e : Path × NodeKey) → slice_get es j ≡ Some e → get g.keys e.0 ≡ Some e.1
+  entry_found j e there = sym (found_is e.0) ∙ found_at es l.tree.once j e there
 
-  pub key_from_entry : (k : NodeKey) (n : NodeView V) (e : List ℕ × NodeKey) → slice_get es n.entry ≡ Some e → e.1 ≡ k → IsKey g.keys k
-  key_from_entry k n e there own =
-      let path = by_path (λ s. s) e in
-      let at : slice_get (paths_of es) n.entry ≡ Some path = same_at (λ s. s) es n.entry ∙ ap (option_map (by_path (λ s. s))) there in
-      (path.0, sym (found_is path.0) ∙ found_at (paths_of es) l.tree.once n.entry path at ∙ ap Some own)
+  pub key_of_entry : (j : ℕ) (e : Path × NodeKey) → slice_get es j ≡ Some e → IsKey g.keys e.1
+  key_of_entry j e there = (e.0, entry_found j e there)
 
-  pub key_of_entry : (k : NodeKey) (n : NodeView V) → IsKey g.keys k → node_in nodes k ≡ Some n → (e : List ℕ × NodeKey) → slice_get es n.entry ≡ Some e → e.1 ≡ k
-  key_of_entry k n key at e there =
-      ap (λ (f : Path × NodeKey). f.1) (same_some (by_path (λ s. s) e) (key.0, k) (sym (ap (option_map (by_path (λ s. s))) there) ∙ entry_at k n key at))
+  -- ---- a key is that of a node where there is one under it
+
+  pub key_from_node : (k : NodeKey) → IsSome (slab.get nodes k.0) → IsKey g.keys k
+  key_from_node k there =
+      let n = some_there (slab.get nodes k.0) there in
+      let o = l.kin.owned k (kin_of (node_view n.0)) (ap (λ o. option_map kin_of (option_map node_view o)) n.1) in
+      (o.0, sym (found_is o.0) ∙ o.1)
 
   pub no_key : (k : NodeKey) → node_in nodes k ≡ None → ¬ (IsKey g.keys k)
   no_key k none key = true≢false (sym (key_there k key) ∙ ap is_some none)
@@ -248,21 +219,21 @@ module _ {V : Type 0} (es : List (List ℕ × NodeKey)) (nodes : slab.Slab (Node
       let x = at_contained n.children c has in
       let y = l.kin.child k c (kin_of n) x.0 (kin_at k n at) x.1 in
       let o = l.kin.owned c y.own y.there in
-      let z = node_found count (paths_of es) (node_in nodes) l.tree o.0 c o.1 in
+      let z = node_found count es (node_in nodes) l.tree o.0 c o.1 in
       let m : NodeView V = z.1 in
       let own : y.own ≡ kin_of m = same_some y.own (kin_of m) (sym y.there ∙ kin_at c m z.3) in
       let r : is_root o.0 ≡ false = no_name o.0 n.depth (sym z.4.depth ∙ ap (λ (w : Kin). w.depth) (sym own) ∙ y.depth) in
       let parent : m.parent ≡ k = ap (λ (w : Kin). w.parent) (sym own) ∙ y.parent in
-      let path : parent_path o.0 ≡ p = one_path count (paths_of es) (node_in nodes) l.tree (parent_path o.0) p k (z.4.parent r ∙ ap Some parent) (found_is p ∙ h) in
+      let path : parent_path o.0 ≡ p = one_path count es (node_in nodes) l.tree (parent_path o.0) p k (z.4.parent r ∙ ap Some parent) (found_is p ∙ h) in
       (o.0, sym (found_is o.0) ∙ o.1, subst (λ w. is_parent w o.0 ≡ true) path (below_parent o.0 r))
 
   below_listed : (p : Path) (k : NodeKey) (n : NodeView V) → get g.keys p ≡ Some k → node_in nodes k ≡ Some n → (c : NodeKey) → IsRightBelow g.keys p c → Contains n.children c
   below_listed p k n h at c x =
-      let z = node_found count (paths_of es) (node_in nodes) l.tree x.0 c (found_is x.0 ∙ x.1) in
+      let z = node_found count es (node_in nodes) l.tree x.0 c (found_is x.0 ∙ x.1) in
       let m : NodeView V = z.1 in
       let r : is_root x.0 ≡ false = not_root p x.0 x.2 in
       let y = l.kin.listed c (kin_of m) (kin_at c m z.3) (λ none. some_name x.0 r (sym z.4.depth ∙ none)) in
-      let parent : m.parent ≡ k = same_some m.parent k (sym (z.4.parent r) ∙ ap (λ q. find path_cmp q (paths_of es)) (sym (parent_is p x.0 x.2)) ∙ found_is p ∙ h) in
+      let parent : m.parent ≡ k = same_some m.parent k (sym (z.4.parent r) ∙ ap (λ q. find path_cmp q es) (sym (parent_is p x.0 x.2)) ∙ found_is p ∙ h) in
       let own : y.0 ≡ kin_of n = same_some y.0 (kin_of n) (sym y.1 ∙ ap (kin_in nodes) parent ∙ kin_at k n at) in
       contains_at n.children m.place c (ap (λ (w : Kin). slice_get w.children m.place) (sym own) ∙ y.2)
 

@@ -1,10 +1,10 @@
--- How the index and the nodes of a tree belong together.
+-- How the keys and the nodes of a tree belong together.
 use Rattle.std.specs.Prelude.{◌≡◌, ◌≢◌, ℕ, suc, ◌<◌, false, List, [], ◌∷◌, length, Option, None, Some, option_map, slice_get, count_by, vec_len, vec_capacity}
 use Rattle.std.specs.FinMap.Entries.{find}
 use Rattle.slab.specs.Slab as slab
 use Rattle.cg_maps.specs.FiniteMap.{from_entries}
 use Rattle.cg_name.specs.Path.{Path, path_cmp, is_root, is_parent}
-use Rattle.cg_path_tree.specs.PathEntries.{by_paths, ArePacked}
+use Rattle.cg_path_tree.specs.Chains.{path_hash}
 use Rattle.cg_path_tree.specs.declared.node.Node.{Node}
 use Rattle.cg_path_tree.specs.declared.node.NodeKey.{NodeKey}
 use Rattle.cg_path_tree.specs.Nodes.{Nodes, parent_path}
@@ -12,14 +12,6 @@ use Rattle.cg_path_tree.specs.Nodes.{Nodes, parent_path}
 -- how many paths among them lie right below one
 abbrev pub children_in : List (Path × NodeKey) → Path → ℕ
 children_in es p = count_by (λ e. is_parent p e.0) es
-
--- the entries by their paths
-abbrev pub paths_of : List (List ℕ × NodeKey) → List (Path × NodeKey)
-paths_of es = by_paths (λ k. k) es
-
--- the texts are those of paths
-abbrev pub HavePaths : List (List ℕ × NodeKey) → Type 0
-HavePaths es = ArePacked (λ k. k) es
 
 -- what a node says of those above and below it
 pub record Kin : Type 0 where
@@ -44,8 +36,9 @@ pub record AreKin (es : List (Path × NodeKey)) (kin : NodeKey → Option Kin) :
   pub listed : (c : NodeKey) (m : Kin) → kin c ≡ Some m → m.depth ≢ 0 → (n : Kin) × (kin m.parent ≡ Some n) × (slice_get n.children m.place ≡ Some c)
   pub fits : (k : NodeKey) (n : Kin) → kin k ≡ Some n → length n.children < 4294967296
 
--- what a node says; how much room its list has is left out
+-- what a node says; how much room its list has is left out, and which is the next in its chain
 pub record NodeView (V : Type 0) : Type 0 where
+  pub own : Path × ℕ
   pub entry : ℕ
   pub parent : NodeKey
   pub depth : ℕ
@@ -55,7 +48,7 @@ pub record NodeView (V : Type 0) : Type 0 where
 
 module _ {V : Type 0} where
   abbrev pub node_view : Node V → NodeView V
-  node_view n = record { entry = n.entry; parent = n.parent; depth = n.depth; place = n.place; children = n.children.items; value = n.value }
+  node_view n = record { own = (n.path, n.hash); entry = n.entry; parent = n.parent; depth = n.depth; place = n.place; children = n.children.items; value = n.value }
 
   -- the node with a key
   abbrev pub node_in : slab.Slab (Node V) → NodeKey → Option (NodeView V)
@@ -97,6 +90,7 @@ module _ {V : Type 0} where
 
   -- the node of the entry with this number and this path, where paths have so many children
   pub record IsNodeAt (count : Path → ℕ) (es : List (Path × NodeKey)) (j : ℕ) (p : Path) (n : NodeView V) : Type 0 where
+    pub own : n.own ≡ (p, path_hash p)
     pub entry : n.entry ≡ j
     pub depth : n.depth ≡ length p
     pub children : length n.children ≡ count p
@@ -107,13 +101,25 @@ module _ {V : Type 0} where
     pub once : (i j : ℕ) (e f : Path × NodeKey) → slice_get es i ≡ Some e → slice_get es j ≡ Some f → e.0 ≡ f.0 → i ≡ j
     pub node_of : (j : ℕ) (e : Path × NodeKey) → slice_get es j ≡ Some e → (n : NodeView V) × (node e.1 ≡ Some n) × IsNodeAt count es j e.0 n
 
-  -- the index has the texts of paths, and the nodes are those of its entries, so many that each has a number of 32 bits
-  pub record IsLinked (es : List (List ℕ × NodeKey)) (nodes : slab.Slab (Node V)) : Type 0 where
-    pub packed : HavePaths es
-    pub tree : IsTree (children_in (paths_of es)) (paths_of es) (node_in nodes)
-    pub kin : AreKin (paths_of es) (kin_in nodes)
+  -- the nodes are those of these entries, so many that each has a number of 32 bits
+  pub record IsLinked (es : List (Path × NodeKey)) (nodes : slab.Slab (Node V)) : Type 0 where
+    pub tree : IsTree (children_in es) es (node_in nodes)
+    pub kin : AreKin es (kin_in nodes)
     pub few : length es < 4294967296
 
-  -- what is seen of the index and the nodes
-  abbrev pub seen : List (List ℕ × NodeKey) → slab.Slab (Node V) → Nodes V
-  seen es nodes = record { values = from_entries path_cmp (values_at (node_in nodes) (paths_of es)); keys = from_entries path_cmp (paths_of es) }
+  abbrev pub path_there : Option (NodeView V) → Path
+  path_there None = []
+  path_there (Some n) = n.own.0
+
+  -- each key with the path of its node
+  abbrev pub keyed : (NodeKey → Option (NodeView V)) → List NodeKey → List (Path × NodeKey)
+  keyed node [] = []
+  keyed node (k ∷ ks) = (path_there (node k), k) ∷ keyed node ks
+
+  -- the keys of all nodes, each with its node's path
+  abbrev pub entries_of : slab.Slab (Node V) → List NodeKey → List (Path × NodeKey)
+  entries_of nodes order = keyed (node_in nodes) order
+
+  -- what is seen of the entries and the nodes
+  abbrev pub seen : List (Path × NodeKey) → slab.Slab (Node V) → Nodes V
+  seen es nodes = record { values = from_entries path_cmp (values_at (node_in nodes) es); keys = from_entries path_cmp es }

@@ -1,59 +1,47 @@
-// How paths enter the index of a tree and leave it.
+// How keys enter the list of all nodes' keys and leave it.
 ghost use Rattle.std.specs.Prelude.{◌≡◌, ◌<◌, ◌++◌, ◌∷◌, [], length, slice_get, swap_remove, IfOk, OnOk, OnErr, IsSome, Some, None};
-ghost use Rattle.std.specs.FinMap.Entries.{find};
 ghost use Rattle.slab.specs.Slab as slab;
-ghost use Rattle.cg_name.specs.Path.{path_cmp};
-ghost use Rattle.cg_path_tree.specs.Linked.{NodeView, node_in, paths_of, HavePaths, Writes};
+ghost use Rattle.cg_path_tree.specs.Chains.{SameLinks};
+ghost use Rattle.cg_path_tree.specs.declared.node.NodeKey.{NodeKey};
+ghost use Rattle.cg_path_tree.specs.Linked.{NodeView, node_in, Writes};
 
-use crate::index_text::IndexText;
-use crate::node::{Node, NodeKey, narrow, set_entry};
-use cg_name::Path;
-use indexmap::IndexMap;
+use crate::node::{Node, NodeKey, narrow, set_entry, take_out};
 use slab::Slab;
-use std::alloc::{AllocError, Global};
+use std::alloc::AllocError;
 
-// Puts an entry for the path, which has none, behind the others, and makes room for its node: gives that node's key and
-// the entry's number. Where there is no memory for them, the entries stay as they are.
+// Puts the key that the next node gets behind the others, and makes room for that node: gives the key and its number. Where
+// there is no memory for them, the keys stay as they are.
 pub(crate) fn enter<V: Drop>(
-    index: &mut IndexMap<IndexText<'static>, NodeKey>,
+    order: &mut Vec<NodeKey>,
     nodes: &mut Slab<Node<V>>,
-    alloc: Global,
-    path: &Path,
 ) -> Result<(NodeKey, u32), AllocError>
-    requires packed { HavePaths index.old.entries }
-    requires absent { find path_cmp path.now (paths_of index.old.entries) ≡ None }
-    ensures entries { IfOk result (λ r. paths_of index.new.entries ≡ paths_of index.old.entries ++ (path.now, r.0) ∷ []) }
-    ensures packed { HavePaths index.new.entries }
-    ensures entry { IfOk result (λ r. r.1 ≡ length index.old.entries) }
+    ensures keys { IfOk result (λ r. order.new.items ≡ order.old.items ++ r.0 ∷ []) }
+    ensures entry { IfOk result (λ r. r.1 ≡ length order.old.items) }
     ensures below { IfOk result (λ r. r.1 < 4294967295) }
     ensures key { IfOk result (λ r. r.0.0 ≡ nodes.old.vacant_key) }
+    ensures key_below { IfOk result (λ r. r.0.0 < 4294967295) }
     ensures vacant { IfOk result (λ r. node_in nodes.old r.0 ≡ None) }
     ensures room { OnOk result (slab.HasRoomFor nodes.new 1) }
     ensures slots { nodes.new ≡ record nodes.old { capacity = nodes.new.capacity } }
-    ensures err { OnErr result (index.new.entries ≡ index.old.entries) }
+    ensures err { OnErr result (order.new.items ≡ order.old.items) }
 {
-    let entry = narrow(index.len())?;
+    let entry = narrow(order.len())?;
     let key = NodeKey::new(narrow(nodes.vacant_key())?);
     nodes.reserve(1)?;
-    let text = IndexText::own(path.copy(alloc)?);
-    index.insert(text, key)?;
+    order.push(key)?;
     Ok((key, entry))
 }
 
-// Takes out the entry with that number. The last one gets the number, and its node learns of it.
-pub(crate) fn leave<V: Drop>(
-    index: &mut IndexMap<IndexText<'static>, NodeKey>,
-    nodes: &mut Slab<Node<V>>,
-    entry: u32,
-)
-    requires within { entry < length index.old.entries }
-    requires moved { (e f : _) → slice_get index.old.entries entry ≡ Some e → slice_get (swap_remove index.old.entries entry e) entry ≡ Some f → IsSome (node_in nodes.old f.1) }
-    ensures entries { (e : _) → slice_get index.old.entries entry ≡ Some e → index.new.entries ≡ swap_remove index.old.entries entry e }
-    ensures moved { (e : _) (n : NodeView V) → slice_get index.new.entries entry ≡ Some e → node_in nodes.old e.1 ≡ Some n → Writes nodes.old nodes.new e.1 (Some (record n { entry = entry })) }
-    ensures unmoved { slice_get index.new.entries entry ≡ None → nodes.new ≡ nodes.old }
+// Takes out the key with that number. The last one gets the number, and its node learns of it.
+pub(crate) fn leave<V: Drop>(order: &mut Vec<NodeKey>, nodes: &mut Slab<Node<V>>, entry: u32)
+    requires within { entry < length order.old.items }
+    requires moved { (e f : NodeKey) → slice_get order.old.items entry ≡ Some e → slice_get (swap_remove order.old.items entry e) entry ≡ Some f → IsSome (node_in nodes.old f) }
+    ensures keys { (e : NodeKey) → slice_get order.old.items entry ≡ Some e → order.new.items ≡ swap_remove order.old.items entry e }
+    ensures moved { (e : NodeKey) (n : NodeView V) → slice_get order.new.items entry ≡ Some e → node_in nodes.old e ≡ Some n → Writes nodes.old nodes.new e (Some (record n { entry = entry })) }
+    ensures unmoved { slice_get order.new.items entry ≡ None → nodes.new ≡ nodes.old }
+    ensures links { SameLinks nodes.old nodes.new }
 {
-    let _ = index.swap_remove_index(entry as usize);
-    if let Some((_, moved)) = index.get_index(entry as usize) {
-        set_entry(nodes, *moved, entry);
+    if let Some(moved) = take_out(order, entry) {
+        set_entry(nodes, moved, entry);
     }
 }

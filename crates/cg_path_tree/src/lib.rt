@@ -1,8 +1,8 @@
 //! Trees of paths with a value at each.
 #![tactic(auto)]
 
+mod chains;
 mod entering;
-mod index_text;
 mod last_found;
 mod looking_up;
 mod node;

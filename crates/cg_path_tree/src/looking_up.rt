@@ -5,7 +5,7 @@ ghost use Rattle.cg_name.specs.Packed.{names_in, IsPacked};
 ghost use Rattle.cg_name.specs.Path.{is_root};
 ghost use Rattle.cg_path_tree.specs.Nodes.{parent_path, HasParent};
 
-use crate::index_text::IndexText;
+use crate::chains::{hash_of, slot_of};
 use crate::node::NodeKey;
 use crate::path_text::{parent_text, prefix_text, text};
 use crate::path_tree::PathTree;
@@ -17,8 +17,22 @@ impl<V: Drop> PathTree<V> {
         requires { IsPacked text.now }
         ensures { result ≡ get self.now.keys (names_in text.now) }
     {
-        let entry = IndexText::lent(text);
-        self.index.get(&entry).copied()
+        if self.heads.is_empty() {
+            return None;
+        }
+        let hash = hash_of(text);
+        let mut at = self.heads[slot_of(self.heads.len(), hash)];
+        // No chain has as many nodes as this: each has a key of its own.
+        for _ in 0..u32::MAX {
+            let Some(node) = self.nodes.get(at.number() as usize) else {
+                return None;
+            };
+            if node.hash == hash && node.path.as_str() == text {
+                return Some(at);
+            }
+            at = node.next;
+        }
+        None
     }
 
     /// The node at the path, if there is one. Takes no memory.
@@ -120,11 +134,8 @@ impl<V: Drop> PathTree<V> {
     fn is_at(&self, key: NodeKey, path: &Path) -> bool
         ensures { IsTrue result → get self.now.keys path.now ≡ Some key }
     {
-        if !self.is_live_key(key) {
-            return false;
-        }
-        match self.own_path(key) {
-            Some(own) => own.is_same(path),
+        match self.nodes.get(key.number() as usize) {
+            Some(node) => node.path.is_same(path),
             None => false,
         }
     }
@@ -137,7 +148,7 @@ impl<V: Drop> PathTree<V> {
         requires parent { is_root path.now ≡ false → parent ≡ get self.old.keys (parent_path path.now) }
         ensures { self.new ≡ self.old }
     {
-        let alloc = *self.index.allocator();
+        let alloc = *self.order.allocator();
         // Where too many share the text, the path before stays remembered.
         let _ = self.last.note(alloc, path, node, parent);
     }
@@ -183,10 +194,10 @@ impl<V: Drop> PathTree<V> {
     pub fn root(&self) -> Option<NodeKey>
         ensures { result ≡ get self.now.keys [] }
     {
-        // It is the first that is put in, and the last that goes: its entry stays the first.
-        if let Some((text, key)) = self.index.get_index(0) {
-            if text.as_str().is_empty() {
-                return Some(*key);
+        // It is the first that is put in, and the last that goes: its key stays the first.
+        if let Some(first) = self.order.first() {
+            if self.depth(*first) == 0 {
+                return Some(*first);
             }
         }
         self.find_text("")

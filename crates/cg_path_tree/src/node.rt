@@ -1,9 +1,11 @@
 //! One path of a tree.
 ghost use Rattle.std.specs.Prelude.{◌≡◌, ◌≢◌, ◌<◌, ◌++◌, ◌∷◌, [], List, length, slice_get, swap_remove, None, Some, IsSome, IfOk, OnOk, vec_len, vec_capacity};
 ghost use Rattle.cg_path_tree.specs.declared.node.NodeKey.{NodeKey};
+ghost use Rattle.cg_path_tree.specs.Chains.{SameLinks};
 ghost use Rattle.cg_path_tree.specs.Linked.{NodeView, node_in, HasRoom, Writes, TakesChild};
 ghost use Rattle.cg_path_tree.specs.Nodes.{number_of};
 
+use cg_name::Path;
 use slab::Slab;
 use std::alloc::AllocError;
 
@@ -11,10 +13,19 @@ use std::alloc::AllocError;
 #[derive(Clone, Copy, PartialEq, Eq, Hash, Debug)]
 pub struct NodeKey(u32);
 
-// What is kept at one path. Most look-ups want the value, which stands in the same line of the cache, and not the children.
+// The key of no node. It ends each chain.
+pub(crate) const NO_KEY: NodeKey = NodeKey(u32::MAX);
+
+// What is kept at one path. A look-up reads the first fields alone. What is done next wants the value, which stands in the same
+// line of the cache, and not the children.
 #[derive(Drop)]
 pub(crate) struct Node<V> {
-    // The number of the path's entry in the index.
+    pub(crate) path: Path,
+    // That of the path's text.
+    pub(crate) hash: u32,
+    // The next node in the chain of those with hashes of one slot; `NO_KEY` in the last.
+    pub(crate) next: NodeKey,
+    // Its number among the keys of all nodes.
     pub(crate) entry: u32,
     // The node of the path one name shorter; of the root, its own.
     pub(crate) parent: NodeKey,
@@ -67,10 +78,11 @@ pub(crate) fn narrow(number: usize) -> Result<u32, AllocError>
     Err(AllocError)
 }
 
-// Notes that the entry of the node's path now has another number.
+// Notes that the node now has another number among all.
 pub(crate) fn set_entry<V: Drop>(nodes: &mut Slab<Node<V>>, key: NodeKey, entry: u32)
     requires { IsSome (node_in nodes.old key) }
-    ensures { (n : NodeView V) → node_in nodes.old key ≡ Some n → Writes nodes.old nodes.new key (Some (record n { entry = entry })) }
+    ensures value { (n : NodeView V) → node_in nodes.old key ≡ Some n → Writes nodes.old nodes.new key (Some (record n { entry = entry })) }
+    ensures links { SameLinks nodes.old nodes.new }
 {
     nodes[key.number() as usize].entry = entry;
 }
@@ -78,7 +90,8 @@ pub(crate) fn set_entry<V: Drop>(nodes: &mut Slab<Node<V>>, key: NodeKey, entry:
 // Notes the node's place among its parent's children.
 fn set_place<V: Drop>(nodes: &mut Slab<Node<V>>, key: NodeKey, place: u32)
     requires { IsSome (node_in nodes.old key) }
-    ensures { (n : NodeView V) → node_in nodes.old key ≡ Some n → Writes nodes.old nodes.new key (Some (record n { place = place })) }
+    ensures value { (n : NodeView V) → node_in nodes.old key ≡ Some n → Writes nodes.old nodes.new key (Some (record n { place = place })) }
+    ensures links { SameLinks nodes.old nodes.new }
 {
     nodes[key.number() as usize].place = place;
 }
@@ -104,6 +117,7 @@ pub(crate) fn make_room<V: Drop>(
     ensures place { IfOk result (λ r. (k : NodeKey) (n : NodeView V) → parent ≡ Some k → node_in nodes.old k ≡ Some n → r ≡ length n.children) }
     ensures below { IfOk result (λ r. r < 4294967295) }
     ensures room { OnOk result ((k : NodeKey) → parent ≡ Some k → HasRoom nodes.new k) }
+    ensures links { SameLinks nodes.old nodes.new }
 {
     let Some(key) = parent else {
         return Ok(0);
@@ -117,6 +131,7 @@ pub(crate) fn add_child<V: Drop>(nodes: &mut Slab<Node<V>>, parent: Option<NodeK
     requires room { (k : NodeKey) → parent ≡ Some k → HasRoom nodes.old k }
     ensures none { parent ≡ None → nodes.new ≡ nodes.old }
     ensures some { (k : NodeKey) (n : NodeView V) → parent ≡ Some k → node_in nodes.old k ≡ Some n → Writes nodes.old nodes.new k (Some (record n { children = n.children ++ child ∷ [] })) }
+    ensures links { SameLinks nodes.old nodes.new }
 {
     if let Some(key) = parent {
         nodes[key.number() as usize].children.push_reserved(child);
@@ -124,7 +139,7 @@ pub(crate) fn add_child<V: Drop>(nodes: &mut Slab<Node<V>>, parent: Option<NodeK
 }
 
 // Takes the key at the place out, and puts the last one there. Gives what stands there then, if anything does.
-fn take_out(keys: &mut Vec<NodeKey>, place: u32) -> Option<NodeKey>
+pub(crate) fn take_out(keys: &mut Vec<NodeKey>, place: u32) -> Option<NodeKey>
     requires { place < length keys.old.items }
     ensures items { (k : NodeKey) → slice_get keys.old.items place ≡ Some k → keys.new.items ≡ swap_remove keys.old.items place k }
     ensures moved { result ≡ slice_get keys.new.items place }
@@ -139,6 +154,7 @@ fn take_child<V: Drop>(nodes: &mut Slab<Node<V>>, key: NodeKey, place: u32) -> O
     requires listed { (n : NodeView V) → node_in nodes.old key ≡ Some n → place < length n.children }
     ensures taken { (n : NodeView V) (c : NodeKey) → node_in nodes.old key ≡ Some n → slice_get n.children place ≡ Some c → Writes nodes.old nodes.new key (Some (record n { children = swap_remove n.children place c })) }
     ensures moved { (n : NodeView V) (c : NodeKey) → node_in nodes.old key ≡ Some n → slice_get n.children place ≡ Some c → result ≡ slice_get (swap_remove n.children place c) place }
+    ensures links { SameLinks nodes.old nodes.new }
 {
     take_out(&mut nodes[key.number() as usize].children, place)
 }
@@ -151,6 +167,7 @@ pub(crate) fn remove_child<V: Drop>(nodes: &mut Slab<Node<V>>, parent: Option<No
     requires others { (k d : NodeKey) (n : NodeView V) (c : NodeKey) → parent ≡ Some k → node_in nodes.old k ≡ Some n → slice_get n.children place ≡ Some c → slice_get (swap_remove n.children place c) place ≡ Some d → (d ≢ k) × IsSome (node_in nodes.old d) }
     ensures none { parent ≡ None → nodes.new ≡ nodes.old }
     ensures some { (k : NodeKey) (n : NodeView V) (c : NodeKey) → parent ≡ Some k → node_in nodes.old k ≡ Some n → slice_get n.children place ≡ Some c → TakesChild nodes.old nodes.new k n (swap_remove n.children place c) place }
+    ensures links { SameLinks nodes.old nodes.new }
 {
     let Some(key) = parent else {
         return;

@@ -7,13 +7,13 @@ ghost use Rattle.cg_name.specs.Packed.{names_in, IsPacked};
 ghost use Rattle.cg_name.specs.Path.{is_parent, is_root};
 ghost use Rattle.cg_path_tree.specs.Nodes.{parent_path, path_of, with_paths, AreClosed, ArePassing, HaveOnePath, HasParent, IsKey, IsLeaf, IsRightBelow};
 
+use crate::chains::{hash_of, link, make_chains, unlink};
 use crate::entering::{enter, leave};
-use crate::index_text::IndexText;
 use crate::last_found::LastFound;
-use crate::node::{Node, NodeKey, add_child, make_room, remove_child};
+use crate::node::{NO_KEY, Node, NodeKey, add_child, make_room, remove_child};
+use crate::path_text::text;
 use crate::sorting::in_order;
 use cg_name::{Path, PathRef};
-use indexmap::IndexMap;
 use slab::Slab;
 use std::alloc::{AllocError, AllocFailed, Global};
 use std::marker::Model;
@@ -24,8 +24,10 @@ const WORTH_SHARING: usize = 13;
 /// A tree of paths with a value at each. Where it has a node it has one at each prefix of its path. A node is found by its
 /// path in one look-up, and then known by its key, from which its value and its parent are a step away.
 pub struct PathTree<V> {
-    // The node of each path, by its text. The texts stand here alone, and a node knows the number of its entry.
-    pub(crate) index: IndexMap<IndexText<'static>, NodeKey>,
+    // The first node of each chain, or `NO_KEY`. A path's node is in the chain for the hash of its text.
+    pub(crate) heads: Vec<NodeKey>,
+    // The keys of all nodes. A node knows the number of its key.
+    pub(crate) order: Vec<NodeKey>,
     pub(crate) nodes: Slab<Node<V>>,
     // What was found for the path that was looked up last.
     pub(crate) last: LastFound,
@@ -35,7 +37,8 @@ pub struct PathTree<V> {
 impl<V: Drop> Drop for PathTree<V> {
     fn drop(self) {
         let PathTree {
-            index: _,
+            heads: _,
+            order: _,
             nodes: _,
             last: _,
         } = self;
@@ -50,11 +53,11 @@ impl<V> Model for PathTree<V> {
     ghost coded = { nodes_code V.code };
 
     ghost use Rattle.cg_path_tree.specs.LastFound.{AreKept};
-    ghost use Rattle.cg_path_tree.specs.Linked.{seen};
+    ghost use Rattle.cg_path_tree.specs.Linked.{entries_of, seen};
 
-    ghost view = { λ t. seen t.index.entries t.nodes };
+    ghost view = { λ t. seen (entries_of t.nodes t.order.items) t.nodes };
 
-    ghost invariant = { λ t. AreKept t.index.entries t.nodes t.last };
+    ghost invariant = { λ t. AreKept t.heads.items t.order.items t.nodes t.last };
 }
 
 impl<V: Drop> PathTree<V> {
@@ -66,7 +69,8 @@ impl<V: Drop> PathTree<V> {
         ensures keys { result.keys ≡ empty }
     {
         PathTree {
-            index: IndexMap::new(alloc),
+            heads: Vec::new(alloc),
+            order: Vec::new(alloc),
             nodes: Slab::new(alloc),
             last: LastFound::new(alloc),
         }
@@ -79,7 +83,7 @@ impl<V: Drop> PathTree<V> {
         ensures one_path { HaveOnePath self.now.keys }
         ensures both { (p : List (List ℕ)) → is_some (get self.now.values p) ≡ is_some (get self.now.keys p) }
     {
-        let _ = &self.index;
+        let _ = &self.order;
     }
 
     /// How many nodes there are: fewer than 2^32.
@@ -87,7 +91,7 @@ impl<V: Drop> PathTree<V> {
         ensures value { result ≡ len self.now.keys }
         ensures few { result < 4294967296 }
     {
-        self.index.len()
+        self.order.len()
     }
 
     /// Whether there is no node.
@@ -101,13 +105,7 @@ impl<V: Drop> PathTree<V> {
     pub fn is_live_key(&self, key: NodeKey) -> bool
         ensures { IsTrue result ↔ IsKey self.now.keys key }
     {
-        let Some(node) = self.nodes.get(key.number() as usize) else {
-            return false;
-        };
-        match self.index.get_index(node.entry as usize) {
-            Some((_, own)) => *own == key,
-            None => false,
-        }
+        self.nodes.contains(key.number() as usize)
     }
 
     /// The value of the node with that key.
@@ -199,11 +197,9 @@ impl<V: Drop> PathTree<V> {
         requires { F.IsAlwaysCallable test }
         ensures { IsTrue result → (p : List (List ℕ)) (v : _) → get self.now.values p ≡ Some v → FnReturnsAt F.Fn test v true }
     {
-        for i in 0..self.index.len() {
-            if let Some((_, key)) = self.index.get_index(i) {
-                if !test(&self.nodes[key.number() as usize].value) {
-                    return false;
-                }
+        for key in &self.order {
+            if !test(&self.nodes[key.number() as usize].value) {
+                return false;
             }
         }
         true
@@ -213,13 +209,7 @@ impl<V: Drop> PathTree<V> {
     pub fn sorted(&self, alloc: Global) -> Result<Vec<NodeKey>, AllocError>
         ensures { IfOk result (λ found. with_paths self.now.keys found.items ≡ entries self.now.keys) }
     {
-        let mut found = Vec::with_capacity(alloc, self.index.len())?;
-        for i in 0..self.index.len() {
-            if let Some((text, key)) = self.index.get_index(i) {
-                found.push((text.as_str(), *key))?;
-            }
-        }
-        in_order(alloc, found)
+        self.sort(alloc, &self.order)
     }
 
     // The text of the path of the node with that key.
@@ -228,22 +218,15 @@ impl<V: Drop> PathTree<V> {
         ensures packed { IsPacked result.now }
         ensures found { get self.now.keys (names_in result.now) ≡ Some key }
     {
-        let node = &self.nodes[key.number() as usize];
-        match self.index.get_index(node.entry as usize) {
-            Some((text, _)) => text.as_str(),
-            None => unreachable!(),
-        }
+        text(self.own_path(key))
     }
 
-    // The path of the node with that key, as the index keeps it.
-    pub(crate) fn own_path(&self, key: NodeKey) -> Option<&Path>
+    // The path of the node with that key, as that keeps it.
+    pub(crate) fn own_path(&self, key: NodeKey) -> &Path
         requires { IsKey self.now.keys key }
-        ensures { IfSome result (λ p. get self.now.keys p.now ≡ Some key) }
+        ensures { get self.now.keys result.now ≡ Some key }
     {
-        let node = &self.nodes[key.number() as usize];
-        let (text, _) = self.index.get_index(node.entry as usize)?;
-        let path = text.path()?;
-        Some(path)
+        &self.nodes[key.number() as usize].path
     }
 
     /// Where the path's text is long and it has a node, it shares the text of that from now on, and lets go of its own. It stays
@@ -258,10 +241,7 @@ impl<V: Drop> PathTree<V> {
         let Some(key) = self.find(path) else {
             return;
         };
-        let Some(own) = self.own_path(key) else {
-            return;
-        };
-        if let Ok(own) = own.copy(alloc) {
+        if let Ok(own) = self.own_path(key).copy(alloc) {
             *path = own;
         }
     }
@@ -310,16 +290,25 @@ impl<V: Drop> PathTree<V> {
         ensures err { OnErr result (self.new ≡ self.old) }
     {
         let depth = self.depth_below(path, parent);
+        let Ok(own) = path.copy(alloc) else {
+            return Err(AllocFailed { value });
+        };
         let Ok(()) = self.last.turn_to(alloc, path, parent) else {
+            return Err(AllocFailed { value });
+        };
+        let Ok(()) = make_chains(&mut self.heads, &mut self.nodes, alloc, &self.order) else {
             return Err(AllocFailed { value });
         };
         let Ok(place) = make_room(&mut self.nodes, parent) else {
             return Err(AllocFailed { value });
         };
-        let Ok((key, entry)) = enter(&mut self.index, &mut self.nodes, alloc, path) else {
+        let Ok((key, entry)) = enter(&mut self.order, &mut self.nodes) else {
             return Err(AllocFailed { value });
         };
         self.nodes.insert_reserved(Node {
+            hash: hash_of(text(&own)),
+            path: own,
+            next: NO_KEY,
             entry,
             parent: parent.unwrap_or(key),
             depth,
@@ -327,6 +316,7 @@ impl<V: Drop> PathTree<V> {
             children: Vec::new(alloc),
             value,
         });
+        link(&mut self.heads, &mut self.nodes, key);
         add_child(&mut self.nodes, parent, key);
         self.last.gain(key);
         Ok(key)
@@ -341,8 +331,9 @@ impl<V: Drop> PathTree<V> {
         ensures values { (p : List (List ℕ)) → get self.old.keys p ≡ Some key → self.new.values ≡ set_at self.old.values p None }
         ensures value { (p : List (List ℕ)) → get self.old.keys p ≡ Some key → get self.old.values p ≡ Some result }
     {
+        unlink(&mut self.heads, &mut self.nodes, key);
         let node = self.nodes.remove(key.number() as usize);
-        leave(&mut self.index, &mut self.nodes, node.entry);
+        leave(&mut self.order, &mut self.nodes, node.entry);
         remove_child(&mut self.nodes, node.parent(), node.place);
         self.last.lose(key);
         node.value
@@ -353,7 +344,8 @@ impl<V: Drop> PathTree<V> {
         ensures values { self.new.values ≡ empty }
         ensures keys { self.new.keys ≡ empty }
     {
-        self.index.clear();
+        self.heads.fill(NO_KEY);
+        self.order.clear();
         self.nodes.clear();
         self.last.clear();
     }

@@ -26,4 +26,4 @@ returns-in-Some-take_child-clause-some g c k n child is there at =
     let other = c.requires.others k d n child is there at moved in
     let m = some_there (node_in c.args.nodes.now d) other.1 in
     let taken = subst (λ x. Writes c.args.nodes.now c.take_child.new.nodes x (Some (record n { children = swap_remove n.children c.args.place child }))) own (c.in-Some-take_child.ensures.taken n child there' at) in
-    takes c.args.nodes.now c.take_child.new.nodes c.set_place.new.nodes k d n m.0 (swap_remove n.children c.args.place child) c.args.place other.0 taken moved m.1 c.set_place.ensures
+    takes c.args.nodes.now c.take_child.new.nodes c.set_place.new.nodes k d n m.0 (swap_remove n.children c.args.place child) c.args.place other.0 taken moved m.1 c.set_place.ensures.value

@@ -1,5 +1,5 @@
 -- One name more than the parent has.
-use Rattle.std.proofs.Common.{◌≡◌, ◌+◌, ◌∷◌, ℕ, suc, Bool, true, false, List, [], length, Option, None, Some, IsSome, is_some, refl, sym, ap, subst, ◌∙◌, arith, true≢false}
+use Rattle.std.proofs.Common.{◌≡◌, ◌∷◌, Bool, true, false, [], length, Option, None, Some, is_some, refl, sym, ap, ◌∙◌, arith, true≢false}
 use Rattle.cg_maps.specs.FiniteMap.{FiniteMap, get}
 use Rattle.cg_name.specs.Path.{Path, path_cmp, is_root}
 use Rattle.cg_path_tree.specs.declared.node.NodeKey.{NodeKey}
