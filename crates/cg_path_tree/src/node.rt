@@ -16,8 +16,8 @@ pub struct NodeKey(u32);
 // The key of no node. It ends each chain.
 pub(crate) const NO_KEY: NodeKey = NodeKey(u32::MAX);
 
-// What is kept at one path. A look-up reads the first fields alone. What is done next wants the value, which stands in the same
-// line of the cache, and not the children.
+// What is kept at one path. A look-up reads the first fields alone. What is done next wants the value, which stands beside them,
+// and not the children.
 #[derive(Drop)]
 pub(crate) struct Node<V> {
     pub(crate) path: Path,
