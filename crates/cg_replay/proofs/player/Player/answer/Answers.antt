@@ -9,7 +9,7 @@ pub returns-in-Ok-true-clause-ok : goal.returns-in-Ok-true-clause-ok
 returns-in-Ok-true-clause-ok c =
     let line = c.args.line.now in
     let words = map (λ w. w.now) c.as_slice.result.now in
-    let says = subst (λ ws. Says line (Some (map (λ w. w.now) ws))) (sym c.as_slice.ensures) (c.in-Ok-true.ensures.words c.in-Ok-true.field-0-test) in
+    let says = subst (λ ws. Says line (Some ws)) (sym c.as_slice.ensures) (c.in-Ok-true.ensures.words c.in-Ok-true.field-0-test) in
     on_ok_map c.answer_words.result
     (λ w. (w.0, w.1, answers_words c.args.self.now c.answer_words.new.self line w.0 words says w.2))
     c.answer_words.ensures.ok
