@@ -119,6 +119,9 @@ fn settle(
     let Ok(footprint) = Footprint::of(alloc, command, tree) else {
         return Err(Refusal::Memory);
     };
+    let Ok(()) = locks.share(alloc, txn.number()) else {
+        return Err(Refusal::Memory);
+    };
     let Ok(()) = history.reserve(2) else {
         return Err(Refusal::Memory);
     };

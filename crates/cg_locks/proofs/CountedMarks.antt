@@ -38,10 +38,10 @@ times_counted r (q ∷ qs) =
     omega (arith, a, b, c)
 
 -- a mark of another kind
-abbrev IsOther : Mark → Type 0
+abbrev pub IsOther : Mark → Type 0
 IsOther m = (q : Path) → same_mark m (Count q) ≡ false
 
-never : (m : Mark) → IsOther m → (ps : List Path) → times m (counts_at ps) ≡ 0
+pub never : (m : Mark) → IsOther m → (ps : List Path) → times m (counts_at ps) ≡ 0
 never m other [] = none m
   where
     none : (n : Mark) → times n [] ≡ 0
@@ -67,7 +67,7 @@ one_alone ms ps (Pid k) = inr (never (Pid k) (λ q. refl) ps)
 one_alone ms ps (Count p) = inl (no_count p ms)
 
 -- the marks are those at some paths
-at_paths : (P : List Mark → Type 0) → ((ps : List Path) → P (counts_at ps)) → (c : Option Counted) → P (counts_of c)
+pub at_paths : (P : List Mark → Type 0) → ((ps : List Path) → P (counts_at ps)) → (c : Option Counted) → P (counts_of c)
 at_paths P all None = all []
 at_paths P all (Some c) = all (prefixes c.path.now c.depths.now)
 

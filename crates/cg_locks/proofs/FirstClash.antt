@@ -62,7 +62,7 @@ or_none : (a b : Bool) → b ≡ false → (a || b) ≡ a
 or_none true b e = refl
 or_none false b e = e
 
-no_counts : (m : rust.Mark) (qs : List Path) → clashes_any (counts_at qs) (mark_of m) ≡ false
+pub no_counts : (m : rust.Mark) (qs : List Path) → clashes_any (counts_at qs) (mark_of m) ≡ false
 no_counts m [] = refl
 no_counts m (q ∷ qs) =
     list_any-append (clash (mark_of m)) (counts_at qs) (Count q ∷ [])

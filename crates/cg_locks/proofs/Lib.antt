@@ -1,5 +1,6 @@
 mod Above
 mod Alone
+mod Boths
 mod Branches
 mod Clashes
 mod Climbing
@@ -23,9 +24,11 @@ mod Pids
 mod Places
 mod Results
 mod Seen
+mod Soles
 pub mod Stacks
 mod Summed
 mod Tables
+mod Totals
 mod Unwinding
 mod Walks
 mod Ways

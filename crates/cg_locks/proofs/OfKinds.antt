@@ -2,7 +2,7 @@
 use Rattle.std.proofs.Common.{◌≡◌, ℕ, ◌+◌, ◌<◌, ◌==◌, ◌&&◌, List, refl, sym, ap, subst, ◌∙◌, arith}
 use Rattle.cg_name.specs.Path.{Path}
 use Rattle.cg_model.specs.Footprint.{Mark, X, S, N, Pid, Count}
-use Rattle.cg_locks.specs.declared.table.LockTable.TheInside.{Inside}
+use Rattle.cg_locks.specs.declared.shared_marks.SharedMarks.TheInside.{Inside}
 use Rattle.cg_locks.specs.declared.mark.Mark as rust
 use Rattle.cg_locks.specs.declared.held.Kind.{Kind}
 use Rattle.cg_locks.specs.declared.held.Kind.TheVariants as kinds_of

@@ -33,7 +33,7 @@ module _ {K X : Type 0} {R : K → K → Ordering} (o : IsTotalOrder R) (same : 
 
   module _ (f : K × X → ℕ) where
     -- what the key adds to the sum
-    abbrev of_found : K → Option X → ℕ
+    abbrev pub of_found : K → Option X → ℕ
     of_found k None = 0
     of_found k (Some x) = f (k, x)
 

@@ -19,15 +19,15 @@ use Rattle.cg_locks.specs.Table.{ByKind, count_of, if_any, of_kind, table_by, ta
 use Rattle.cg_locks.proofs.Marks.{holding_cmp_total, holding_cmp_exact}
 
 -- the transaction and the mark are listed
-abbrev IsListed : ℕ × Mark → List (ℕ × Mark) → Type 0
+abbrev pub IsListed : ℕ × Mark → List (ℕ × Mark) → Type 0
 IsListed h [] = ⊥
 IsListed h (k ∷ ks) = (h ≡ k) ⊎ IsListed h ks
 
-listed_first : (h : ℕ × Mark) (ks ls : List (ℕ × Mark)) → IsListed h ks → IsListed h (ks ++ ls)
+pub listed_first : (h : ℕ × Mark) (ks ls : List (ℕ × Mark)) → IsListed h ks → IsListed h (ks ++ ls)
 listed_first h [] ls w = absurd w
 listed_first h (k ∷ ks) ls w = elim w [ inl e ↦ inl e | inr v ↦ inr (listed_first h ks ls v) ]
 
-listed_then : (h : ℕ × Mark) (ks ls : List (ℕ × Mark)) → IsListed h ls → IsListed h (ks ++ ls)
+pub listed_then : (h : ℕ × Mark) (ks ls : List (ℕ × Mark)) → IsListed h ls → IsListed h (ks ++ ls)
 listed_then h [] ls w = w
 listed_then h (k ∷ ks) ls w = inr (listed_then h ks ls w)
 
@@ -54,7 +54,7 @@ module _ (f : ℕ → Mark → ℕ) where
     ]
   ] refl
 
-  all_listed : (h : ℕ × Mark) (ks : List (ℕ × Mark)) → (0 < f h.0 h.1 → IsListed h ks) → get (table_by f ks) h ≡ if_any (f h.0 h.1)
+  pub all_listed : (h : ℕ × Mark) (ks : List (ℕ × Mark)) → (0 < f h.0 h.1 → IsListed h ks) → get (table_by f ks) h ≡ if_any (f h.0 h.1)
   all_listed h ks w = elim (f h.0 h.1) as (λ n. f h.0 h.1 ≡ n → get (table_by f ks) h ≡ if_any n) [
     | zero ↦ λ e. never h ks e
     | suc n ↦ λ e. listed h ks (w (omega (arith, e))) ∙ ap if_any e
@@ -126,7 +126,7 @@ module _ (K : ByKind) where
   unfolding table_of
   entry_told u m = all_listed (count_of K) (u, m) (ofX ++ (ofS ++ (ofN ++ (ofPid ++ ofCount)))) (covered u m)
 
-or_none : (n : ℕ) → unwrap_or (if_any n) 0 ≡ n
+pub or_none : (n : ℕ) → unwrap_or (if_any n) 0 ≡ n
 or_none zero = refl
 or_none (suc n) = refl
 
@@ -155,7 +155,7 @@ more_told K L G H t n g h more u m =
 
 -- ---- tables that tell the same
 
-neat_any : (k n : ℕ) → if_any k ≡ Some n → 0 < n
+pub neat_any : (k n : ℕ) → if_any k ≡ Some n → 0 < n
 neat_any zero n e = absurd (none-some n e)
 neat_any (suc k) n e = let is : suc k ≡ n = same_Some (suc k) n e in omega (arith, is)
 

@@ -1,3 +1,4 @@
+pub mod Both
 pub mod Clashing
 pub mod Counts
 pub mod FirstsAndOthers
@@ -8,6 +9,7 @@ pub mod Holdings
 pub mod Marks
 pub mod Meaning
 pub mod Single
+pub mod Sole
 pub mod Stacks
 pub mod Table
 pub mod Together

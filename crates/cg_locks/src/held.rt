@@ -127,15 +127,15 @@ impl Held {
     }
 
     // How often the transaction holds what is in this part.
-    pub(crate) fn count(&self, part: Part, transaction: TxnNumber) -> usize
+    pub(crate) fn count(&self, part: Part, transaction: TxnNumber) -> u32
         ensures { result ≡ held_by (part_of part self.now) transaction.0 }
     {
         let first = self.firsts.get(part);
         if first.holder == transaction.0 {
-            return first.times as usize;
+            return first.times;
         }
         let (_, times) = place_in(&self.others, part, transaction.0);
-        times as usize
+        times
     }
 
     // The least other transaction in this part.

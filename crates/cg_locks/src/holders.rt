@@ -56,13 +56,13 @@ impl Holders {
     }
 
     // How often the transaction holds it.
-    pub(crate) fn count(&self, transaction: TxnNumber) -> usize
+    pub(crate) fn count(&self, transaction: TxnNumber) -> u32
         ensures { result ≡ held_by self.now transaction.0 }
     {
         if self.first == transaction.0 {
-            return self.times as usize;
+            return self.times;
         }
-        count_in(&self.others, transaction.0) as usize
+        count_in(&self.others, transaction.0)
     }
 
     // The least other transaction that holds it.

@@ -12,6 +12,8 @@ mod numbered;
 mod other_holders;
 mod path_holders;
 mod pid_holders;
+mod shared_marks;
+mod sole_marks;
 mod table;
 mod taken_at;
 mod upward;

@@ -1,12 +1,13 @@
 //! Marks: what a command has until its transaction ends or it is taken off (this project's own choice: two-phase locking of
 //! subtrees, of single groups and processes, and of numbers of descendants).
-ghost use Rattle.std.specs.Prelude.{◌≡◌, ◌∷◌, List, option_copied};
+ghost use Rattle.std.specs.Prelude.{◌≡◌, ◌∷◌, IfOk, List, option_copied};
 ghost use Rattle.cg_locks.specs.Marks.{same_mark};
 ghost use Rattle.cg_locks.specs.Meaning.{mark_of};
 ghost use Rattle.cg_model.specs.Footprint as model;
 ghost use Rattle.cg_model.specs.Footprint.{changed, clash};
 
 use cg_name::Path;
+use std::alloc::{AllocError, Global};
 
 /// What a command locks, of the tree; but for numbers of descendants, for which a footprint has `Counted`.
 #[derive(Drop)]
@@ -33,6 +34,18 @@ impl Mark {
         }
     }
 
+    // The same mark; an error where there is no memory for it.
+    pub(crate) fn copy(&self, alloc: Global) -> Result<Mark, AllocError>
+        ensures { IfOk result (λ m. mark_of m ≡ mark_of self.now) }
+    {
+        Ok(match self {
+            Mark::Changed(path) => Mark::Changed(path.copy(alloc)?),
+            Mark::Read(path) => Mark::Read(path.copy(alloc)?),
+            Mark::Stays(path) => Mark::Stays(path.copy(alloc)?),
+            Mark::Process(pid) => Mark::Process(*pid),
+        })
+    }
+
     // Whether the two are one mark.
     #[tactic(auto, using(crate::proofs::Marks::compared))]
     pub(crate) fn is_same(&self, other: &Mark) -> bool
@@ -43,6 +56,17 @@ impl Mark {
             (Mark::Read(path), Mark::Read(other)) => path == other,
             (Mark::Stays(path), Mark::Stays(other)) => path == other,
             (Mark::Process(pid), Mark::Process(other)) => pid == other,
+            _ => false,
+        }
+    }
+
+    // Whether it is that of the subtree of the group at the path, to be changed.
+    #[tactic(auto, using(crate::proofs::Marks::compared))]
+    pub(crate) fn is_changed_at(&self, path: &Path) -> bool
+        ensures { result ≡ same_mark (model.X path.now) (mark_of self.now) }
+    {
+        match self {
+            Mark::Changed(own) => path == own,
             _ => false,
         }
     }

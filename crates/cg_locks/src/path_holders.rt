@@ -89,7 +89,7 @@ impl PathHolders {
     }
 
     // How often the transaction holds the mark of this kind at the path.
-    pub(crate) fn count(&self, kind: Kind, path: &Path, transaction: TxnNumber) -> usize
+    pub(crate) fn count(&self, kind: Kind, path: &Path, transaction: TxnNumber) -> u32
         ensures { result ≡ held_at (of_kind self.now kind) path.now transaction.0 }
     {
         self.nodes.laws();
@@ -99,6 +99,15 @@ impl PathHolders {
                 held.count(kind.at_path(), transaction)
             }
             None => 0,
+        }
+    }
+
+    // Whether the root's node tells of no mark at a path.
+    #[inline(always)]
+    pub(crate) fn is_quiet(&self) -> bool {
+        match self.nodes.root() {
+            Some(root) => self.nodes.get(root).is_empty(),
+            None => true,
         }
     }
 
@@ -206,7 +215,7 @@ impl PathHolders {
     }
 
     // How often it holds that of the path's first names.
-    fn count_counted(&self, path: &Path, depth: u32, transaction: TxnNumber) -> usize
+    fn count_counted(&self, path: &Path, depth: u32, transaction: TxnNumber) -> u32
         ensures { result ≡ held_at self.now.descendants (take depth path.now) transaction.0 }
     {
         self.nodes.laws();

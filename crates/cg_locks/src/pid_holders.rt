@@ -12,7 +12,7 @@ use std::alloc::{AllocError, Global};
 const KEPT: usize = 4096;
 
 // How often the transaction holds the place of the process.
-pub(crate) fn count(holders: &IndexMap<u32, Holders>, pid: u32, transaction: TxnNumber) -> usize
+pub(crate) fn count(holders: &IndexMap<u32, Holders>, pid: u32, transaction: TxnNumber) -> u32
     ensures { result ≡ held_for holders.now.entries pid transaction.0 }
 {
     match holders.get(&pid) {

@@ -9,30 +9,40 @@ ghost use Rattle.cg_locks.specs.Meaning.{counts_of, mark_of};
 ghost use Rattle.cg_model.specs.Footprint as model;
 
 use crate::footprint::{Counted, Footprint, times_in};
-use crate::held::Kind;
-use crate::holders::{Holders, lesser};
+use crate::holders::lesser;
 use crate::mark::Mark;
-use crate::path_holders::PathHolders;
-use crate::pid_holders;
+use crate::shared_marks::SharedMarks;
+use crate::sole_marks::SoleMarks;
 use crate::taken_at::TakenAt;
 use cg_name::{Path, TxnNumber};
 use cg_path_tree::NodeKey;
-use indexmap::IndexMap;
 use std::alloc::{AllocError, Global};
 use std::marker::Model;
 
+// So often nothing is held before marks stand apart again: transactions that come one after another for so long will most likely go
+// on so, and where two have marks at once again and again, none is moved again and again.
+const QUIET: u32 = 64;
+
 /// Which transaction holds which mark, and how often.
 pub struct LockTable {
-    marks: PathHolders,
-    processes: IndexMap<u32, Holders>,
+    // As long as one transaction alone holds marks, they stand apart, where it costs less to take them and to let them go. Before
+    // another takes any, they are put with its own.
+    sole: SoleMarks,
+    shared: SharedMarks,
+    // Whether the marks that are taken next are to stand apart, and how often nothing was held since two transactions had marks at
+    // once. That is for speed alone.
+    is_sole: bool,
+    quiet: u32,
 }
 
 // By hand, so that whoever drops one calls this, and doesn't drop each thing in it: that makes proofs shorter.
 impl Drop for LockTable {
     fn drop(self) {
         let LockTable {
-            marks: _,
-            processes: _,
+            sole: _,
+            shared: _,
+            is_sole: _,
+            quiet: _,
         } = self;
     }
 }
@@ -44,9 +54,9 @@ impl Model for LockTable {
 
     ghost coded = { holdings_code };
 
-    ghost use Rattle.cg_locks.specs.Table.{by_kind, table_of};
+    ghost use Rattle.cg_locks.specs.Both.{both};
 
-    ghost view = { λ t. table_of (by_kind t.marks t.processes.entries) };
+    ghost view = { λ t. both t.sole t.shared };
 }
 
 impl LockTable {
@@ -55,8 +65,10 @@ impl LockTable {
         ensures { (u : ℕ) (m : model.Mark) → holdings result u m ≡ 0 }
     {
         LockTable {
-            marks: PathHolders::new(alloc),
-            processes: IndexMap::new(alloc),
+            sole: SoleMarks::new(alloc),
+            shared: SharedMarks::new(alloc),
+            is_sole: true,
+            quiet: 0,
         }
     }
 
@@ -66,10 +78,48 @@ impl LockTable {
     pub fn visit(&mut self, path: &Path, number: Option<u32>)
         ensures { self.new ≡ self.old }
     {
-        match number {
-            Some(number) => self.marks.visit_numbered(path, number),
-            None => self.marks.visit(path),
+        // Marks that stand apart aren't looked for at the nodes of others.
+        if self.sole.is_empty() {
+            self.shared.visit(path, number);
         }
+    }
+
+    /// Makes ready for a transaction that is about to ask what is in its way, and to take marks: those of another that stand apart are
+    /// put where each is found, which costs as much as to take them there at once would have, and no more than 4,096 are moved. All
+    /// calls answer the same without it, only slower. An error, where there is no memory for it, leaves the table as it was too.
+    pub fn share(&mut self, alloc: Global, transaction: TxnNumber) -> Result<(), AllocError>
+        ensures { self.new ≡ self.old }
+    {
+        if self.sole.is_of_another(transaction) {
+            self.is_sole = false;
+            self.quiet = 0;
+            return self.share_all(alloc);
+        }
+        Ok(())
+    }
+
+    // Puts the marks that stand apart with the others.
+    #[inline(never)]
+    fn share_all(&mut self, alloc: Global) -> Result<(), AllocError>
+        ensures { self.new ≡ self.old }
+    {
+        self.tell();
+        let shared = self.share_each(alloc);
+        self.tell();
+        shared
+    }
+
+    // The same, one by one, from the last on.
+    fn share_each(&mut self, alloc: Global) -> Result<(), AllocError>
+        ensures { (u : ℕ) (m : model.Mark) → holdings self.new u m ≡ holdings self.old u m }
+    {
+        while let Some((holder, mark)) = self.sole.last(alloc)? {
+            self.shared.take_mark(alloc, holder, &mark)?;
+            self.sole.remove(holder, &mark, NodeKey::new(0));
+            // By a call, so that there is one way to the end of a turn: that makes the proof shorter.
+            drop(mark);
+        }
+        Ok(())
     }
 
     /// The least other transaction that holds a mark which clashes with one of the footprint. Takes no memory.
@@ -103,24 +153,18 @@ impl LockTable {
         requires { IfSome counted (λ c. AreDescending (length c.path.now) c.depths.now) }
         ensures { IsLeast (IsInTheWay self.now transaction.0 (counts_of counted.entry)) (option_map number_of result) }
     {
-        match counted {
-            Some(these) => self
-                .marks
-                .least_counted(these.path, these.depths, transaction),
-            None => None,
-        }
+        self.sole.tell_counts();
+        self.shared.least_counted(transaction, counted)
     }
 
     // The least other transaction that holds a mark which clashes with this one.
     fn clash_with(&self, transaction: TxnNumber, mark: &Mark) -> Option<TxnNumber>
         ensures { IsLeastInTheWay self.now transaction.0 (mark_of mark.now) (option_map number_of result) }
     {
-        match mark {
-            Mark::Changed(path) => self.marks.least_in_way(Kind::Changed, path, transaction),
-            Mark::Read(path) => self.marks.least_in_way(Kind::Read, path, transaction),
-            Mark::Stays(path) => self.marks.least_in_way(Kind::Stays, path, transaction),
-            Mark::Process(pid) => pid_holders::least(&self.processes, *pid, transaction),
-        }
+        lesser(
+            self.sole.least_clashing(transaction, mark),
+            self.shared.least_clashing(transaction, mark),
+        )
     }
 
     /// Whether the transaction holds each mark at least as often as it stands in the footprint. Takes no memory.
@@ -155,31 +199,22 @@ impl LockTable {
         requires { IfSome counted (λ c. AreDescending (length c.path.now) c.depths.now) }
         ensures { IsTrue result ↔ HoldsAll self.now transaction.0 (counts_of counted.entry) }
     {
-        match counted {
-            Some(these) => self
-                .marks
-                .holds_counted(these.path, these.depths, transaction),
-            None => true,
-        }
+        self.sole.tell_counts();
+        self.shared.holds_counted(transaction, counted)
     }
 
     // How often the transaction holds the mark.
     fn count(&self, transaction: TxnNumber, mark: &Mark) -> usize
         ensures { result ≡ holdings self.now transaction.0 (mark_of mark.now) }
     {
-        match mark {
-            Mark::Changed(path) => self.marks.count(Kind::Changed, path, transaction),
-            Mark::Read(path) => self.marks.count(Kind::Read, path, transaction),
-            Mark::Stays(path) => self.marks.count(Kind::Stays, path, transaction),
-            Mark::Process(pid) => pid_holders::count(&self.processes, *pid, transaction),
-        }
+        self.sole.count(transaction, mark) as usize + self.shared.count(transaction, mark) as usize
     }
 
     /// Whether the transaction holds the subtree of the group at the path, to change it. Takes no memory.
     pub fn holds_changed(&self, transaction: TxnNumber, path: &Path) -> bool
         ensures { IsTrue result ↔ (0 < holdings self.now transaction.0 (model.X path.now)) }
     {
-        self.marks.count(Kind::Changed, path, transaction) > 0
+        self.sole.holds_changed(transaction, path) || self.shared.holds_changed(transaction, path)
     }
 
     /// Adds one holding by the transaction of each mark of the footprint. An error, where there is no memory for them, leaves
@@ -217,20 +252,34 @@ impl LockTable {
         let mut taken_at = footprint.taken_at();
         self.release_counted(transaction, counted, taken_at.next());
         self.release_all(transaction, marks, footprint.taken_at());
+        if !self.is_sole {
+            self.look_for_quiet();
+        }
+    }
+
+    // Where nothing is held any more, and it was so often before, marks stand apart again: transactions come one after another.
+    fn look_for_quiet(&mut self)
+        ensures { self.new ≡ self.old }
+    {
+        if self.shared.is_quiet() {
+            self.quiet = self.quiet.saturating_add(1);
+            self.is_sole = self.quiet >= QUIET;
+        }
     }
 
     // Makes room for what visits are to note. An error, where there is no memory for it, leaves the table as it was.
     fn make_room(&mut self) -> Result<(), AllocError>
         ensures { self.new ≡ self.old }
     {
-        self.marks.make_room()
+        self.shared.make_room()
     }
 
     // A table tells what holds of it when a part of it is looked at: who holds a mark never isn't named.
     fn tell(&self)
         ensures { IsNeat self.now }
     {
-        let _ = &self.marks;
+        self.sole.tell();
+        self.shared.tell();
     }
 
     // Adds one holding of each of the marks, and gives where they are. An error, where there is no memory for them, leaves the
@@ -269,12 +318,7 @@ impl LockTable {
         ensures ok { OnOk result ((u : ℕ) (m : model.Mark) → holdings self.new u m ≡ holdings self.old u m + cond (u == transaction.0) (times m (counts_of counted.entry)) 0) }
         ensures err { OnErr result (self.new ≡ self.old) }
     {
-        match counted {
-            Some(these) => self
-                .marks
-                .add_counted(alloc, these.path, these.depths, transaction),
-            None => Ok(()),
-        }
+        self.shared.take_counted(alloc, transaction, counted)
     }
 
     // Takes away one holding of each of those on numbers of descendants, if there are any: the transaction holds them. Their
@@ -288,10 +332,8 @@ impl LockTable {
         requires { HoldsAll self.old transaction.0 (counts_of counted) }
         ensures { (u : ℕ) (m : model.Mark) → holdings self.new u m + cond (u == transaction.0) (times m (counts_of counted.entry)) 0 ≡ holdings self.old u m }
     {
-        if let Some(these) = counted {
-            self.marks
-                .remove_counted(these.path, these.depths, near, transaction);
-        }
+        self.sole.tell_counts();
+        self.shared.release_counted(transaction, counted, near);
     }
 
     // Takes away one holding of each of the marks, which the transaction holds, most likely there.
@@ -316,15 +358,12 @@ impl LockTable {
         ensures ok { OnOk result (IsHeldOnceMore self.old transaction.0 (mark_of mark.now) self.new) }
         ensures err { OnErr result (self.new ≡ self.old) }
     {
-        match mark {
-            Mark::Changed(path) => self.marks.add(alloc, Kind::Changed, path, transaction),
-            Mark::Read(path) => self.marks.add(alloc, Kind::Read, path, transaction),
-            Mark::Stays(path) => self.marks.add(alloc, Kind::Stays, path, transaction),
-            Mark::Process(pid) => {
-                pid_holders::add(&mut self.processes, alloc, *pid, transaction)?;
-                Ok(NodeKey::new(0))
+        if self.is_sole {
+            if let Some(place) = self.sole.add(alloc, transaction, mark)? {
+                return Ok(place);
             }
         }
+        self.shared.take_mark(alloc, transaction, mark)
     }
 
     // Takes away one holding of the mark, which the transaction holds: if it is at a path, most likely at this node.
@@ -332,13 +371,8 @@ impl LockTable {
         requires { 0 < holdings self.old transaction.0 (mark_of mark.now) }
         ensures { IsHeldOnceMore self.new transaction.0 (mark_of mark.now) self.old }
     {
-        match mark {
-            Mark::Changed(path) => self.marks.remove(Kind::Changed, path, near, transaction),
-            Mark::Read(path) => self.marks.remove(Kind::Read, path, near, transaction),
-            Mark::Stays(path) => self.marks.remove(Kind::Stays, path, near, transaction),
-            Mark::Process(pid) => {
-                pid_holders::remove(&mut self.processes, *pid, transaction);
-            }
+        if !self.sole.remove(transaction, mark, near) {
+            self.shared.release_mark(transaction, mark, near);
         }
     }
 }

@@ -236,6 +236,10 @@ fn answers_alike<'m>(
             Ok(release_some(table, list, footprints, all, at))
         }
         11..16 => {
+            // It answers the same, whether it was made ready or not.
+            if place % 2 == 0 {
+                table.share(alloc, transaction)?;
+            }
             let found = table.clash(transaction, footprint);
             Ok(found == clash(list, transaction, marks, tally))
         }

@@ -21,21 +21,26 @@ returns-in-Err-clause-settled c = inl (record {
   refusal = c.in-Err.refusal;
   by =
       subst₂ (λ t g. IsRefusedBy c.args.locks.now t g (effect (command_of c.args.command.now) c.args.tree.now.tree) c.in-Err.refusal)
-      c.number.ensures c.in-Ok.ensures c.in-Err.ensures.refused;
+      c.number-2.ensures c.in-Ok.ensures
+      (subst (λ L. IsRefusedBy L c.number-2.result.0 c.in-Ok.footprint (effect (command_of c.args.command.now) c.args.tree.now.tree) c.in-Err.refusal) c.share.ensures c.in-Err.ensures.refused);
   answer = refl;
   tree = refl;
-  locks = refl;
+  locks = c.share.ensures;
   stack = refl;
   history = one_kept _ _ _ c.in-Ok-reserve.ensures.ok c.release.ensures;
 })
 
 pub returns-clause-settled : goal.returns-clause-settled
 returns-clause-settled c = inr (record {
-  free = subst₂ (λ t g. IsFree c.args.locks.now t g) c.number.ensures c.in-Ok.ensures c.in_default-may_run.ensures.free;
+  free =
+      subst₂ (λ t g. IsFree c.args.locks.now t g) c.number-2.ensures c.in-Ok.ensures
+      (subst (λ L. IsFree L c.number-2.result.0 c.in-Ok.footprint) c.share.ensures c.in_default-may_run.ensures.free);
   carried =
       subst (λ a. IsCarriedOut (command_of c.args.command.now) (length c.args.history.now.0) (footprint (command_of c.args.command.now) c.args.tree.now.tree) c.args.tree.now c.args.locks.now c.args.txn.now a c.carry_out.new.tree c.carry_out.new.locks c.carry_out.new.txn)
       (sym c.answer_with.ensures)
       (subst₂ (λ k g. IsCarriedOut (command_of c.args.command.now) k g c.args.tree.now c.args.locks.now c.args.txn.now (Gave (outcome_of c.in-Ok-carry_out.outcome)) c.carry_out.new.tree c.carry_out.new.locks c.carry_out.new.txn)
-      (c.len-place.ensures ∙ ap (λ (p : History cgroups × ℕ). length p.0) c.in-Ok-reserve.ensures.ok) c.in-Ok.ensures c.in-Ok-carry_out.ensures.done);
+      (c.len-place.ensures ∙ ap (λ (p : History cgroups × ℕ). length p.0) c.in-Ok-reserve.ensures.ok) c.in-Ok.ensures
+      (subst (λ L. IsCarriedOut (command_of c.args.command.now) c.len-place.result c.in-Ok.footprint c.args.tree.now L c.args.txn.now (Gave (outcome_of c.in-Ok-carry_out.outcome)) c.carry_out.new.tree c.carry_out.new.locks c.carry_out.new.txn)
+      c.share.ensures c.in-Ok-carry_out.ensures.done));
   history = c.in-Ok-reserve.ensures.ok;
 })

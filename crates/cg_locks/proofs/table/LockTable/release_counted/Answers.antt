@@ -1,16 +1,11 @@
-use Rattle.std.proofs.Common.{refl, sym, subst}
-use Rattle.cg_locks.specs.Counts.{prefixes}
-use Rattle.cg_locks.specs.Holdings.{HoldsAll}
-use Rattle.cg_locks.specs.Meaning.{counts_of}
-use Rattle.cg_locks.proofs.CountedMarks.{held_of_all, more_by_these}
-use Rattle.cg_locks.proofs.OfKinds.{kinds}
+-- Those on numbers of descendants never stand apart.
+use Rattle.std.proofs.Common.{refl, sym}
+use Rattle.cg_locks.proofs.Boths.{held_by_second, more_by_second}
 use Rattle.cg_locks.proofs.table.LockTable.release_counted.Goals as goal
 
-pub remove_counted-requires : goal.remove_counted-requires
-remove_counted-requires c =
-    held_of_all (kinds c.self.inside) c.args.self.now c.self.view_is c.args.transaction.0 (prefixes c.in-Some.these.path.now c.in-Some.these.depths.now)
-    (subst (λ o. HoldsAll c.args.self.now c.args.transaction.0 (counts_of o)) c.in-Some.is c.requires)
+pub release_counted-requires : goal.release_counted-requires
+release_counted-requires c = held_by_second c.self.inside.sole c.self.inside.shared c.args.self.now c.self.view_is c.tell_counts.ensures c.args.transaction.0 c.args.counted c.requires
 
-pub returns-in-Some : goal.returns-in-Some
-returns-in-Some c = λ u m.
-    sym (more_by_these c.remove_counted.new.self c.self.inside.marks c.self.inside.processes.entries c.args.counted c.in-Some.these c.in-Some.is c.args.transaction.0 c.remove_counted.ensures _ c.args.self.now refl c.self.view_is u m)
+pub returns : goal.returns
+returns c = λ u m.
+    sym (more_by_second c.self.inside.sole c.release_counted.new.self c.self.inside.sole c.self.inside.shared _ c.args.self.now refl c.self.view_is _ refl (λ v n. sym (c.release_counted.ensures v n)) u m)
