@@ -49,15 +49,15 @@ module _ {O : Tree} {b : ℕ} {h : History cgroups} {n : ℕ} {R : TreeWithRoom}
   pub may_abort : AllMayComeOff x.number x.items R H
   may_abort = subst (λ l. AllMayComeOff x.number l R H) (sym (items_are core s x here)) (whole_may_come_off x.number (is_open core s x here) core.holds (unwindable core s x here))
 
-  -- and with that it ends
-  pub abort_ends : {k : ℕ} {R' : TreeWithRoom} {H' : Holdings} {xs' : List (ℕ × Stack)} → k ≡ x.number → AllComeOff x.number x.items R H R' H' → xs' ≡ without s xs
-      → IsEnd core s x here Abort (Aborted k) (record { opening = O; limit = b; tree = R'; locks = H'; «open» = xs'; history = (h, n) })
-  abort_ends {k} {R'} {H'} number off removed = record {
+  -- and with that it ends, and l is noted
+  pub abort_ends : (l : ℕ) {k : ℕ} {R' : TreeWithRoom} {H' : Holdings} {xs' : List (ℕ × Stack)} → k ≡ x.number → AllComeOff x.number x.items R H R' H' → xs' ≡ without s xs
+      → IsEnd core s x here Abort (Aborted k) (record { opening = O; limit = b; tree = R'; locks = H'; «open» = xs'; history = (h, n); usual = l })
+  abort_ends l {k} {R'} {H'} number off removed = record {
     proper = tt;
     answered = ap Aborted (sym number);
     noted = refl;
     closes = refl;
-    rest = λ i. record { opening = O; limit = b; tree = R'; locks = H'; «open» = removed i; history = (h, n) };
+    rest = λ i. record { opening = O; limit = b; tree = R'; locks = H'; «open» = removed i; history = (h, n); usual = l };
     holds =
         subst (λ T. Holds O (numbers (opens h)) (with_items x.number [] (λ u. live u h)) T R' H') (sym (unwound_is O (live x.number h) (tree_of cgroups O h)))
         (held_after_whole_off x.number (is_open core s x here) core.holds (unwindable core s x here) R' H' (subst (λ l. AllComeOff x.number l R H R' H') (items_are core s x here) off));
@@ -74,15 +74,15 @@ module _ {O : Tree} {b : ℕ} {h : History cgroups} {n : ℕ} {R : TreeWithRoom}
       subst (λ l. AllMayLetGo x.number (reverse l) R H) (sym (items_are core s x here))
       (all_may_let_go O (numbers (opens h)) (λ u. live u h) (tree_of cgroups O h) x.number (is_open core s x here) drainable core.holds)
 
-  -- and with that it ends, where so many have committed
-  pub commit_ends : {g : ℕ} {R' : TreeWithRoom} {H' : Holdings} {xs' : List (ℕ × Stack)} → g ≡ commits h → AllLetGo x.number (reverse x.items) R H R' H' → xs' ≡ without s xs
-      → IsEnd core s x here Commit (Committed (g + 1)) (record { opening = O; limit = b; tree = R'; locks = H'; «open» = xs'; history = (h, n) })
-  commit_ends {g} {R'} {H'} counted let_go removed = record {
+  -- and with that it ends, where so many have committed, and l is noted
+  pub commit_ends : (l : ℕ) {g : ℕ} {R' : TreeWithRoom} {H' : Holdings} {xs' : List (ℕ × Stack)} → g ≡ commits h → AllLetGo x.number (reverse x.items) R H R' H' → xs' ≡ without s xs
+      → IsEnd core s x here Commit (Committed (g + 1)) (record { opening = O; limit = b; tree = R'; locks = H'; «open» = xs'; history = (h, n); usual = l })
+  commit_ends l {g} {R'} {H'} counted let_go removed = record {
     proper = tt;
     answered = ap (λ g. Committed (g + 1)) (sym counted);
     noted = refl;
     closes = refl;
-    rest = λ i. record { opening = O; limit = b; tree = R'; locks = H'; «open» = removed i; history = (h, n) };
+    rest = λ i. record { opening = O; limit = b; tree = R'; locks = H'; «open» = removed i; history = (h, n); usual = l };
     holds =
         held_after_all_let_go O (numbers (opens h)) (λ u. live u h) (tree_of cgroups O h) x.number (is_open core s x here) drainable core.holds R' H'
         (subst (λ l. AllLetGo x.number (reverse l) R H R' H') (items_are core s x here) let_go);

@@ -30,7 +30,8 @@ impl Core {
             return Answer::Refused(Refusal::Memory);
         };
         let number = TxnNumber(self.history.begun() + 1);
-        let Ok(()) = self.open.insert(session, Txn::new(alloc, number)) else {
+        let txn = Txn::expecting(alloc, number, self.usual);
+        let Ok(()) = self.open.insert(session, txn) else {
             self.history.release(2);
             return Answer::Refused(Refusal::Memory);
         };

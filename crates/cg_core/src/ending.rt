@@ -29,9 +29,10 @@ impl Core {
             return Answer::Refused(Refusal::NoTransaction);
         };
         let number = txn.number();
+        let items = txn.len();
+        self.usual = items;
         match ending {
             Ending::Abort => {
-                let items = txn.len();
                 cg_txn::abort(&mut self.tree, &mut self.locks, txn);
                 self.history.push(Record {
                     session,

@@ -43,6 +43,8 @@ pub struct Core {
     pub(crate) open: SessionMap<Txn>,
     // With a slot reserved for the end of each open transaction, and for each item on its stack.
     pub(crate) history: CommitHistory,
+    // How many items stood of the transaction that ended last: so many are expected of the next one.
+    pub(crate) usual: usize,
 }
 
 // By hand, so that whoever drops one calls this, and doesn't drop each thing in it: that makes proofs shorter.
@@ -55,6 +57,7 @@ impl Drop for Core {
             locks: _,
             open: _,
             history: _,
+            usual: _,
         } = self;
     }
 }
@@ -91,6 +94,7 @@ impl Core {
             locks: LockTable::new(alloc),
             open: SessionMap::new(alloc),
             history: CommitHistory::new(alloc),
+            usual: 0,
         })
     }
 

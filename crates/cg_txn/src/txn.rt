@@ -19,6 +19,9 @@ use std::marker::Model;
 // For how many items room is made at least, where there is none: most transactions are short, and then this is done once.
 const AT_ONCE: usize = 8;
 
+// How many are expected at most: those that never come have their room for nothing.
+const MOST_EXPECTED: usize = 512;
+
 /// An open transaction: its number, what stands of it, and whether room for one more item is reserved.
 pub struct Txn {
     number: TxnNumber,
@@ -27,6 +30,8 @@ pub struct Txn {
     // Those of the savepoints among the items, in the same order.
     names: IndexSet<SaveName>,
     reserved: bool,
+    // For how many items room is made where a command finds none, so that they aren't moved again and again as more come.
+    expected: usize,
 }
 
 // By hand, so that whoever drops one calls this, and doesn't drop each thing in it: that makes proofs shorter. It
@@ -39,6 +44,7 @@ impl Drop for Txn {
             items: _,
             names: _,
             reserved: _,
+            expected: _,
         } = self;
     }
 }
@@ -65,11 +71,20 @@ impl Txn {
     pub fn new(alloc: Global, number: TxnNumber) -> Txn
         ensures { result ≡ record { number = number.0; items = []; reserved = false } }
     {
+        Txn::expecting(alloc, number, AT_ONCE)
+    }
+
+    /// The same, for whoever expects that so many items will stand: room for them, 8 at least and 512 at most, is made where a
+    /// command finds none. More may come, and fewer.
+    pub fn expecting(alloc: Global, number: TxnNumber, items: usize) -> Txn
+        ensures { result ≡ record { number = number.0; items = []; reserved = false } }
+    {
         Txn {
             number,
             items: VecDeque::new(alloc),
             names: IndexSet::new(alloc),
             reserved: false,
+            expected: items.min(MOST_EXPECTED),
         }
     }
 
@@ -148,7 +163,8 @@ impl Txn {
         ensures again { IsTrue self.old.reserved → IsOk result }
     {
         if self.items.len() == self.items.capacity() {
-            self.items.reserve(AT_ONCE)?;
+            let awaited = self.expected.saturating_sub(self.items.len());
+            self.items.reserve(awaited.max(AT_ONCE))?;
         }
         self.reserved = true;
         Ok(())
