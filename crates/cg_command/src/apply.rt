@@ -7,7 +7,7 @@ ghost use Rattle.cg_model.specs.Effect.{effect};
 use crate::boxed_text::BoxedText;
 use crate::command::Outcome;
 use cg_boxed::{BoxedCpus, BoxedSettings, CompactSettings};
-use cg_derive::text_of_file;
+use cg_derive::{fixed_text, text_of_file};
 use cg_inverse::{Change, Inverse};
 use cg_name::Path;
 use cg_text::{FileName, Limit};
@@ -230,7 +230,9 @@ pub(crate) fn show(
     requires { IsAccepted (effect (model.Show path.now file) tree.now.tree) }
     ensures { IsCarriedOut (model.Show path.now file) tree.now result tree.now }
 {
-    let text = text_of_file(alloc, tree, path, file)?;
-    let text = BoxedText::new(alloc, text.as_slice())?;
+    let text = match fixed_text(tree, path, file) {
+        Some(text) => BoxedText::new(alloc, text)?,
+        None => BoxedText::new(alloc, text_of_file(alloc, tree, path, file)?.as_slice())?,
+    };
     Ok((Outcome::Text(text), Inverse::new(alloc)))
 }

@@ -1,5 +1,5 @@
 //! The interface files of a group (the kernel's cgroup-v2 page, "Core Interface Files" and "Cpuset Interface Files").
-ghost use Rattle.std.specs.Prelude.{◌≡◌, ◌≢◌, true, None, Ok, Err, is_ok, is_some, IfOk, IfErr, OnOk};
+ghost use Rattle.std.specs.Prelude.{◌≡◌, ◌≢◌, true, None, Ok, Err, is_ok, is_some, IfOk, IfErr, IfSome, OnOk};
 ghost use Rattle.cg_model.specs.Derived.{available, processes, with_cpuset};
 ghost use Rattle.cg_model.specs.File.{file};
 ghost use Rattle.cg_model.specs.Tree.{group};
@@ -8,7 +8,8 @@ ghost use Rattle.cg_name.specs.declared.refusal.Refusal.TheVariants.{Memory, NoG
 use crate::values::{available, effective_cpus, is_frozen};
 use cg_name::{Path, Refusal};
 use cg_text::{
-    FileName, write_controllers, write_cpus, write_events, write_flag, write_limit, write_procs,
+    FileName, events_bytes, flag_bytes, write_controllers, write_cpus, write_events, write_flag,
+    write_limit, write_procs,
 };
 use cg_tree::Tree;
 use std::alloc::{AllocError, Global};
@@ -63,6 +64,23 @@ pub fn file(alloc: Global, tree: &Tree, path: &Path, name: FileName) -> Result<V
 {
     check_file(tree, path, name)?;
     Ok(text_of_file(alloc, tree, path, name)?)
+}
+
+/// The text of the file of the group at the path, which has such a file, where that is one of a few: of `cgroup.events` and
+/// `cgroup.freeze`. Takes no memory.
+#[inline(always)]
+pub fn fixed_text(tree: &Tree, path: &Path, name: FileName) -> Option<&'static [u8]>
+    requires present { is_ok (file tree.now.tree path.now name) ≡ true }
+    ensures value { IfSome result (λ text. file tree.now.tree path.now name ≡ Ok text.now) }
+{
+    match name {
+        FileName::Events => Some(events_bytes(tree.is_populated(path), is_frozen(tree, path))),
+        FileName::Freeze => {
+            let settings = tree.settings(path)?;
+            Some(flag_bytes(settings.freeze()))
+        }
+        _ => None,
+    }
 }
 
 /// The text of the file of the group at the path, which has such a file. An error, where there is no memory for the text.

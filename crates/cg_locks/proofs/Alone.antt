@@ -66,11 +66,6 @@ alone_at_root T sums k b e p t h there none =
     none_seen t (here_of kinds.Changed h) (in_way (marked T) k p)
     (λ u low. subst (λ n. 0 < n) (weighed_there (here_of kinds.Changed) T [] h u there) (all_from T sums [] u (told_at_root T p u k b e low))) none
 
-pub no_number : (r : Option TxnNumber) (b : Bool) → is_some r ≡ not b → IsTrue b → option_map number_of r ≡ None
-no_number None b e alone = refl
-no_number (Some n) true e alone = absurd (true≢false e)
-no_number (Some n) false e alone = absurd (true≢false (sym alone))
-
 pub some_part : (k : Kind) (r : Option Part) (b : Bool) → r ≡ at_or_below k → is_some r ≡ not b → b ≡ false → (s : Part) × (at_or_below k ≡ Some s)
 some_part k None b is e there = absurd (true≢false (sym (e ∙ ap not there)))
 some_part k (Some s) b is e there = (s, sym is)

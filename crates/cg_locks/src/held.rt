@@ -1,7 +1,8 @@
 //! Who holds what at one path.
-ghost use Rattle.std.specs.Prelude.{◌≡◌, ◌+◌, ◌<◌, ℕ, IfOk, IsTrue, OnErr, OnOk, option_map};
+ghost use Rattle.std.specs.Prelude.{◌≡◌, ◌+◌, ◌<◌, ℕ, IfOk, IsTrue, None, OnErr, OnOk, option_map};
 ghost use Rattle.cg_locks.specs.Held.{above_of, at_or_below, at_path, here_of, part_number, part_of, same_part, IsHeldMore};
 ghost use Rattle.cg_locks.specs.Holders.{held_by, number_of, IsLeastOther};
+ghost use Rattle.cg_locks.specs.declared.held.Kind.TheVariants as kinds;
 ghost use Rattle.cg_locks.specs.declared.held.Part.{Part};
 
 use crate::first_holders::Firsts;
@@ -192,6 +193,15 @@ impl Held {
             Kind::Stays => None,
             Kind::Descendants => self.least_other(Part::CountedAt, transaction),
         }
+    }
+
+    // Whether no other transaction has a mark here or below that clashes with one of a subtree to be changed here. It may say no
+    // where there is none: where two hold one thing it looks no further, since one of them is another.
+    #[inline(always)]
+    pub(crate) fn is_alone(&self, transaction: TxnNumber) -> bool
+        ensures { IsTrue result → IsLeastOther transaction.0 (here_of kinds.Changed self.now) None }
+    {
+        self.others.is_empty() && self.least_here(Kind::Changed, transaction).is_none()
     }
 
     // The least other transaction with a mark of a subtree to be changed here or below, or of a group that stays.

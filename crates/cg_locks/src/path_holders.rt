@@ -158,7 +158,7 @@ impl PathHolders {
         match self.nodes.root() {
             Some(root) => {
                 let held = self.nodes.get(root);
-                held.least_here(Kind::Changed, transaction).is_none()
+                held.is_alone(transaction)
             }
             None => false,
         }

@@ -21,6 +21,6 @@ pub use line_words::LineWords;
 pub use reading::{LAST_PID, read_flag, read_limit, read_ops, read_pid};
 pub use settings::Settings;
 pub use writing::{
-    write_controllers, write_cpus, write_events, write_flag, write_limit, write_names, write_ops,
-    write_procs,
+    events_bytes, flag_bytes, write_controllers, write_cpus, write_events, write_flag, write_limit,
+    write_names, write_ops, write_procs,
 };

@@ -64,28 +64,41 @@ pub fn write_procs(pids: &[u32], out: &mut Vec<u8>) -> Result<(), AllocError>
     or_truncate(written, start, out)
 }
 
-/// Appends what `cgroup.events` shows: whether the group has a live process in it or below it, and whether it is
-/// frozen, each on a line of its own. An error, where there is no memory, leaves `out` as it was.
-pub fn write_events(populated: bool, frozen: bool, out: &mut Vec<u8>) -> Result<(), AllocError>
-    ensures ok { OnOk result (out.new.items ≡ out.old.items ++ events_text populated frozen) }
-    ensures err { OnErr result (out.new.items ≡ out.old.items) }
+/// What `cgroup.events` shows: whether the group has a live process in it or below it, and whether it is frozen, each on a
+/// line of its own.
+pub fn events_bytes(populated: bool, frozen: bool) -> &'static [u8]
+    ensures { result.now ≡ events_text populated frozen }
 {
-    out.extend_from_slice(match (populated, frozen) {
+    match (populated, frozen) {
         (false, false) => b"populated 0\nfrozen 0\n",
         (false, true) => b"populated 0\nfrozen 1\n",
         (true, false) => b"populated 1\nfrozen 0\n",
         (true, true) => b"populated 1\nfrozen 1\n",
-    })?;
+    }
+}
+
+/// Appends what `cgroup.events` shows. An error, where there is no memory, leaves `out` as it was.
+pub fn write_events(populated: bool, frozen: bool, out: &mut Vec<u8>) -> Result<(), AllocError>
+    ensures ok { OnOk result (out.new.items ≡ out.old.items ++ events_text populated frozen) }
+    ensures err { OnErr result (out.new.items ≡ out.old.items) }
+{
+    out.extend_from_slice(events_bytes(populated, frozen))?;
     Ok(())
 }
 
-/// Appends what `cgroup.freeze` shows: `0` or `1`, and a newline. An error, where there is no memory, leaves
-/// `out` as it was.
+/// What `cgroup.freeze` shows: `0` or `1`, and a newline.
+pub fn flag_bytes(flag: bool) -> &'static [u8]
+    ensures { result.now ≡ flag_text flag }
+{
+    if flag { b"1\n" } else { b"0\n" }
+}
+
+/// Appends what `cgroup.freeze` shows. An error, where there is no memory, leaves `out` as it was.
 pub fn write_flag(flag: bool, out: &mut Vec<u8>) -> Result<(), AllocError>
     ensures ok { OnOk result (out.new.items ≡ out.old.items ++ flag_text flag) }
     ensures err { OnErr result (out.new.items ≡ out.old.items) }
 {
-    out.extend_from_slice(if flag { b"1\n" } else { b"0\n" })?;
+    out.extend_from_slice(flag_bytes(flag))?;
     Ok(())
 }
 

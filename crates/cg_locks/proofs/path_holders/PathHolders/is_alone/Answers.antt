@@ -1,9 +1,8 @@
 -- The root's node tells of all holders below it.
 use Rattle.std.proofs.Common.{[], None, sym, subst}
-use Rattle.cg_locks.specs.declared.held.Kind.TheVariants as kinds
-use Rattle.cg_locks.specs.Held.{here_of, in_way}
+use Rattle.cg_locks.specs.Held.{in_way}
 use Rattle.cg_locks.specs.Holders.{IsLeastOther}
-use Rattle.cg_locks.proofs.Alone.{alone_at_root, no_number, some_part}
+use Rattle.cg_locks.proofs.Alone.{alone_at_root, some_part}
 use Rattle.cg_locks.proofs.path_holders.PathHolders.is_alone.Goals as goal
 
 pub returns-in-Some : goal.returns-in-Some
@@ -13,4 +12,4 @@ returns-in-Some c = λ alone.
     let part = some_part c.args.kind c.at_or_below.result c.is_none.result c.at_or_below.ensures c.is_none.ensures c.if-is_none.false in
     subst (λ m. IsLeastOther t (in_way m c.args.kind c.args.path.now) None) c.self.view_is
     (alone_at_root nodes.values c.self.invariant c.args.kind part.0 part.1 c.args.path.now t c.get-held.result.now (c.get-held.ensures [] (sym c.in-Some.ensures))
-    (subst (IsLeastOther t (here_of kinds.Changed c.get-held.result.now)) (no_number c.least_here.result c.is_none-in-Some.result c.is_none-in-Some.ensures alone) c.least_here.ensures))
+    (c.is_alone.ensures alone))
