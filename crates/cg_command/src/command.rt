@@ -101,8 +101,10 @@ pub enum Command {
 // It stands in each record of a history, and is handed on with each line.
 const _: () = prove!(size_of::<Command>() == 32);
 
-// By hand, so that whoever drops one calls this, and doesn't drop each thing in it: that makes proofs shorter.
+// By hand, so that whoever drops one calls this, and doesn't drop each thing in it: that makes proofs shorter. As a rule none is
+// dropped: the record of its step keeps it.
 impl Drop for Command {
+    #[cold]
     fn drop(self) {
         match self {
             Command::Create { path: _ } => {}

@@ -58,6 +58,7 @@ impl Numbered {
     }
 
     // The same, where there is less: for twice as many as before at least.
+    #[cold]
     fn grow(&mut self) -> Result<(), AllocError> {
         let twice = self.nodes.len().saturating_mul(2);
         self.nodes.resize(self.wanted.max(twice), NodeKey::new(0))

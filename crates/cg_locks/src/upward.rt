@@ -115,6 +115,7 @@ fn add_up(
 }
 
 // One holding less by the transaction in this part of the node and of each above it whose path has more than so many names.
+#[cold]
 fn remove_beyond(
     nodes: &mut PathTree<Held>,
     key: NodeKey,

@@ -163,6 +163,7 @@ fn write_names(path: &PathRef<'_>, out: &mut Vec<u8>) -> Result<(), AllocError>
 }
 
 // The same, as it stands between quotation marks.
+#[cold]
 fn write_escaped_names(path: &PathRef<'_>, out: &mut Vec<u8>) -> Result<(), AllocError>
     ensures ok { OnOk result (out.new.items ≡ out.old.items ++ flat_map quoted_byte (flat_map (λ n. 47 ∷ n) path.now)) }
     ensures kept { OnErr result (take (length out.old.items) out.new.items ≡ out.old.items) }

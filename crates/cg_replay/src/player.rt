@@ -216,7 +216,7 @@ impl Player {
     }
 
     // The same, by a look-up.
-    #[inline(never)]
+    #[cold]
     fn session_anew(&mut self, name: SessionName) -> Result<Option<SessionId>, AllocError>
         ensures number { IfOk result (λ s. option_map (λ k. k.0) s ≡ session_number self.old.names name) }
         ensures names { IfOk result (λ s. MatchOption s (self.new ≡ self.old) (λ _. self.new ≡ record self.old { names = with_name self.old.names name })) }
@@ -428,6 +428,7 @@ fn append_line(answer: &Answer, out: &mut Vec<u8>) -> Result<(), AllocError>
 }
 
 /// Appends the answer to a line outside the grammar. An error, where there is no memory for it, leaves `out` as it was.
+#[cold]
 pub fn refuse(out: &mut Vec<u8>) -> Result<(), AllocError>
     ensures ok { OnOk result (out.new.items ≡ out.old.items ++ (refusal_text Syntax ++ newline)) }
     ensures err { OnErr result (out.new.items ≡ out.old.items) }

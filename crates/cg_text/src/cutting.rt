@@ -185,6 +185,7 @@ fn behind_word(text: &[u8]) -> Option<&[u8]>
 }
 
 // What stands behind the closing quotation mark of a text that follows an opening one.
+#[cold]
 fn behind_quoted(text: &[u8]) -> Option<&[u8]>
     ensures { MatchOption result ((rest : Line) → Closes text.now rest → ⊥) (λ rest. Closes text.now rest.now) }
 {

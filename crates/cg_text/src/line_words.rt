@@ -61,7 +61,7 @@ impl<'a> LineWords<'a> {
     }
 
     // The same where `few` has no room.
-    #[inline(never)]
+    #[cold]
     fn push_behind(&mut self, word: &'a str) -> Result<(), AllocError>
         requires full { 8 ≤ length self.old }
         ensures ok { OnOk result (self.new ≡ self.old ++ word.now ∷ []) }
