@@ -81,7 +81,8 @@ fn find_before<V: Drop>(nodes: &Slab<Node<V>>, head: NodeKey, key: NodeKey) -> N
     unreachable!()
 }
 
-// Makes more chains where there are no more than nodes. Where there is no memory for that, all stays.
+// Makes more chains where there are no more than two for each node: so a look-up seldom comes to a node that it isn't for. Where
+// there is no memory for that, all stays.
 #[inline(always)]
 pub(crate) fn make_chains<V: Drop>(
     heads: &mut Vec<NodeKey>,
@@ -96,14 +97,14 @@ pub(crate) fn make_chains<V: Drop>(
     ensures chained { AreChained order.now heads.new.items (link_in nodes.new) }
     ensures some { OnOk result (0 < length heads.new.items) }
 {
-    if order.len() < heads.len() {
+    if order.len() < heads.len() / 2 {
         return Ok(());
     }
     grow(heads, nodes, alloc, order)
 }
 
 // Makes twice as many chains, and links each node anew.
-#[inline(never)]
+#[cold]
 fn grow<V: Drop>(
     heads: &mut Vec<NodeKey>,
     nodes: &mut Slab<Node<V>>,
