@@ -3,6 +3,7 @@ ghost use Rattle.std.specs.Prelude.{◌≡◌, ◌≢◌, true, None, Ok, Err, i
 ghost use Rattle.cg_model.specs.Derived.{available, processes, with_cpuset};
 ghost use Rattle.cg_model.specs.File.{file};
 ghost use Rattle.cg_model.specs.Tree.{group};
+ghost use Rattle.cg_name.specs.declared.file_name.FileName.TheVariants.{Events, Freeze};
 ghost use Rattle.cg_name.specs.declared.refusal.Refusal.TheVariants.{Memory, NoGroup};
 
 use crate::values::{available, effective_cpus, is_frozen};
@@ -72,11 +73,14 @@ pub fn file(alloc: Global, tree: &Tree, path: &Path, name: FileName) -> Result<V
 pub fn fixed_text(tree: &Tree, path: &Path, name: FileName) -> Option<&'static [u8]>
     requires present { is_ok (file tree.now.tree path.now name) ≡ true }
     ensures value { IfSome result (λ text. file tree.now.tree path.now name ≡ Ok text.now) }
+    ensures others { result ≡ None → (name ≢ Events) × (name ≢ Freeze) }
 {
     match name {
         FileName::Events => Some(events_bytes(tree.is_populated(path), is_frozen(tree, path))),
         FileName::Freeze => {
-            let settings = tree.settings(path)?;
+            let Some(settings) = tree.settings(path) else {
+                unreachable!();
+            };
             Some(flag_bytes(settings.freeze()))
         }
         _ => None,
