@@ -8,7 +8,6 @@ use Rattle.cg_model.specs.Opens.{Opens, among, numbers, opens, without}
 use Rattle.cg_model.specs.Run.{tree_of}
 use Rattle.cg_core_laws.proofs.Interleaving.Refusals.{leaves_all}
 use Rattle.cg_core.specs.InTheWay.{in_the_way, oldest_clashing, BusyTellsACommand}
-use Rattle.cg_core.specs.State.{CoreState}
 use Rattle.cg_core.proofs.HolderFound.{some_oldest}
 
 or_right : (a b : Bool) → b ≡ true → (a || b) ≡ true

@@ -12,6 +12,7 @@ use Rattle.cg_core_laws.specs.Unwind.{with_items}
 use Rattle.cg_history.specs.SessionMap.{found, without}
 use Rattle.cg_locks.specs.Holdings.{Holdings}
 use Rattle.cg_tree.specs.Room.{TreeWithRoom}
+use Rattle.cg_txn.specs.declared.txn.Room.{Room}
 use Rattle.cg_txn.specs.Stack.{Stack}
 use Rattle.cg_txn.specs.TakingOff.{AllMayComeOff, AllComeOff, AllMayLetGo, AllLetGo}
 use Rattle.cg_core.proofs.AtHistory.{at_history}
@@ -50,14 +51,14 @@ module _ {O : Tree} {b : ℕ} {h : History cgroups} {n : ℕ} {R : TreeWithRoom}
   may_abort = subst (λ l. AllMayComeOff x.number l R H) (sym (items_are core s x here)) (whole_may_come_off x.number (is_open core s x here) core.holds (unwindable core s x here))
 
   -- and with that it ends, and l is noted
-  pub abort_ends : (l : ℕ) {k : ℕ} {R' : TreeWithRoom} {H' : Holdings} {xs' : List (ℕ × Stack)} → k ≡ x.number → AllComeOff x.number x.items R H R' H' → xs' ≡ without s xs
-      → IsEnd core s x here Abort (Aborted k) (record { opening = O; limit = b; tree = R'; locks = H'; «open» = xs'; history = (h, n); usual = l })
+  pub abort_ends : (l : Room) {k : ℕ} {R' : TreeWithRoom} {H' : Holdings} {xs' : List (ℕ × Stack)} → k ≡ x.number → AllComeOff x.number x.items R H R' H' → xs' ≡ without s xs
+      → IsEnd core s x here Abort (Aborted k) (record { opening = O; limit = b; tree = R'; locks = H'; «open» = xs'; history = (h, n); spare = l })
   abort_ends l {k} {R'} {H'} number off removed = record {
     proper = tt;
     answered = ap Aborted (sym number);
     noted = refl;
     closes = refl;
-    rest = λ i. record { opening = O; limit = b; tree = R'; locks = H'; «open» = removed i; history = (h, n); usual = l };
+    rest = λ i. record { opening = O; limit = b; tree = R'; locks = H'; «open» = removed i; history = (h, n); spare = l };
     holds =
         subst (λ T. Holds O (numbers (opens h)) (with_items x.number [] (λ u. live u h)) T R' H') (sym (unwound_is O (live x.number h) (tree_of cgroups O h)))
         (held_after_whole_off x.number (is_open core s x here) core.holds (unwindable core s x here) R' H' (subst (λ l. AllComeOff x.number l R H R' H') (items_are core s x here) off));
@@ -75,14 +76,14 @@ module _ {O : Tree} {b : ℕ} {h : History cgroups} {n : ℕ} {R : TreeWithRoom}
       (all_may_let_go O (numbers (opens h)) (λ u. live u h) (tree_of cgroups O h) x.number (is_open core s x here) drainable core.holds)
 
   -- and with that it ends, where so many have committed, and l is noted
-  pub commit_ends : (l : ℕ) {g : ℕ} {R' : TreeWithRoom} {H' : Holdings} {xs' : List (ℕ × Stack)} → g ≡ commits h → AllLetGo x.number (reverse x.items) R H R' H' → xs' ≡ without s xs
-      → IsEnd core s x here Commit (Committed (g + 1)) (record { opening = O; limit = b; tree = R'; locks = H'; «open» = xs'; history = (h, n); usual = l })
+  pub commit_ends : (l : Room) {g : ℕ} {R' : TreeWithRoom} {H' : Holdings} {xs' : List (ℕ × Stack)} → g ≡ commits h → AllLetGo x.number (reverse x.items) R H R' H' → xs' ≡ without s xs
+      → IsEnd core s x here Commit (Committed (g + 1)) (record { opening = O; limit = b; tree = R'; locks = H'; «open» = xs'; history = (h, n); spare = l })
   commit_ends l {g} {R'} {H'} counted let_go removed = record {
     proper = tt;
     answered = ap (λ g. Committed (g + 1)) (sym counted);
     noted = refl;
     closes = refl;
-    rest = λ i. record { opening = O; limit = b; tree = R'; locks = H'; «open» = removed i; history = (h, n); usual = l };
+    rest = λ i. record { opening = O; limit = b; tree = R'; locks = H'; «open» = removed i; history = (h, n); spare = l };
     holds =
         held_after_all_let_go O (numbers (opens h)) (λ u. live u h) (tree_of cgroups O h) x.number (is_open core s x here) drainable core.holds R' H'
         (subst (λ l. AllLetGo x.number (reverse l) R H R' H') (items_are core s x here) let_go);

@@ -53,7 +53,7 @@ module _ {O : Tree} {b : ℕ} {h : History cgroups} {n : ℕ} {R : TreeWithRoom}
     pub answered : reply_in cgroups O b h x.number q ≡ a
     pub noted : is_recorded q a ≡ true
     pub closes : opens_after a s x.number (opens h) ≡ without x.number (opens h)
-    pub rest : m ≡ record { opening = O; limit = b; tree = m.tree; locks = m.locks; «open» = sessions.without s xs; history = (h, n); usual = m.usual }
+    pub rest : m ≡ record { opening = O; limit = b; tree = m.tree; locks = m.locks; «open» = sessions.without s xs; history = (h, n); spare = m.spare }
     pub holds : Holds O (numbers (opens h)) (with_items x.number [] (λ u. live u h)) (step_in cgroups (machine_of O b h) x.number (map (entry_of O) (live x.number h)) q).0.tree m.tree m.locks
 
 module _ {O : Tree} {b : ℕ} {h : History cgroups} {n : ℕ} {R : TreeWithRoom} {H : Holdings} {xs : List (ℕ × Stack)} {core : IsCoreOf O b h n R H xs} {s : ℕ} {x : Stack} {here : found s xs ≡ Some x} {q : Request cgroups} {a : Answer} {m : Inside} (end : IsEnd core s x here q a m) where

@@ -9,8 +9,9 @@ ghost use Rattle.cg_model.specs.History as model;
 use crate::machine::Core;
 use cg_history::{Answer, Record, Request, SessionId};
 use cg_name::{Refusal, TxnNumber};
-use cg_txn::Txn;
+use cg_txn::{Room, Txn};
 use std::alloc::Global;
+use std::mem;
 
 impl Core {
     // Begins a transaction of the session, which has none.
@@ -30,7 +31,8 @@ impl Core {
             return Answer::Refused(Refusal::Memory);
         };
         let number = TxnNumber(self.history.begun() + 1);
-        let txn = Txn::expecting(alloc, number, self.usual);
+        let room = mem::replace(&mut self.spare, Room::new(alloc));
+        let txn = Txn::within(alloc, number, room);
         let Ok(()) = self.open.insert(session, txn) else {
             self.history.release(2);
             return Answer::Refused(Refusal::Memory);

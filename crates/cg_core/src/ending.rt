@@ -30,10 +30,9 @@ impl Core {
         };
         let number = txn.number();
         let items = txn.len();
-        self.usual = items;
         match ending {
             Ending::Abort => {
-                cg_txn::abort(&mut self.tree, &mut self.locks, txn);
+                self.spare = cg_txn::abort(&mut self.tree, &mut self.locks, txn);
                 self.history.push(Record {
                     session,
                     txn: number,
@@ -52,7 +51,7 @@ impl Core {
                     answer: Answer::Committed(commit_number),
                 };
                 self.history.commit(entry, &txn);
-                cg_txn::commit(&mut self.tree, &mut self.locks, txn);
+                self.spare = cg_txn::commit(&mut self.tree, &mut self.locks, txn);
                 Answer::Committed(commit_number)
             }
         }

@@ -29,7 +29,7 @@ use cg_history::{Answer, Record, Request, SessionId, SessionMap};
 use cg_locks::LockTable;
 use cg_name::TxnNumber;
 use cg_tree::Tree;
-use cg_txn::Txn;
+use cg_txn::{Room, Txn};
 use cg_world::World;
 use std::alloc::{AllocError, Global};
 use std::marker::Model;
@@ -43,8 +43,8 @@ pub struct Core {
     pub(crate) open: SessionMap<Txn>,
     // With a slot reserved for the end of each open transaction, and for each item on its stack.
     pub(crate) history: CommitHistory,
-    // How many items stood of the transaction that ended last: so many are expected of the next one.
-    pub(crate) usual: usize,
+    // The room of the stack that ended last, for the next one.
+    pub(crate) spare: Room,
 }
 
 // By hand, so that whoever drops one calls this, and doesn't drop each thing in it: that makes proofs shorter.
@@ -57,7 +57,7 @@ impl Drop for Core {
             locks: _,
             open: _,
             history: _,
-            usual: _,
+            spare: _,
         } = self;
     }
 }
@@ -94,7 +94,7 @@ impl Core {
             locks: LockTable::new(alloc),
             open: SessionMap::new(alloc),
             history: CommitHistory::new(alloc),
-            usual: 0,
+            spare: Room::new(alloc),
         })
     }
 

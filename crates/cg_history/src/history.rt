@@ -124,18 +124,31 @@ impl History {
 
     /// Adds a record in a slot that was reserved for it.
     #[inline(always)]
-    pub fn push(&mut self, mut entry: Record)
+    pub fn push(&mut self, entry: Record)
         requires reserved { 0 < self.old.1 }
         requires few { length self.old.0 < 2 ^ 32 - 1 }
         ensures { self.new ≡ (record_of entry ∷ self.old.0, self.old.1 - 1) }
     {
-        match &mut entry.answer {
-            Answer::Begun(_) => self.begun += 1,
-            Answer::Committed(_) => self.committed += 1,
-            Answer::Text(text) => self.texts.share_in(text),
-            _ => {}
-        }
-        self.records.push_reserved(entry);
+        // It is put together anew where it stays: one that lay elsewhere, written just before, would be waited for.
+        let (session, txn, request, answer) = entry.into_parts();
+        let answer = match answer {
+            Answer::Begun(number) => {
+                self.begun += 1;
+                Answer::Begun(number)
+            }
+            Answer::Committed(number) => {
+                self.committed += 1;
+                Answer::Committed(number)
+            }
+            Answer::Text(text) => Answer::Text(self.texts.shared(text)),
+            other => other,
+        };
+        self.records.push_reserved(Record {
+            session,
+            txn,
+            request,
+            answer,
+        });
         self.reserved -= 1;
     }
 }

@@ -32,23 +32,22 @@ impl RecentTexts {
         Ok(())
     }
 
-    // Where an equal text was recorded shortly before, this one shares its memory from now on. It stays the same text. Takes no
-    // memory. It is a call, made for shown texts alone.
+    // The same text: where an equal one was recorded shortly before, in the memory of that one. Takes no memory. It is a call, made
+    // for shown texts alone.
     #[inline(never)]
-    pub(crate) fn share_in(&mut self, text: &mut BoxedText)
-        ensures { text.new ≡ text.old }
+    pub(crate) fn shared(&mut self, text: BoxedText) -> BoxedText
+        ensures { result ≡ text }
     {
         let alloc = *self.places.allocator();
         let Some(place) = self.places.get_mut(place_of(text.as_slice())) else {
-            return;
+            return text;
         };
         match place {
-            Some(kept) if *kept == *text => {
-                if let Ok(copy) = kept.copy(alloc) {
-                    *text = copy;
-                }
+            Some(kept) if *kept == text => kept.copy(alloc).unwrap_or(text),
+            _ => {
+                *place = text.copy(alloc).ok();
+                text
             }
-            _ => *place = text.copy(alloc).ok(),
         }
     }
 }

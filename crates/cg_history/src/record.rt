@@ -97,6 +97,25 @@ pub struct Record {
     pub answer: Answer,
 }
 
+impl Record {
+    // Its parts.
+    #[inline(always)]
+    pub(crate) fn into_parts(self) -> (SessionId, TxnNumber, Request, Answer)
+        ensures session { result.0 ≡ self.session }
+        ensures txn { result.1 ≡ self.txn }
+        ensures request { result.2 ≡ self.request }
+        ensures answer { result.3 ≡ self.answer }
+    {
+        let Record {
+            session,
+            txn,
+            request,
+            answer,
+        } = self;
+        (session, txn, request, answer)
+    }
+}
+
 // A history has up to 1,048,576 of them, which are most of the memory that a long run takes.
 const _: () = prove!(size_of::<Record>() == 64);
 

@@ -1,9 +1,8 @@
 -- Where the root's node tells of no other transaction, no other is in the way of a mark, wherever that is.
-use Rattle.std.proofs.Common.{◌≡◌, ℕ, ◌+◌, ◌<◌, inl, inr, Bool, true, false, not, IsTrue, [], Option, Some, None, is_some, option_map, refl, sym, ap, subst, ◌∙◌, arith, true≢false}
+use Rattle.std.proofs.Common.{◌≡◌, ℕ, ◌+◌, ◌<◌, inl, inr, Bool, false, not, [], Option, Some, None, is_some, refl, sym, ap, subst, ◌∙◌, arith, true≢false}
 use Rattle.std.proofs.lemmas.Option.{none-some}
 use Rattle.cg_maps.specs.FiniteMap.{get}
 use Rattle.cg_name.specs.Path.{Path}
-use Rattle.cg_name.specs.declared.refusal.TxnNumber.{TxnNumber}
 use Rattle.cg_locks.specs.declared.held.Held.{Held}
 use Rattle.cg_locks.specs.declared.held.Kind.{Kind}
 use Rattle.cg_locks.specs.declared.held.Kind.TheVariants as kinds
@@ -11,7 +10,7 @@ use Rattle.cg_locks.specs.declared.held.Part.{Part}
 use Rattle.cg_locks.specs.declared.held.Part.TheVariants.{ChangedAt, ReadAt, StaysAt}
 use Rattle.cg_locks.specs.Held.{at_or_below, here_of, in_way}
 use Rattle.cg_locks.specs.HeldByPath.{in_part, marked, AreSummedUp, HeldByPath}
-use Rattle.cg_locks.specs.Holders.{PathCounts, held_above, held_at, held_below, number_of, IsLeastOther}
+use Rattle.cg_locks.specs.Holders.{PathCounts, held_above, held_at, held_below, IsLeastOther}
 use Rattle.cg_locks.proofs.Clashes.{all_from, weighed_there}
 use Rattle.cg_locks.proofs.Counts.{none_seen, one_of_two}
 use Rattle.cg_locks.proofs.Summed.{at_counts, found_below}

@@ -105,3 +105,7 @@ none_kept F es none empty r = subst (λ n. AreHolders (first_in r F).holder n (o
 
 pub nobody : (F : Firsts) (es : List Other) → AreParts F es → (V : HeldParts) → held_parts F es ≡ V → ((r : Part) → (first_in r F).times ≡ 0) → (r : Part) (u : ℕ) → held_by (part_of r V) u ≡ 0
 nobody F es h V view none r u = none_held (first_in r F).holder (first_in r F).times (others_in r es) (h r) (part_of r V) (as_seen r F es h (first_in r F) refl V view) u (none r)
+
+-- nobody in one part
+pub nobody_in : (s : Part) (F : Firsts) (es : List Other) → AreParts F es → (V : HeldParts) → held_parts F es ≡ V → (x : First) → x ≡ first_in s F → x.times ≡ 0 → (u : ℕ) → held_by (part_of s V) u ≡ 0
+nobody_in s F es h V view x is none u = none_held x.holder x.times (others_in s es) (are_holders s F es h x is) (part_of s V) (as_seen s F es h x is V view) u none

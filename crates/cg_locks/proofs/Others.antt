@@ -1,11 +1,16 @@
 -- The others in one part, as one list of all parts is changed at the place of one of them.
-use Rattle.std.proofs.Common.{◌≡◌, ℕ, zero, suc, ◌+◌, ◌<◌, ◌≤◌, ◌++◌, nat_lt, true, false, cond, T, List, [], ◌∷◌, Option, Some, None, option_map, drop, length, slice_get, take, unwrap_or, refl, sym, ap, subst, ◌∙◌, arith}
+use Rattle.std.proofs.Common.{◌≡◌, ℕ, zero, suc, ◌+◌, ◌-◌, ◌<◌, ◌≤◌, ◌==◌, ◌++◌, nat_lt, true, false, cond, T, ◌⊎◌, inl, inr, List, [], ◌∷◌, Option, Some, None, option_map, drop, get_or, length, slice_get, take, unwrap_or, Less, Equal, Greater, refl, sym, ap, subst, ◌∙◌, arith}
 use Rattle.std.proofs.Math.ListN.{set}
 use Rattle.std.proofs.lemmas.Bool.Decides.{nat_tests}
 use Rattle.cg_maps.specs.FiniteMap.{from_entries}
-use Rattle.std.specs.FinMap.Entries.{find, is_sorted, put}
-use Rattle.std.specs.Ordering.{nat_cmp}
+use Rattle.std.specs.Cmp.{nat_cmp_total}
+use Rattle.std.specs.FinMap.{nat_cmp-IsAntisymmetric}
+use Rattle.std.specs.FinMap.Entries.{below_all, find, is_sorted, put}
+use Rattle.std.specs.Ordering.{eq_by_cmp, is_lt, nat_cmp}
+use Rattle.cg_maps.proofs.Maps as maps
+use Rattle.cg_maps.proofs.Tests.{and_first, and_second}
 use Rattle.cg_locks.specs.declared.held.Part.{Part}
+use Rattle.cg_locks.specs.declared.held.Part.TheVariants.{ChangedAt}
 use Rattle.cg_locks.specs.declared.other_holders.Other.{Other}
 use Rattle.cg_locks.specs.FirstsAndOthers.{others_in, spot_of}
 use Rattle.cg_locks.specs.Held.{same_part}
@@ -236,3 +241,113 @@ module _ (s : Part) (t : ℕ) (es : List Other) (k : ℕ) (left : List Other) (h
             own = one_passed t (others_in s es) h.passed (others_in s left) h.own (e.holder, e.times) (others_in s rest) listed low;
             spot = omega (arith, a, b);
           }
+
+    -- whose number is lower, of whichever part it is
+    pub any_passed : e.holder < t → IsSought s t es (k + 1) rest
+    any_passed low = elim (same_part s e.part) as (λ b. same_part s e.part ≡ b → IsSought s t es (k + 1) rest) [
+      | true ↦ λ own. lower_passed own low
+      | false ↦ λ ne. other_passed ne
+    ] refl
+
+-- ---- the youngest in a part
+
+-- the last entry has a lower number, and there is one
+abbrev pub EndsBelow : ℕ → List (ℕ × ℕ) → Type 0
+EndsBelow t [] = ⊥
+EndsBelow t (e ∷ es) = ((es ≡ []) × (e.0 < t)) ⊎ EndsBelow t es
+
+less_by_order : (x y : ℕ) → T (is_lt (nat_cmp x y)) → x < y
+less_by_order x y h = elim (nat_lt x y) as (λ b. nat_lt x y ≡ b → T (is_lt (cond b Less (cond (x == y) Equal Greater))) → x < y) [
+  | true ↦ λ low is. grind (arith, nat_tests, low)
+  | false ↦ λ high. (elim (x == y) as (λ b. T (is_lt (cond b Equal Greater)) → x < y) [
+    | true ↦ λ is. absurd is
+    | false ↦ λ is. absurd is
+  ])
+] refl h
+
+-- so has what stands below all of them
+below_end : (t x : ℕ) (es : List (ℕ × ℕ)) → T (below_all nat_cmp x es) → EndsBelow t es → x < t
+below_end t x [] h ends = absurd ends
+below_end t x (e ∷ es) h ends = elim ends [
+  | inl last ↦ let less = less_by_order x e.0 (and_first _ _ h) in omega (arith, less, last.1)
+  | inr rest ↦ below_end t x es (and_second _ _ h) rest
+]
+
+-- and so have all
+all_below : (t : ℕ) (es : List (ℕ × ℕ)) → T (is_sorted nat_cmp es) → EndsBelow t es → (place_of t es ≡ length es) × (find nat_cmp t es ≡ None)
+all_below t [] h ends = absurd ends
+all_below t (e ∷ es) h ends = elim ends [
+  | inl last ↦
+      let one : (place_of t es ≡ length es) × (find nat_cmp t es ≡ None) = subst (λ fs. (place_of t fs ≡ length fs) × (find nat_cmp t fs ≡ None)) (sym last.0) (refl, refl) in
+      one_more last.1 one
+  | inr rest ↦ one_more (below_end t e.0 es (and_first _ _ h) rest) (all_below t es (and_second _ _ h) rest)
+]
+  where
+    one_more : e.0 < t → (place_of t es ≡ length es) × (find nat_cmp t es ≡ None) → (place_of t (e ∷ es) ≡ length (e ∷ es)) × (find nat_cmp t (e ∷ es) ≡ None)
+    one_more low behind =
+        let yes : nat_lt e.0 t ≡ true = grind (arith, nat_tests, low) in
+        let other : eq_by_cmp nat_cmp t e.0 ≡ false = maps.apart nat_cmp_total nat_cmp-IsAntisymmetric t e.0 (λ same. omega (arith, low, same)) in
+        (ap (λ b. cond b (suc (place_of t es)) 0) yes ∙ ap suc behind.0, ap (λ b. cond b (Some e.1) (find nat_cmp t es)) other ∙ behind.1)
+
+module _ (s : Part) (t : ℕ) where
+  -- behind the end of a part is behind the end of all
+  spot_at_end : (es : List Other) → place_of t (others_in s es) ≡ length (others_in s es) → spot_of s t es ≡ length es
+  spot_at_end [] = λ is. refl
+  spot_at_end (e ∷ es) = spot_case s t e es (λ k os n. n ≡ length os → k ≡ suc (length es))
+      (λ ne is. ap suc (spot_at_end es is))
+      (λ own low is. ap suc (spot_at_end es (let same = is in omega (arith, same))))
+      (λ own high is. absurd (omega (arith, is)))
+
+  pub record IsYoungest (es : List Other) : Type 0 where
+    pub spot : spot_of s t es ≡ length es
+    pub none : unwrap_or (find nat_cmp t (others_in s es)) 0 ≡ 0
+
+  -- nobody else is there
+  pub youngest_alone : (es : List Other) → others_in s es ≡ [] → IsYoungest es
+  youngest_alone es none = record {
+    spot = spot_at_end es (subst (λ os. place_of t os ≡ length os) (sym none) refl);
+    none = ap (λ os. unwrap_or (find nat_cmp t os) 0) none;
+  }
+
+  youngest_by_end : (es : List Other) → T (is_sorted nat_cmp (others_in s es)) → EndsBelow t (others_in s es) → IsYoungest es
+  youngest_by_end es h ends =
+      let all = all_below t (others_in s es) h ends in
+      record {
+        spot = spot_at_end es all.0;
+        none = ap (λ r. unwrap_or r 0) all.1;
+      }
+
+  -- none of these is of the part
+  pub none_of_part : (es : List Other) → ((k : ℕ) → k < length es → same_part s (get_or es k (entry ChangedAt 0 0)).part ≡ false) → others_in s es ≡ []
+  none_of_part [] h = refl
+  none_of_part (e ∷ es) h = of_other s t e es (h 0 (omega arith)) ∙ none_of_part es (λ k low. h (suc k) (omega (arith, low)))
+
+  ends_at : (es : List Other) (i : ℕ) → i < length es → same_part s (get_or es i (entry ChangedAt 0 0)).part ≡ true → (get_or es i (entry ChangedAt 0 0)).holder < t
+      → ((k : ℕ) → i < k → k < length es → same_part s (get_or es k (entry ChangedAt 0 0)).part ≡ false) → EndsBelow t (others_in s es)
+  ends_at [] i within own low behind = absurd (omega (arith, within))
+  ends_at (e ∷ es) zero within own low behind =
+      subst (EndsBelow t) (sym (of_own s t e es own)) (inl (none_of_part es (λ k here. behind (suc k) (omega arith) (omega (arith, here))), low))
+  ends_at (e ∷ es) (suc i) within own low behind =
+      let rest : EndsBelow t (others_in s es) = ends_at es i (omega (arith, within)) own low (λ k later here. behind (suc k) (omega (arith, later)) (omega (arith, here))) in
+      elim (same_part s e.part) as (λ b. EndsBelow t (cond b ((e.holder, e.times) ∷ others_in s es) (others_in s es))) [
+        | true ↦ inr rest
+        | false ↦ rest
+      ]
+
+  -- the last of the part, at i, has a lower number
+  pub youngest_behind : (es : List Other) (i : ℕ) → T (is_sorted nat_cmp (others_in s es)) → i < length es → same_part s (get_or es i (entry ChangedAt 0 0)).part ≡ true → (get_or es i (entry ChangedAt 0 0)).holder < t
+      → ((k : ℕ) → i < k → k < length es → same_part s (get_or es k (entry ChangedAt 0 0)).part ≡ false) → IsYoungest es
+  youngest_behind es i h within own low behind = youngest_by_end es h (ends_at es i within own low behind)
+
+  -- from one more on none is of the part
+  pub none_from : (es : List Other) (i : ℕ) → 0 < i → same_part s (get_or es (i - 1) (entry ChangedAt 0 0)).part ≡ false → ((k : ℕ) → i ≤ k → k < length es → same_part s (get_or es k (entry ChangedAt 0 0)).part ≡ false)
+      → (k : ℕ) → i - 1 ≤ k → k < length es → same_part s (get_or es k (entry ChangedAt 0 0)).part ≡ false
+  none_from es i some here behind k past within = elim (nat_lt k i) as (λ b. nat_lt k i ≡ b → same_part s (get_or es k (entry ChangedAt 0 0)).part ≡ false) [
+    | true ↦ λ before.
+        let low : k < i = grind (arith, nat_tests, before) in
+        let same : k ≡ i - 1 = omega (arith, low, past, some) in
+        ap (λ n. same_part s (get_or es n (entry ChangedAt 0 0)).part) same ∙ here
+    | false ↦ λ after.
+        let high : i ≤ k = grind (arith, nat_tests, after) in
+        behind k high within
+  ] refl

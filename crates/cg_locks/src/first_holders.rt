@@ -48,11 +48,12 @@ impl Firsts {
             stays,
             descendants,
         ] = &self.of_parts;
-        changed.times == 0
+        // Where somebody holds something, it is mostly that of which is asked first: a subtree to be changed, here or below.
+        changed_below.times == 0
+            && changed.times == 0
             && read.times == 0
             && stays.times == 0
             && descendants.times == 0
-            && changed_below.times == 0
             && read_below.times == 0
             && stays_below.times == 0
     }

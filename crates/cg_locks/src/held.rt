@@ -127,6 +127,14 @@ impl Held {
         self.firsts.are_none()
     }
 
+    // Whether nobody holds anything in this part.
+    #[inline(always)]
+    fn has_none(&self, part: Part) -> bool
+        ensures { IsTrue result → (u : ℕ) → held_by (part_of part self.now) u ≡ 0 }
+    {
+        self.firsts.get(part).times == 0
+    }
+
     // How often the transaction holds what is in this part.
     pub(crate) fn count(&self, part: Part, transaction: TxnNumber) -> u32
         ensures { result ≡ held_by (part_of part self.now) transaction.0 }
@@ -161,6 +169,10 @@ impl Held {
     pub(crate) fn least_above(&self, kind: Kind, transaction: TxnNumber) -> Option<TxnNumber>
         ensures { IsLeastOther transaction.0 (above_of kind self.now) (option_map number_of result) }
     {
+        // As a rule there is none, of whomever.
+        if self.has_none(Part::ChangedAt) && self.has_none(Part::ReadAt) {
+            return None;
+        }
         match kind {
             Kind::Changed => self.least_subtree(transaction),
             Kind::Read => self.least_other(Part::ChangedAt, transaction),

@@ -1,5 +1,5 @@
 //! The holders of what is in the parts of what is held at a path, but for the least of each part: one list for all parts.
-ghost use Rattle.std.specs.Prelude.{◌≡◌, ◌+◌, ◌<◌, ◌≤◌, [], false, ℕ, IfOk, OnErr, T, length, option_map, slice_get};
+ghost use Rattle.std.specs.Prelude.{◌≡◌, ◌+◌, ◌<◌, ◌≤◌, [], false, ℕ, IfOk, IsTrue, OnErr, T, length, option_map, slice_get};
 ghost use Rattle.std.specs.FinMap.Entries.{find, is_sorted, put};
 ghost use Rattle.std.specs.Option.{unwrap_or};
 ghost use Rattle.std.specs.Ordering.{nat_cmp};
@@ -28,17 +28,46 @@ pub(crate) fn place_in(others: &[Other], part: Part, transaction: u32) -> (usize
     ensures count { result.1 ≡ unwrap_or (find nat_cmp transaction (others_in part others.now)) 0 }
 {
     for (index, other) in others.iter().enumerate() {
+        // This is asked first, since parts take turns, and which one comes next can't be foreseen.
+        if other.holder < transaction {
+            continue;
+        }
         if !part.is(other.part) {
             continue;
         }
         if other.holder == transaction {
             return (index, other.times);
         }
-        if other.holder > transaction {
-            return (index, 0);
-        }
+        return (index, 0);
     }
     (others.len(), 0)
+}
+
+// The same for a transaction that may come to the part anew: if so, it is mostly younger than all that are there.
+fn place_to_add(others: &[Other], part: Part, transaction: u32) -> (usize, u32)
+    requires { T (is_sorted nat_cmp (others_in part others.now)) }
+    ensures place { result.0 ≡ spot_of part transaction others.now }
+    ensures within { result.0 ≤ length others.now }
+    ensures count { result.1 ≡ unwrap_or (find nat_cmp transaction (others_in part others.now)) 0 }
+{
+    if is_youngest(others, part, transaction) {
+        return (others.len(), 0);
+    }
+    place_in(others, part, transaction)
+}
+
+// Whether the transaction is younger than each in this part. The last of them is the youngest, and stands near the end.
+fn is_youngest(others: &[Other], part: Part, transaction: u32) -> bool
+    requires { T (is_sorted nat_cmp (others_in part others.now)) }
+    ensures place { IsTrue result → spot_of part transaction others.now ≡ length others.now }
+    ensures count { IsTrue result → unwrap_or (find nat_cmp transaction (others_in part others.now)) 0 ≡ 0 }
+{
+    for i in (0..others.len()).rev() {
+        if part.is(others[i].part) {
+            return others[i].holder < transaction;
+        }
+    }
+    true
 }
 
 // The least holder in this part.
@@ -67,7 +96,7 @@ pub(crate) fn add_in(
     ensures apart { (r : Part) → same_part r part ≡ false → others_in r others.new.items ≡ others_in r others.old.items }
     ensures err { OnErr result (others.new.items ≡ others.old.items) }
 {
-    let (place, times) = place_in(others, part, transaction);
+    let (place, times) = place_to_add(others, part, transaction);
     let Some(more) = times.checked_add(1) else {
         return Err(AllocError);
     };

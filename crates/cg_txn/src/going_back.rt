@@ -6,7 +6,7 @@ ghost use Rattle.cg_txn.specs.Stack.{ends_in_command, has_savepoint};
 ghost use Rattle.cg_txn.specs.TakingOff.{AllComeOff, AllLetGo, AllMayComeOff, AllMayLetGo};
 
 use crate::letting_go::{let_go, take_off};
-use crate::txn::Txn;
+use crate::txn::{Room, Txn};
 use cg_locks::LockTable;
 use cg_name::{Refusal, SaveName};
 use cg_tree::Tree;
@@ -63,8 +63,8 @@ pub fn back(
     Ok(count)
 }
 
-/// Ends the transaction without a trace: all its commands come off, the newest first. Takes no memory.
-pub fn abort(tree: &mut Tree, locks: &mut LockTable, mut txn: Txn)
+/// Ends the transaction without a trace: all its commands come off, the newest first. Gives the room that they had. Takes no memory.
+pub fn abort(tree: &mut Tree, locks: &mut LockTable, mut txn: Txn) -> Room
     requires { AllMayComeOff txn.number txn.items tree.old locks.old }
     ensures { AllComeOff txn.number txn.items tree.old locks.old tree.new locks.new }
 {
@@ -72,10 +72,12 @@ pub fn abort(tree: &mut Tree, locks: &mut LockTable, mut txn: Txn)
     while let Some(entry) = txn.drain_newest_first() {
         take_off(tree, locks, number, entry);
     }
+    txn.into_room()
 }
 
-/// Ends the transaction for good: its commands stay done, and what they hold is let go, of the oldest first. Takes no memory.
-pub fn commit(tree: &mut Tree, locks: &mut LockTable, txn: Txn)
+/// Ends the transaction for good: its commands stay done, and what they hold is let go, of the oldest first. Gives the room that they
+/// had. Takes no memory.
+pub fn commit(tree: &mut Tree, locks: &mut LockTable, txn: Txn) -> Room
     requires { AllMayLetGo txn.number (reverse txn.items) tree.old locks.old }
     ensures let_go { AllLetGo txn.number (reverse txn.items) tree.old locks.old tree.new locks.new }
     ensures tree { tree.new.tree ≡ tree.old.tree }
@@ -86,4 +88,5 @@ pub fn commit(tree: &mut Tree, locks: &mut LockTable, txn: Txn)
             let_go(tree, locks, number, &entry.footprint);
         }
     }
+    txn.into_room()
 }

@@ -10,4 +10,4 @@ mod txn;
 
 pub use entry::{Clash, Entry};
 pub use going_back::{abort, back, commit, undo};
-pub use txn::Txn;
+pub use txn::{Room, Txn};

@@ -19,8 +19,8 @@ use std::marker::Model;
 // For how many items room is made at least, where there is none: most transactions are short, and then this is done once.
 const AT_ONCE: usize = 8;
 
-// How many are expected at most: those that never come have their room for nothing.
-const MOST_EXPECTED: usize = 512;
+// For how many items room is kept at most, for a transaction to come.
+const MOST_KEPT: usize = 512;
 
 /// An open transaction: its number, what stands of it, and whether room for one more item is reserved.
 pub struct Txn {
@@ -30,8 +30,13 @@ pub struct Txn {
     // Those of the savepoints among the items, in the same order.
     names: IndexSet<SaveName>,
     reserved: bool,
-    // For how many items room is made where a command finds none, so that they aren't moved again and again as more come.
-    expected: usize,
+}
+
+/// Room for items, which a transaction leaves as it ends. A transaction to come has it, so that its items aren't moved again and again
+/// as more come.
+#[derive(Drop)]
+pub struct Room {
+    items: VecDeque<Item>,
 }
 
 // By hand, so that whoever drops one calls this, and doesn't drop each thing in it: that makes proofs shorter. It
@@ -44,7 +49,6 @@ impl Drop for Txn {
             items: _,
             names: _,
             reserved: _,
-            expected: _,
         } = self;
     }
 }
@@ -66,26 +70,50 @@ impl Model for Txn {
     ghost invariant = { λ t. (t.names.keys ≡ names_of t.items.items) × (IsTrue t.reserved → deque_len t.items < deque_capacity t.items) };
 }
 
+impl Room {
+    /// None.
+    pub fn new(alloc: Global) -> Room {
+        Room {
+            items: VecDeque::new(alloc),
+        }
+    }
+}
+
 impl Txn {
     /// A transaction of which nothing stands.
     pub fn new(alloc: Global, number: TxnNumber) -> Txn
         ensures { result ≡ record { number = number.0; items = []; reserved = false } }
     {
-        Txn::expecting(alloc, number, AT_ONCE)
+        Txn::within(alloc, number, Room::new(alloc))
     }
 
-    /// The same, for whoever expects that so many items will stand: room for them, 8 at least and 512 at most, is made where a
-    /// command finds none. More may come, and fewer.
-    pub fn expecting(alloc: Global, number: TxnNumber, items: usize) -> Txn
+    /// The same, whose items have this room. Takes no memory.
+    pub fn within(alloc: Global, number: TxnNumber, room: Room) -> Txn
         ensures { result ≡ record { number = number.0; items = []; reserved = false } }
     {
+        let mut kept = room.items;
+        kept.clear();
         Txn {
             number,
-            items: VecDeque::new(alloc),
+            items: kept,
             names: IndexSet::new(alloc),
             reserved: false,
-            expected: items.min(MOST_EXPECTED),
         }
+    }
+
+    // The room of what stood, for a transaction to come, where it is for no more than so many items as are kept room for.
+    pub(crate) fn into_room(self) -> Room {
+        let Txn {
+            number: _,
+            mut items,
+            names: _,
+            reserved: _,
+        } = self;
+        if items.capacity() > MOST_KEPT {
+            return Room::new(*items.allocator());
+        }
+        items.clear();
+        Room { items }
     }
 
     /// Its number.
@@ -163,8 +191,7 @@ impl Txn {
         ensures again { IsTrue self.old.reserved → IsOk result }
     {
         if self.items.len() == self.items.capacity() {
-            let awaited = self.expected.saturating_sub(self.items.len());
-            self.items.reserve(awaited.max(AT_ONCE))?;
+            self.items.reserve(AT_ONCE)?;
         }
         self.reserved = true;
         Ok(())

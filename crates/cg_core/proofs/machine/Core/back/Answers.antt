@@ -32,6 +32,11 @@ overflow_cast-count c =
 pub push-requires-clause-few : goal.push-requires-clause-few
 push-requires-clause-few c = few_records c.self.invariant
 
+pub push-requires-clause-reserved : goal.push-requires-clause-reserved
+push-requires-clause-reserved c =
+    let slots : length c.in-Some.txn.now.items + 1 ≤ c.self.inside.history.1 = slots_there c.self.invariant c.args.session.0 c.in-Some.txn.now (sym c.in-Some.ensures.value) in
+    omega (arith, slots)
+
 pub overflow_sub-before : goal.overflow_sub-before
 overflow_sub-before c =
     let there = no_error c.in-Ok.count NoSavepoint (has_savepoint c.args.name c.in-Some.txn.now.items) c.in-Ok.ensures.absent in

@@ -63,13 +63,13 @@ invariant_of-self-2 c =
     let reserved : c.reserve.new.self.1 ≡ c.self.inside.history.1 + 2 = ap (λ p. p.1) c.in-Ok.ensures.ok in
     let pushed : c.push.new.self.1 ≡ c.reserve.new.self.1 - 1 = ap (λ p. p.1) c.push.ensures in
     let slots_are : c.push.new.self.1 ≡ c.self.inside.history.1 + 1 = omega (arith, reserved, pushed) in
-    let begun : IsCoreOf O b (record { session = s; transaction = begins h + 1; request = Begin; answer = Begun (begins h + 1) } ∷ h) (c.self.inside.history.1 + 1) c.self.inside.tree c.self.inside.locks ((s, c.expecting-txn.result) ∷ c.self.inside.open) =
-    subst (λ k. IsCoreOf O b k (c.self.inside.history.1 + 1) c.self.inside.tree c.self.inside.locks ((s, c.expecting-txn.result) ∷ c.self.inside.open))
+    let begun : IsCoreOf O b (record { session = s; transaction = begins h + 1; request = Begin; answer = Begun (begins h + 1) } ∷ h) (c.self.inside.history.1 + 1) c.self.inside.tree c.self.inside.locks ((s, c.within-txn.result) ∷ c.self.inside.open) =
+    subst (λ k. IsCoreOf O b k (c.self.inside.history.1 + 1) c.self.inside.tree c.self.inside.locks ((s, c.within-txn.result) ∷ c.self.inside.open))
     (begun_record O b h c.self.inside.history.1 c.self.inside.tree c.self.inside.locks c.self.inside.open c.self.invariant s absent room)
-    (begun_core O b h c.self.inside.history.1 c.self.inside.tree c.self.inside.locks c.self.inside.open c.self.invariant s absent room c.expecting-txn.result
-    (ap (λ (v : Stack). v.number) c.expecting-txn.ensures ∙ ap (λ n. n + 1) counted) (ap (λ (v : Stack). v.items) c.expecting-txn.ensures)) in
+    (begun_core O b h c.self.inside.history.1 c.self.inside.tree c.self.inside.locks c.self.inside.open c.self.invariant s absent room c.within-txn.result
+    (ap (λ (v : Stack). v.number) c.within-txn.ensures ∙ ap (λ n. n + 1) counted) (ap (λ (v : Stack). v.items) c.within-txn.ensures)) in
     subst (λ l. IsCoreOf O b c.push.new.self.0 c.push.new.self.1 c.self.inside.tree c.self.inside.locks l) (sym c.in-Ok-insert.ensures.ok)
-    (subst₂ (λ k n. IsCoreOf O b k n c.self.inside.tree c.self.inside.locks ((s, c.expecting-txn.result) ∷ c.self.inside.open)) (sym history_is) (sym slots_are) begun)
+    (subst₂ (λ k n. IsCoreOf O b k n c.self.inside.tree c.self.inside.locks ((s, c.within-txn.result) ∷ c.self.inside.open)) (sym history_is) (sym slots_are) begun)
 
 pub returns-clause-answer : goal.returns-clause-answer
 returns-clause-answer c =

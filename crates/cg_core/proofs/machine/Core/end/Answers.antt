@@ -30,27 +30,27 @@ abort-requires c = may_abort c.self.invariant c.args.session.0 c.in-Some.txn (sy
 
 pub push-requires-clause-few : goal.push-requires-clause-few
 push-requires-clause-few c =
-    let end = abort_ends c.self.invariant c.args.session.0 c.in-Some.txn (sym c.in-Some.ensures.value) c.len-items.result c.number-number.ensures c.abort.ensures c.remove.ensures.removed in
+    let end = abort_ends c.self.invariant c.args.session.0 c.in-Some.txn (sym c.in-Some.ensures.value) c.abort.result c.number-number.ensures c.abort.ensures c.remove.ensures.removed in
     few_before end
 
 pub release-requires : goal.release-requires
 release-requires c =
-    let end = abort_ends c.self.invariant c.args.session.0 c.in-Some.txn (sym c.in-Some.ensures.value) c.len-items.result c.number-number.ensures c.abort.ensures c.remove.ensures.removed in
+    let end = abort_ends c.self.invariant c.args.session.0 c.in-Some.txn (sym c.in-Some.ensures.value) c.abort.result c.number-number.ensures c.abort.ensures c.remove.ensures.removed in
     slots_for_items end c.len-items.ensures c.push.ensures
 
 pub invariant_of-self-in-Abort : goal.invariant_of-self-in-Abort
 invariant_of-self-in-Abort c =
-    let end = abort_ends c.self.invariant c.args.session.0 c.in-Some.txn (sym c.in-Some.ensures.value) c.len-items.result c.number-number.ensures c.abort.ensures c.remove.ensures.removed in
+    let end = abort_ends c.self.invariant c.args.session.0 c.in-Some.txn (sym c.in-Some.ensures.value) c.abort.result c.number-number.ensures c.abort.ensures c.remove.ensures.removed in
     parts_left end c.number-number.ensures c.len-items.ensures refl c.push.ensures c.release.ensures
 
 pub returns-in-Abort-clause-answer : goal.returns-in-Abort-clause-answer
 returns-in-Abort-clause-answer c =
-    let end = abort_ends c.self.invariant c.args.session.0 c.in-Some.txn (sym c.in-Some.ensures.value) c.len-items.result c.number-number.ensures c.abort.ensures c.remove.ensures.removed in
+    let end = abort_ends c.self.invariant c.args.session.0 c.in-Some.txn (sym c.in-Some.ensures.value) c.abort.result c.number-number.ensures c.abort.ensures c.remove.ensures.removed in
     answer_is end c.self.view_is ∙ ap (λ e. reply c.args.self.now c.args.session.0 (asked_by e)) (sym c.in-Abort.is)
 
 pub returns-in-Abort-clause-state : goal.returns-in-Abort-clause-state
 returns-in-Abort-clause-state c =
-    let end = abort_ends c.self.invariant c.args.session.0 c.in-Some.txn (sym c.in-Some.ensures.value) c.len-items.result c.number-number.ensures c.abort.ensures c.remove.ensures.removed in
+    let end = abort_ends c.self.invariant c.args.session.0 c.in-Some.txn (sym c.in-Some.ensures.value) c.abort.result c.number-number.ensures c.abort.ensures c.remove.ensures.removed in
     state_left end c.number-number.ensures c.len-items.ensures refl c.push.ensures c.release.ensures c.self.view_is
     ∙ ap (λ e. after c.args.self.now c.args.session.0 (asked_by e)) (sym c.in-Abort.is)
 
@@ -84,18 +84,18 @@ commit-requires-in-Commit c =
 
 pub invariant_of-self-in-Commit : goal.invariant_of-self-in-Commit
 invariant_of-self-in-Commit c =
-    let end = commit_ends c.self.invariant c.args.session.0 c.in-Some.txn (sym c.in-Some.ensures.value) c.len-items.result c.committed-commit_number.ensures c.commit-in-Commit.ensures.let_go c.remove.ensures.removed in
+    let end = commit_ends c.self.invariant c.args.session.0 c.in-Some.txn (sym c.in-Some.ensures.value) c.commit-in-Commit.result c.committed-commit_number.ensures c.commit-in-Commit.ensures.let_go c.remove.ensures.removed in
     let pushed : History cgroups × ℕ = (with_end c.self.inside.history.0 c.args.session.0 c.number-number.result.0 Commit (Committed (c.committed-commit_number.result + 1)), c.self.inside.history.1 - 1) in
     parts_left end c.number-number.ensures refl refl {p = pushed} refl c.commit.ensures
 
 pub returns-in-Commit-clause-answer : goal.returns-in-Commit-clause-answer
 returns-in-Commit-clause-answer c =
-    let end = commit_ends c.self.invariant c.args.session.0 c.in-Some.txn (sym c.in-Some.ensures.value) c.len-items.result c.committed-commit_number.ensures c.commit-in-Commit.ensures.let_go c.remove.ensures.removed in
+    let end = commit_ends c.self.invariant c.args.session.0 c.in-Some.txn (sym c.in-Some.ensures.value) c.commit-in-Commit.result c.committed-commit_number.ensures c.commit-in-Commit.ensures.let_go c.remove.ensures.removed in
     answer_is end c.self.view_is ∙ ap (λ e. reply c.args.self.now c.args.session.0 (asked_by e)) (sym c.in-Commit.is)
 
 pub returns-in-Commit-clause-state : goal.returns-in-Commit-clause-state
 returns-in-Commit-clause-state c =
-    let end = commit_ends c.self.invariant c.args.session.0 c.in-Some.txn (sym c.in-Some.ensures.value) c.len-items.result c.committed-commit_number.ensures c.commit-in-Commit.ensures.let_go c.remove.ensures.removed in
+    let end = commit_ends c.self.invariant c.args.session.0 c.in-Some.txn (sym c.in-Some.ensures.value) c.commit-in-Commit.result c.committed-commit_number.ensures c.commit-in-Commit.ensures.let_go c.remove.ensures.removed in
     let pushed : History cgroups × ℕ = (with_end c.self.inside.history.0 c.args.session.0 c.number-number.result.0 Commit (Committed (c.committed-commit_number.result + 1)), c.self.inside.history.1 - 1) in
     state_left end c.number-number.ensures refl refl {p = pushed} refl c.commit.ensures c.self.view_is
     ∙ ap (λ e. after c.args.self.now c.args.session.0 (asked_by e)) (sym c.in-Commit.is)

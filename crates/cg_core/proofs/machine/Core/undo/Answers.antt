@@ -37,6 +37,11 @@ returns-in-Err-clause-state c =
 pub push-requires-clause-few : goal.push-requires-clause-few
 push-requires-clause-few c = few_records c.self.invariant
 
+pub push-requires-clause-reserved : goal.push-requires-clause-reserved
+push-requires-clause-reserved c =
+    let slots : length c.in-Some.txn.now.items + 1 ≤ c.self.inside.history.1 = slots_there c.self.invariant c.args.session.0 c.in-Some.txn.now (sym c.in-Some.ensures.value) in
+    omega (arith, slots)
+
 pub invariant_of-self-2 : goal.invariant_of-self-2
 invariant_of-self-2 c =
     let is = sym c.in-Some.ensures.value in
