@@ -135,6 +135,10 @@ module _ {O : Tree} {b : ℕ} {h : History cgroups} {n : ℕ} {R : TreeWithRoom}
       let reserved : n ≡ length (opens h) + live_count (opens h) h = core.reserved in
       omega (arith, all, first, others, counted, reserved)
 
+  -- so one is there
+  pub slot_there : 0 < n
+  slot_there = let slots : length x.items + 1 ≤ n = slots_there in omega (arith, slots)
+
   -- the answer is that to its own request
   pub replied : (q : Request cgroups) → reply cgroups O b h s q ≡ reply_in cgroups O b h x.number q
   replied q = ap (λ o. reply_at cgroups O b h o q) session_open

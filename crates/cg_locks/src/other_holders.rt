@@ -43,7 +43,7 @@ pub(crate) fn place_in(others: &[Other], part: Part, transaction: u32) -> (usize
     (others.len(), 0)
 }
 
-// The same for a transaction that may come to the part anew: if so, it is mostly younger than all that are there.
+// The same for a transaction that may come to the part anew: if so, its number is mostly greater than all that are there.
 fn place_to_add(others: &[Other], part: Part, transaction: u32) -> (usize, u32)
     requires { T (is_sorted nat_cmp (others_in part others.now)) }
     ensures place { result.0 ≡ spot_of part transaction others.now }
@@ -56,7 +56,7 @@ fn place_to_add(others: &[Other], part: Part, transaction: u32) -> (usize, u32)
     place_in(others, part, transaction)
 }
 
-// Whether the transaction is younger than each in this part. The last of them is the youngest, and stands near the end.
+// Whether the transaction's number is greater than each in this part. The last of them has the greatest, and stands near the end.
 fn is_youngest(others: &[Other], part: Part, transaction: u32) -> bool
     requires { T (is_sorted nat_cmp (others_in part others.now)) }
     ensures place { IsTrue result → spot_of part transaction others.now ≡ length others.now }

@@ -71,7 +71,7 @@ impl Model for Txn {
 }
 
 impl Room {
-    /// None.
+    /// No room.
     pub fn new(alloc: Global) -> Room {
         Room {
             items: VecDeque::new(alloc),
@@ -101,7 +101,7 @@ impl Txn {
         }
     }
 
-    // The room of what stood, for a transaction to come, where it is for no more than so many items as are kept room for.
+    // The room of its items, for a transaction to come; none, where it is for more than room is kept for.
     pub(crate) fn into_room(self) -> Room {
         let Txn {
             number: _,

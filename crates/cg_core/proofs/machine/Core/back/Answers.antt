@@ -6,7 +6,7 @@ use Rattle.cg_history.specs.SessionMap.{with_value}
 use Rattle.cg_txn.specs.Laws.{commands_above}
 use Rattle.cg_txn.specs.Stack.{Stack, has_savepoint}
 use Rattle.cg_core.specs.Parts.{IsCoreOf}
-use Rattle.cg_core.proofs.ReturningParts.{answer_told, state_told, noted_is, where_lent, no_error, out_refused, history_out, unchanged, few, few_records, slots_there}
+use Rattle.cg_core.proofs.ReturningParts.{answer_told, state_told, noted_is, where_lent, no_error, out_refused, history_out, unchanged, few, few_records, slot_there, slots_there}
 use Rattle.cg_core.proofs.ReturningToSavepoints.{back_may, back_refused, history_not_back, fewer_counted, few_come_off, back_answered, history_back, back_core}
 use Rattle.cg_core.proofs.machine.Core.back.Goals as goal
 
@@ -33,9 +33,7 @@ pub push-requires-clause-few : goal.push-requires-clause-few
 push-requires-clause-few c = few_records c.self.invariant
 
 pub push-requires-clause-reserved : goal.push-requires-clause-reserved
-push-requires-clause-reserved c =
-    let slots : length c.in-Some.txn.now.items + 1 ≤ c.self.inside.history.1 = slots_there c.self.invariant c.args.session.0 c.in-Some.txn.now (sym c.in-Some.ensures.value) in
-    omega (arith, slots)
+push-requires-clause-reserved c = slot_there c.self.invariant c.args.session.0 c.in-Some.txn.now (sym c.in-Some.ensures.value)
 
 pub overflow_sub-before : goal.overflow_sub-before
 overflow_sub-before c =

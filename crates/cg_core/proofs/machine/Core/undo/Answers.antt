@@ -5,7 +5,7 @@ use Rattle.cg_name.specs.declared.refusal.Refusal.TheVariants.{NothingToUndo}
 use Rattle.cg_txn.specs.Stack.{Stack, ends_in_command}
 use Rattle.cg_core.specs.Parts.{IsCoreOf}
 use Rattle.cg_history.specs.SessionMap.{with_value}
-use Rattle.cg_core.proofs.ReturningParts.{answer_told, state_told, noted_is, where_lent, no_error, out_refused, history_out, unchanged, few_records, slots_there}
+use Rattle.cg_core.proofs.ReturningParts.{answer_told, state_told, noted_is, where_lent, no_error, out_refused, history_out, unchanged, few_records, slot_there, slots_there}
 use Rattle.cg_core.proofs.ReturningByOne.{undo_may, undo_refused, history_not_undone, undo_answered, history_undone, undone_core}
 use Rattle.cg_core.proofs.machine.Core.undo.Goals as goal
 
@@ -38,9 +38,7 @@ pub push-requires-clause-few : goal.push-requires-clause-few
 push-requires-clause-few c = few_records c.self.invariant
 
 pub push-requires-clause-reserved : goal.push-requires-clause-reserved
-push-requires-clause-reserved c =
-    let slots : length c.in-Some.txn.now.items + 1 ≤ c.self.inside.history.1 = slots_there c.self.invariant c.args.session.0 c.in-Some.txn.now (sym c.in-Some.ensures.value) in
-    omega (arith, slots)
+push-requires-clause-reserved c = slot_there c.self.invariant c.args.session.0 c.in-Some.txn.now (sym c.in-Some.ensures.value)
 
 pub invariant_of-self-2 : goal.invariant_of-self-2
 invariant_of-self-2 c =
