@@ -1,6 +1,6 @@
 -- Words of slashes and simple bytes, and the paths that they spell.
-use Rattle.std.proofs.Common.{◌≡◌, ◌≢◌, ◌⊎◌, ℕ, suc, ◌+◌, ◌-◌, ◌<◌, ◌≤◌, ◌==◌, ◌&&◌, ◌||◌, Bool, true, false, not, bit_and, bit_or, cond, List, [], ◌∷◌, ◌++◌, length, map, take, drop, get_or, replicate, inl, inr, refl, sym, ap, subst, ◌∙◌, arith, length-append, length-take}
-use Rattle.std.proofs.lemmas.List.Sums.{count_by-le-length}
+use Rattle.std.proofs.Common.{◌≡◌, ◌≢◌, ◌⊎◌, ℕ, suc, ◌+◌, ◌-◌, ◌*◌, ◌<◌, ◌≤◌, ◌==◌, ◌&&◌, ◌||◌, Bool, true, false, not, cond, List, [], ◌∷◌, ◌++◌, length, map, take, drop, get_or, replicate, inl, inr, refl, sym, ap, subst, ◌∙◌, arith, length-append, length-take}
+use Rattle.std.proofs.lemmas.List.Sums.{count_by-le-length, sum_by-cons}
 use Rattle.std.proofs.lemmas.List.Splits.{length-slice_split}
 use Rattle.std.specs.List.{count_by, AllByRecursion, Contains, list_all, list_any, onto_first}
 use Rattle.std.specs.Str.{IsAscii}
@@ -10,23 +10,17 @@ use Rattle.std.proofs.Math.ListN.{set, length-map}
 use Rattle.std.proofs.Math.Seq.{take-append_seam}
 use Rattle.std.proofs.lemmas.List.{drop_more, nil_from_length, length-replicate, get_or-set_same, drop_all, map-append, take_all, take_more}
 use Rattle.std.proofs.lemmas.List.Recursion.{and_at}
-use Rattle.std.proofs.lemmas.Nat.{le_or_l, le_or_r}
 use Rattle.std.proofs.lemmas.Str.{IsUtf8-from_ascii}
 use Rattle.std.proofs.lemmas.Str.Ascii.{IsAscii-nil, IsAscii-cons}
 use Rattle.cg_name.specs.Name.{IsName, IsNameByte, reserved_names}
 use Rattle.cg_name.specs.Packed.{names_in, IsPacked}
 use Rattle.cg_name.specs.Path.{Path, IsPath, SpellsPath}
-use Rattle.cg_name.specs.Simple.{is_simple_byte}
+use Rattle.cg_name.specs.Simple.{is_simple_byte, is_slash, simple_text, may_follow, GoesOn}
 use Rattle.cg_name.specs.Pieces.{pieces, marked}
 use Rattle.cg_name.specs.Word.{is_bare_byte, IsBare}
 use Rattle.cg_name.proofs.Filling.{filled_more}
 use Rattle.cg_name.proofs.Pieces.{path_text-pieces}
 use Rattle.cg_name.proofs.Slashes.{kept_packed}
-
--- slashes and simple bytes, with no two slashes in a row, nor one at the end; `w` says whether a slash stands before
-abbrev pub simple_text : Bool → List ℕ → Bool
-simple_text w [] = not w
-simple_text w (b ∷ bs) = cond (is_simple_byte b) (simple_text false bs) ((b == 47) && not w && simple_text true bs)
 
 -- ---- a simple byte
 
@@ -125,9 +119,6 @@ parts w k (b ∷ bs) low h = elim (cases_Bool (is_simple_byte b)) [
       rw (slash.0, not-true w slash.1) (tt, omega arith, wider k (length bs) (pieces bs) (omega (arith, low)) more)
 ]
 
-abbrev pub is_slash : ℕ → Bool
-is_slash b = b == 47
-
 simple_path : (text : List ℕ) → length text ≤ 255 → count_by is_slash text < 64 → simple_text true text ≡ true → IsPath (pieces text)
 simple_path text low few h = record {
   names = short_names 255 (pieces text) (omega arith) (wider 255 (length text) (pieces text) low (parts true 255 text low h));
@@ -186,17 +177,50 @@ one_read text bytes i before kept all low few eb k h e =
     ∙ (λ j. simple_text (eb j == 0) (sym (drop_more text i 0 low) j))
     ∙ e
 
--- ---- the loop over a longer word
+-- ---- a longer word
 
--- where a byte is simple or a slash, and no slash behind another, what stands behind it decides
-tested_on : (b before other here behind : ℕ) (bs : List ℕ) → other ≡ cond (is_simple_byte b || is_slash b) 0 1 → here ≡ cond (is_slash b) 1 0 → behind ≡ cond (is_slash before) 1 0 → other ≡ 0 → bit_and here behind ≡ 0
-    → simple_text (is_slash before) (b ∷ bs) ≡ simple_text (is_slash b) bs
-tested_on b before other here behind bs eo eh eb o t = grind (arith, nat_tests)
+-- behind a byte of a text that goes on, and ends with no slash, what is left is simple
+rest_simple : (b : ℕ) (bs : List ℕ) → GoesOn (b ∷ bs) → is_slash (get_or (b ∷ bs) (length bs) 0) ≡ false → simple_text (is_slash b) bs ≡ true
+rest_simple b [] on last = ap not last
+rest_simple b (c ∷ cs) on last =
+    let more : simple_text (is_slash c) cs ≡ true = rest_simple c cs (λ k low. on (suc k) (omega (arith, low))) last in
+    let here : may_follow b c ≡ true = on 0 (omega arith) in
+    elim (cases_Bool (is_simple_byte c)) [
+      | inl simple ↦ cond-true _ _ _ simple ∙ (λ i. simple_text (sym (no_slash c simple) i) cs) ∙ more
+      | inr other ↦
+          let slash : (is_slash c && not (is_slash b)) ≡ true = (λ i. sym other i || (is_slash c && not (is_slash b))) ∙ here in
+          let both = and_parts (is_slash c) (not (is_slash b)) slash in
+          cond-false _ _ _ other ∙ and_from ((c == 47) && not (is_slash b)) (simple_text true cs) slash ((λ i. simple_text (sym both.0 i) cs) ∙ more)
+    ]
 
--- one byte more is tested: where all so far were such bytes, what is left decides
-pub one_tested : (text : List ℕ) (i others other here behind : ℕ) (all : Bool) → i < length text → other ≡ cond (is_simple_byte (get_or text i 0) || is_slash (get_or text i 0)) 0 1 → here ≡ cond (is_slash (get_or text i 0)) 1 0 → behind ≡ cond (is_slash (get_or text (i - 1) 0)) 1 0
-    → (others ≡ 0 → simple_text (is_slash (get_or text (i - 1) 0)) (drop i text) ≡ all) → bit_or others (bit_or other (bit_and here behind)) ≡ 0 → simple_text (is_slash (get_or text (i + 1 - 1) 0)) (drop (i + 1) text) ≡ all
-one_tested text i others other here behind all low eo eh eb tested none = grind (arith, tested_on, le_or_l, le_or_r, drop_more {X = ℕ})
+begun_simple : (text : List ℕ) → 0 < length text → is_simple_byte (get_or text 0 0) ≡ true → GoesOn text → is_slash (get_or text (length text - 1) 0) ≡ false → simple_text true text ≡ true
+begun_simple [] some first on last = absurd (omega (arith, some))
+begun_simple (b ∷ bs) some first on last =
+    cond-true _ _ _ first ∙ (λ i. simple_text (sym (no_slash b first) i) bs) ∙ rest_simple b bs on ((λ i. is_slash (get_or (b ∷ bs) (end i) 0)) ∙ last)
+  where
+    end : length bs ≡ length (b ∷ bs) - 1
+    end = omega arith
+
+-- of each two bytes one is no slash
+slashes_apart : (w : Bool) (bs : List ℕ) → simple_text w bs ≡ true → 2 * count_by is_slash bs + cond w 1 0 ≤ length bs
+slashes_apart true [] h = absurd (false≢true h)
+slashes_apart false [] h = omega arith
+slashes_apart w (b ∷ bs) h = elim (cases_Bool (is_simple_byte b)) [
+  | inl simple ↦
+      let left = slashes_apart false bs (sym (cond-true _ _ _ simple) ∙ h) in
+      rw (no_slash b simple) (elim w as (λ v. 2 * count_by is_slash bs + cond v 1 0 ≤ suc (length bs)) [ true ↦ omega (arith, left) | false ↦ omega (arith, left) ])
+  | inr other ↦
+      let tests : ((b == 47) && not w && simple_text true bs) ≡ true = sym (cond-false _ _ _ other) ∙ h in
+      let front = and_parts ((b == 47) && not w) (simple_text true bs) tests in
+      let slash = and_parts (b == 47) (not w) front.0 in
+      let left = slashes_apart true bs front.1 in
+      let count : count_by is_slash (b ∷ bs) ≡ 1 + count_by is_slash bs = sum_by-cons (λ x. cond (is_slash x) 1 0) b bs ∙ (λ i. cond (slash.0 i) 1 0 + count_by is_slash bs) in
+      subst (λ v. 2 * count_by is_slash (b ∷ bs) + cond v 1 0 ≤ suc (length bs)) (sym (not-true w slash.1)) (omega (arith, left, count))
+]
+
+-- so a short text has few
+pub few_in_short : (text : List ℕ) → length text < 128 → simple_text true text ≡ true → count_by is_slash text < 64
+few_in_short text low h = omega (arith, low, slashes_apart true text h)
 
 -- ---- the path
 
@@ -204,12 +228,11 @@ one_tested text i others other here behind all low eo eh eb tested none = grind 
 simple_so : (text : List ℕ) (i : ℕ) (w : Bool) → length text ≤ i → w ≡ false → simple_text w (drop i text) ≡ simple_text true text → simple_text true text ≡ true
 simple_so text i w past none tested = sym tested ∙ (λ j. simple_text (none j) (drop_all i text past j))
 
-pub simple_names : (text : List ℕ) (i slashes : ℕ) (w : Bool) → length text ≤ 255 → length text ≤ i → w ≡ false → simple_text w (drop i text) ≡ simple_text true text → slashes ≡ count_by is_slash (take i text) → slashes < 64
+pub simple_names : (text : List ℕ) → length text ≤ 255 → 0 < length text → is_simple_byte (get_or text 0 0) ≡ true → GoesOn text → is_slash (get_or text (length text - 1) 0) ≡ false → (simple_text true text ≡ true → count_by is_slash text < 64)
     → IsPath (pieces text) × (list_all is_bare_byte text ≡ true)
-simple_names text i slashes w low past none tested count few =
-    let simple = simple_so text i w past none tested in
-    let all : count_by is_slash (take i text) ≡ count_by is_slash text = ap (count_by is_slash) (take_all i text past) in
-    (simple_path text low (omega (arith, few, count, all)) simple, bare_bytes true text simple)
+simple_names text low some first on last few =
+    let simple = begun_simple text some first on last in
+    (simple_path text low (few simple) simple, bare_bytes true text simple)
 
 spells_itself : (text : List ℕ) → list_all is_bare_byte text ≡ true → IsPath (pieces text) → SpellsPath (47 ∷ text) (pieces text)
 spells_itself text bare path = (path, inl (record { nonempty = omega arith; bytes = bare }, path_text-pieces text))

@@ -1,6 +1,6 @@
 use Rattle.std.proofs.Common.{◌≡◌, ◌==◌, ◌+◌, ◌-◌, ◌∷◌, ◌++◌, true, drop, get_or, map, replicate, take}
 use Rattle.cg_name.specs.Pieces.{marked}
-use Rattle.cg_name.proofs.SimpleWords.{simple_text}
+use Rattle.cg_name.specs.Simple.{simple_text}
 use Rattle.cg_name.proofs.path_text.PathText.read_simple.Given as goal
 
 -- the text so far stands in the array, with zeros behind it, and what is left decides
