@@ -1,4 +1,5 @@
 pub mod Hints
+pub mod Places
 pub mod Puts
 pub mod Representable
 pub mod Runs

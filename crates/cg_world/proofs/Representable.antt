@@ -1,5 +1,6 @@
 -- What code can hold stays so, whatever is put in.
-use Rattle.std.proofs.Common.{◌≡◌, ℕ, ◌<◌, arith, inl, inr, Some, None, true, sym, ap, subst, ◌∙◌, Ordering}
+use Rattle.std.proofs.Common.{◌≡◌, ℕ, ◌<◌, arith, inl, inr, Some, None, Bool, true, false, IsTrue, true≢false, sym, ap, subst, ◌∙◌, Ordering}
+use Rattle.std.specs.Ordering.{nat_cmp}
 use Rattle.std.specs.Cmp.{IsTotalOrder, nat_cmp_total}
 use Rattle.std.specs.FinMap.{IsAntisymmetric, nat_cmp-IsAntisymmetric}
 use Rattle.cg_maps.specs.FiniteMap.{FiniteMap, get, set_at, empty}
@@ -11,7 +12,9 @@ use Rattle.cg_text.specs.declared.controllers.Controllers.{Controllers}
 use Rattle.cg_text.specs.declared.settings.Settings.{Settings}
 use Rattle.cg_model.specs.Tree.{Tree}
 use Rattle.cg_world.specs.Making.{bare_tree, with_group, with_process}
+use Rattle.cg_world.specs.Known.{IsAsKnown}
 use Rattle.cg_world.specs.Representable.{AreCpusUpTo, IsPid, IsRepresentable}
+use Rattle.cg_world.specs.Soundness.{HasSoundPlaces, IsSoundPlace}
 
 -- what holds of all that a map has holds with one entry more
 module _ {K X : Type 0} {R : K → K → Ordering} (o : IsTotalOrder R) (same : IsAntisymmetric R) (P : K → X → Type 0) where
@@ -73,4 +76,25 @@ process_representable T k p h pid path = record {
   online = h.online;
   groups = h.groups;
   processes = held nat_cmp_total nat_cmp-IsAntisymmetric IsProcess T.places k p h.processes (pid, path);
+}
+
+-- ---- beside what is known of the processes
+
+-- a tree of which nothing is known
+pub none_known : (T : Tree) → IsRepresentable T → IsAsKnown T false
+none_known T h = record { representable = h; places = λ t. absurd (true≢false (sym t)) }
+
+-- a tree with no processes
+pub no_places : (T : Tree) → T.places ≡ empty → HasSoundPlaces T
+no_places T none k p is = let e : None ≡ Some p = sym (ap (λ m. get m k) none ∙ get-empty nat_cmp k) ∙ is in absurd (cc e)
+
+-- a tree with one process more in a group that may have processes
+pub one_more_sound : (T : Tree) (k : ℕ) (p : Path) → HasSoundPlaces T → IsSoundPlace T p → HasSoundPlaces (with_process T k p)
+one_more_sound T k p h here = held nat_cmp_total nat_cmp-IsAntisymmetric (λ _. IsSoundPlace T) T.places k p h here
+
+-- and of which each process is known to be in such a group, by what is known of the one that comes and of those before
+pub one_known : (T : Tree) (k : ℕ) (p : Path) (b : Bool) → IsRepresentable T → IsPid k → IsPath p → (IsTrue b → HasSoundPlaces T × IsSoundPlace T p) → IsAsKnown (with_process T k p) b
+one_known T k p b h pid path known = record {
+  representable = process_representable T k p h pid path;
+  places = λ t. let all = known t in one_more_sound T k p all.0 all.1;
 }

@@ -1,13 +1,15 @@
 -- Runs of entries by ascending keys.
-use Rattle.std.proofs.Common.{◌≡◌, ◌≢◌, ℕ, zero, suc, true, false, cond, List, [], ◌∷◌, ◌++◌, ◌-◌, length, arith, Some, None, refl, sym, ap, subst, ◌∙◌, true≢false, Less, Equal, Greater}
+use Rattle.std.proofs.Common.{◌≡◌, ◌≢◌, ℕ, zero, suc, true, false, cond, List, [], ◌∷◌, ◌++◌, ◌-◌, length, slice_index_or, arith, Some, None, Result, Ok, Err, refl, sym, ap, subst, ◌∙◌, true≢false, Less, Equal, Greater}
 use Rattle.std.specs.Ordering.{eq_by_cmp, is_eq, is_lt, ordering_reverse}
 use Rattle.std.specs.declared.cmp.Ordering.{Ordering}
 use Rattle.std.specs.Cmp.{IsTotalOrder, tied_itself, eq_by_cmp_equiv}
 use Rattle.std.specs.Map.{keys_of}
 use Rattle.std.proofs.lemmas.Map.Keys.{IsDistinct-from_sorted}
 use Rattle.std.proofs.lemmas.Map.Made.{update_all_none}
+use Rattle.std.proofs.lemmas.Option.{none-some, same_Some}
 use Rattle.std.specs.List.{AllByRecursion, slice_get}
-use Rattle.std.specs.List.Sorted.{IsStrictlySortedBy}
+use Rattle.std.specs.Result.{result_ok}
+use Rattle.std.specs.List.Sorted.{IsBinarySearchResult, IsStrictlySortedBy}
 use Rattle.std.specs.FinMap.{IsAntisymmetric}
 use Rattle.std.specs.FinMap.Entries.{find}
 use Rattle.std.specs.BTreeMap.{BTreeMap, IsFromIterResult}
@@ -54,6 +56,21 @@ module _ {K X : Type 0} {R : K → K → Ordering} (o : IsTotalOrder R) where
       all_push [] h = (b.0, tt)
       all_push (f ∷ fs) h = (h.0, all_push fs h.1)
 
+  each_above : (k : K) (es : List (K × X)) (n : ℕ) (e : K × X) → AllByRecursion (λ q. R k q ≡ Less) (keys_of es) → slice_get es n ≡ Some e → R k e.0 ≡ Less
+  each_above k [] n e h at = absurd (none-some e at)
+  each_above k (f ∷ es) zero e h at = ap (λ g. R k g.0) (sym (same_Some f e at)) ∙ h.0
+  each_above k (f ∷ es) (suc n) e h at = each_above k es n e h.1 at
+
+  -- each of ascending entries is found by its key
+  pub found_at : (es : List (K × X)) (n : ℕ) (e : K × X) → IsStrictlySortedBy R (keys_of es) → slice_get es n ≡ Some e → find R e.0 es ≡ Some e.1
+  unfolding IsStrictlySortedBy
+  found_at [] n e s at = absurd (none-some e at)
+  found_at (f ∷ es) zero e s at =
+      subst (λ g. find R g.0 (f ∷ es) ≡ Some g.1) (same_Some f e at)
+      (ap (λ t. cond t (Some f.1) (find R f.0 es)) (ap is_eq (tied_itself o f.0)))
+  found_at (f ∷ es) (suc n) e s at =
+      ap (λ t. cond t (Some f.1) (find R e.0 es)) (apart_below o e.0 f.0 (each_above f.0 es n e s.0 at)) ∙ found_at es n e s.1 at
+
   pub none_found : (k : K) (es : List (K × X)) → AreBelow R k es → find R k es ≡ None
   none_found k [] b = refl
   none_found k (e ∷ es) b = ap (λ t. cond t (Some e.1) (find R k es)) (apart_below o k e.0 b.0) ∙ none_found k es b.1
@@ -68,7 +85,16 @@ pub sorted_none : {K X : Type 0} (R : K → K → Ordering) (es : List (K × X))
 unfolding IsStrictlySortedBy
 sorted_none R es e = subst (λ fs. IsStrictlySortedBy R (keys_of fs)) (sym e) tt
 
+-- the entry that a search for k found has an equal key
+pub searched_is : {K X : Type 0} (R : K → K → Ordering) (k : K) (es : List (K × X)) (r : Result ℕ ℕ) (n : ℕ) (e : K × X) → IsBinarySearchResult (λ f. R f.0 k) es r → result_ok r ≡ Some n → e ≡ slice_index_or es n e → R e.0 k ≡ Equal
+searched_is R k es (Ok m) n e h is at = subst (λ f. R f.0 k ≡ Equal) (ap (λ i. slice_index_or es i e) (same_Some m n is) ∙ sym at) (h e)
+searched_is R k es (Err m) n e h is at = absurd (none-some n is)
+
 module _ {K X : Type 0} {R : K → K → Ordering} (o : IsTotalOrder R) (same : IsAntisymmetric R) where
+  -- the map of ascending entries has each at its key
+  pub has_at : (es : List (K × X)) (n : ℕ) (e : K × X) → IsStrictlySortedBy R (keys_of es) → slice_get es n ≡ Some e → get (from_entries R es) e.0 ≡ Some e.1
+  has_at es n e s at = get-from_entries o same es e.0 ∙ found_at o es n e s at
+
   pub none_below : (k : K) (es : List (K × X)) → AreBelow R k es → get (from_entries R es) k ≡ None
   none_below k es b = get-from_entries o same es k ∙ none_found o k es b
 

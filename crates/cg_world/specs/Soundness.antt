@@ -3,7 +3,8 @@ use Rattle.std.specs.Prelude.{◌≡◌, ◌↔◌, ℕ, nat_eq, Bool, true, Lis
 use Rattle.std.specs.Borrow.{Bor}
 use Rattle.std.specs.Cmp.Lexicographic.{pointwise}
 use Rattle.std.specs.List.{list_any}
-use Rattle.cg_name.specs.Path.{Path, is_parent}
+use Rattle.cg_maps.specs.FiniteMap.{FiniteMap, get}
+use Rattle.cg_name.specs.Path.{Path, path_cmp, is_parent}
 use Rattle.cg_text.specs.declared.settings.Settings.{Settings}
 use Rattle.cg_model.specs.Tree.{Tree, group, place_of}
 use Rattle.cg_model.specs.Sound.{IsChildOf, IsRootOf, admits}
@@ -32,9 +33,13 @@ IsSoundGroup T p s = (q : Path) → is_parent q p ≡ true → (u : Settings) ×
 abbrev pub HasSoundGroups : Tree → Type 0
 HasSoundGroups T = (p : Path) (s : Settings) → group T p ≡ Some s → IsSoundGroup T p s
 
+-- of these groups, the one at the path is there and may have processes
+abbrev pub IsPlaceIn : FiniteMap path_cmp Settings → Path → Type 0
+IsPlaceIn groups p = (s : Settings) × (get groups p ≡ Some s) × (admits p s ≡ true)
+
 -- the path is that of a group that may have processes
 abbrev pub IsSoundPlace : Tree → Path → Type 0
-IsSoundPlace T p = (s : Settings) × (group T p ≡ Some s) × (admits p s ≡ true)
+IsSoundPlace T p = IsPlaceIn T.groups p
 
 -- whether one of the references leads to the path
 abbrev pub leads_to : List (Bor Path) → Path → Bool

@@ -1,5 +1,5 @@
 //! Maps made of entries that come one by one, mostly by ascending keys.
-ghost use Rattle.std.specs.Prelude.{◌≡◌, ◌⊎◌, [], IfOk, OnErr, OnOk, IsTrue, Some, is_some};
+ghost use Rattle.std.specs.Prelude.{◌≡◌, ◌⊎◌, [], IfOk, IfSome, OnErr, OnOk, IsTrue, Some, is_some, length};
 ghost use Rattle.std.specs.List.{AllByRecursion};
 ghost use Rattle.std.specs.declared.cmp.Ordering.TheVariants.{Less};
 ghost use Rattle.std.specs.List.Sorted.{IsStrictlySortedBy};
@@ -62,9 +62,31 @@ impl<K: Ord + Drop, V: Drop> Gathered<K, V> {
 
     /// The entries so far.
     pub(crate) fn kept(&self) -> &Kept<K, V>
-        ensures { entries_of result.now ≡ self.now }
+        ensures value { entries_of result.now ≡ self.now }
+        ensures ascends { IsStrictlySortedBy K.cmp (keys_of self.now) }
     {
         &self.kept
+    }
+
+    /// How many entries there are.
+    pub(crate) fn len(&self) -> usize
+        ensures { result ≡ length self.now }
+    {
+        match &self.kept {
+            Kept::Run(run) => run.len(),
+            Kept::Map(map) => map.len(),
+        }
+    }
+
+    /// The entry with this key, where one is found.
+    pub(crate) fn find(&self, key: &K) -> Option<(&K, &V)>
+        ensures key { IfSome result (λ e. IsAntisymmetric K.cmp → e.0.now ≡ key.now) }
+        ensures value { IfSome result (λ e. IsAntisymmetric K.cmp → get (from_entries K.cmp self.now) key.now ≡ Some e.1.now) }
+    {
+        match &self.kept {
+            Kept::Run(run) => find_in_run(run.as_slice(), key),
+            Kept::Map(map) => map.get_key_value(key),
+        }
     }
 
     /// Puts a value at the key, and answers whether there was one. An error, where there is no memory, leaves the entries or none.
@@ -106,6 +128,17 @@ fn is_behind<K: Ord, V: Drop>(run: &[(K, V)], key: &K) -> bool
         Some((last, _)) => last.cmp(key).is_lt(),
         None => true,
     }
+}
+
+// The entry with this key, where one is found among those in a row.
+fn find_in_run<'a, K: Ord, V>(run: &'a [(K, V)], key: &K) -> Option<(&'a K, &'a V)>
+    requires { IsStrictlySortedBy K.cmp (keys_of run.now) }
+    ensures key { IfSome result (λ e. IsAntisymmetric K.cmp → e.0.now ≡ key.now) }
+    ensures value { IfSome result (λ e. IsAntisymmetric K.cmp → get (from_entries K.cmp run.now) key.now ≡ Some e.1.now) }
+{
+    let index = run.binary_search_by(|entry| entry.0.cmp(key)).ok()?;
+    let (found, value) = run.get(index)?;
+    Some((found, value))
 }
 
 // The map of these entries.

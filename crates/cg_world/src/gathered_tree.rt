@@ -7,6 +7,7 @@ ghost use Rattle.cg_world.specs.Gathered.{entries_of};
 ghost use Rattle.cg_world.specs.Representable.{IsPid};
 
 use crate::gathered::{Gathered, Kept};
+use crate::gathered_groups::GatheredGroups;
 use crate::plain::PlainTree;
 use cg_boxed::CompactSettings;
 use cg_cpus::CpuSet;
@@ -20,8 +21,10 @@ use std::marker::Model;
 pub struct GatheredTree {
     controllers: Controllers,
     online: CpuSet,
-    groups: Gathered<Path, CompactSettings>,
+    groups: GatheredGroups,
     places: Gathered<u32, Path>,
+    // Whether each process is known to be in a group that may have processes.
+    are_places_sound: bool,
 }
 
 // By hand, so that whoever drops one calls this, and doesn't drop each thing in it: that makes proofs shorter.
@@ -32,6 +35,7 @@ impl Drop for GatheredTree {
             online: _,
             groups: _,
             places: _,
+            are_places_sound: _,
         } = self;
     }
 }
@@ -45,11 +49,11 @@ impl Model for GatheredTree {
     ghost coded = { tree_code };
 
     ghost use Rattle.cg_world.specs.GatheredTree.{gathered_tree};
-    ghost use Rattle.cg_world.specs.Representable.{IsRepresentable};
+    ghost use Rattle.cg_world.specs.Known.{IsAsKnown};
 
     ghost view = { gathered_tree };
 
-    ghost invariant = { λ t. IsRepresentable (gathered_tree t) };
+    ghost invariant = { λ t. IsAsKnown (gathered_tree t) t.are_places_sound };
 }
 
 impl GatheredTree {
@@ -62,8 +66,9 @@ impl GatheredTree {
         GatheredTree {
             controllers,
             online,
-            groups: Gathered::new(alloc),
+            groups: GatheredGroups::new(alloc),
             places: Gathered::new(alloc),
+            are_places_sound: false,
         }
     }
 
@@ -88,20 +93,26 @@ impl GatheredTree {
         // The path and the CPUs tell what holds of them.
         let _ = path.names();
         let _ = settings.cpus().contains(0);
+        self.are_places_sound = false;
         let had = self.groups.insert(alloc, path, settings)?;
         Ok(had)
     }
 
     /// Puts the process with this PID, from 1 to 4,194,303, into the group at this path, and answers whether there was one. After an
     /// error, where there is no memory, nothing is told of the tree.
-    pub fn set_place(&mut self, alloc: Global, pid: u32, path: Path) -> Result<bool, AllocError>
+    pub fn set_place(&mut self, alloc: Global, pid: u32, mut path: Path) -> Result<bool, AllocError>
         requires { IsPid pid }
         ensures ok { OnOk result (self.new ≡ record self.old { places = set_at self.old.places pid (Some path) }) }
         ensures had { IfOk result (λ had. had ≡ is_some (place_of self.old pid)) }
     {
         // The path tells what holds of it.
         let _ = path.names();
+        let so_far = self.places.len();
+        let is_allowed = self.groups.admit(alloc, so_far, &mut path)?;
+        let are_places_sound = is_allowed && (self.are_places_sound || so_far == 0);
+        self.are_places_sound = false;
         let had = self.places.insert(alloc, pid, path)?;
+        self.are_places_sound = are_places_sound;
         Ok(had)
     }
 
@@ -114,9 +125,10 @@ impl GatheredTree {
             online,
             groups,
             places,
+            are_places_sound,
         } = self;
         let groups = groups.finish(alloc)?;
         let places = places.finish(alloc)?;
-        Ok(PlainTree::from_maps(controllers, online, groups, places))
+        Ok(PlainTree::from_maps(controllers, online, groups, places, are_places_sound))
     }
 }

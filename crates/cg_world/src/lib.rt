@@ -3,6 +3,7 @@
 
 mod counts_hints;
 mod gathered;
+mod gathered_groups;
 mod gathered_tree;
 mod plain;
 mod soundness;

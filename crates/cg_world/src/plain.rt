@@ -1,12 +1,14 @@
 //! Trees in plain ordered maps, sound or not.
-ghost use Rattle.std.specs.Prelude.{◌≡◌, IfOk, IfErr, IfSome, OnOk, OnErr, Some, Option, is_some};
+ghost use Rattle.std.specs.Prelude.{◌≡◌, IsTrue, IfOk, IfErr, IfSome, OnOk, OnErr, Some, Option, is_some};
 ghost use Rattle.std.specs.Option.{option_copied, option_map};
 ghost use Rattle.std.specs.Ordering.{nat_cmp};
 ghost use Rattle.cg_maps.specs.FiniteMap.{set_at, empty, from_entries};
 ghost use Rattle.cg_name.specs.Path.{path_cmp};
 ghost use Rattle.cg_model.specs.Tree.{Tree, group, place_of};
 ghost use Rattle.cg_world.specs.Entries.{tree_of_entries};
+ghost use Rattle.cg_world.specs.Known.{IsAsKnown};
 ghost use Rattle.cg_world.specs.Representable.{IsPid, IsRepresentable};
+ghost use Rattle.cg_world.specs.Soundness.{HasSoundPlaces};
 
 use cg_boxed::CompactSettings;
 use cg_cpus::CpuSet;
@@ -22,6 +24,8 @@ pub struct PlainTree {
     online: CpuSet,
     groups: BTreeMap<Path, CompactSettings>,
     places: BTreeMap<u32, Path>,
+    // Whether each process is known to be in a group that may have processes.
+    are_places_sound: bool,
 }
 
 // By hand, so that whoever drops one calls this, and doesn't drop each thing in it: that makes proofs shorter.
@@ -32,6 +36,7 @@ impl Drop for PlainTree {
             online: _,
             groups: _,
             places: _,
+            are_places_sound: _,
         } = self;
     }
 }
@@ -45,11 +50,11 @@ impl Model for PlainTree {
     ghost coded = { tree_code };
 
     ghost use Rattle.cg_world.specs.Plain.{tree_of};
-    ghost use Rattle.cg_world.specs.Representable.{IsRepresentable};
+    ghost use Rattle.cg_world.specs.Known.{IsAsKnown};
 
     ghost view = { tree_of };
 
-    ghost invariant = { λ t. IsRepresentable (tree_of t) };
+    ghost invariant = { λ t. IsAsKnown (tree_of t) t.are_places_sound };
 }
 
 impl PlainTree {
@@ -64,17 +69,19 @@ impl PlainTree {
             online,
             groups: BTreeMap::new(alloc),
             places: BTreeMap::new(alloc),
+            are_places_sound: false,
         }
     }
 
-    // The tree of these maps.
+    // The tree of these maps. Whether each process is known to be in a group that may have processes goes with it.
     pub(crate) fn from_maps(
         controllers: Controllers,
         online: CpuSet,
         groups: BTreeMap<Path, CompactSettings>,
         places: BTreeMap<u32, Path>,
+        are_places_sound: bool,
     ) -> PlainTree
-        requires { IsRepresentable (tree_of_entries controllers online groups.entries places.entries) }
+        requires { IsAsKnown (tree_of_entries controllers online groups.entries places.entries) are_places_sound }
         ensures { result ≡ tree_of_entries controllers online groups.entries places.entries }
     {
         PlainTree {
@@ -82,6 +89,7 @@ impl PlainTree {
             online,
             groups,
             places,
+            are_places_sound,
         }
     }
 
@@ -122,6 +130,13 @@ impl PlainTree {
         self.places.get(&pid)
     }
 
+    // Whether each process is known to be in a group that may have processes.
+    pub(crate) fn are_places_sound(&self) -> bool
+        ensures { IsTrue result → HasSoundPlaces self.now }
+    {
+        self.are_places_sound
+    }
+
     /// Makes the group at this path, or gives it these settings, and answers whether there was one. An error, where there is
     /// no memory, leaves the tree as it was.
     pub fn set_group(&mut self, path: Path, settings: CompactSettings) -> Result<bool, AllocError>
@@ -132,6 +147,7 @@ impl PlainTree {
         // The path and the CPUs tell what holds of them.
         let _ = path.names();
         let _ = settings.cpus().contains(0);
+        self.are_places_sound = false;
         let former = self.groups.insert(path, settings)?;
         Ok(former.is_some())
     }
@@ -146,6 +162,7 @@ impl PlainTree {
     {
         // The path tells what holds of it.
         let _ = path.names();
+        self.are_places_sound = false;
         let former = self.places.insert(pid, path)?;
         Ok(former.is_some())
     }
@@ -159,6 +176,7 @@ impl PlainTree {
             online: self.online,
             groups: copy_groups(alloc, &self.groups)?,
             places: copy_places(alloc, &self.places)?,
+            are_places_sound: self.are_places_sound,
         })
     }
 

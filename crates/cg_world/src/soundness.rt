@@ -1,5 +1,5 @@
 //! Whether a plain tree is sound.
-ghost use Rattle.std.specs.Prelude.{◌≡◌, ◌↔◌, false, length, IsTrue, IfOk, IfErr, IfSome, OnOk, None, is_some};
+ghost use Rattle.std.specs.Prelude.{◌≡◌, ◌↔◌, false, length, Contains, IsTrue, IfOk, IfErr, IfSome, OnOk, None};
 ghost use Rattle.std.specs.Result.{IsErrOf};
 ghost use Rattle.cg_name.specs.Path.{is_parent, is_root};
 ghost use Rattle.cg_name.specs.Refusal.{IsSyntaxOrMemory};
@@ -87,67 +87,75 @@ impl<'a> Found<'a> {
     }
 }
 
+impl<'a> Found<'a> {
+    ghost use Rattle.cg_world.specs.declared.soundness.Found.{Found};
+
+    // Takes those off the end whose paths have no fewer names, and gives the last of those that are left.
+    fn last_above(above: &mut Vec<Found<'a>>, depth: u32) -> Option<Found<'a>>
+        ensures kept { (g : Found) → Contains above.new.items g → Contains above.old.items g }
+        ensures last { IfSome result (λ g. Contains above.old.items g) }
+    {
+        while let Some(last) = above.last().copied() {
+            if last.depth < depth {
+                return Some(last);
+            }
+            above.pop();
+        }
+        None
+    }
+}
+
 // Whether each group may be where it is.
 fn has_sound_groups(tree: &PlainTree, alloc: Global) -> Result<bool, AllocError>
     ensures { IfOk result (λ sound. IsTrue sound ↔ HasSoundGroups tree.now) }
 {
-    let mut before = None;
-    let mut parent = None;
+    // The group before, and those above it.
+    let mut above = Vec::new(alloc);
     for (path, settings) in tree.groups() {
         let child = Found::new(path, settings);
-        parent = sound_parent(tree, alloc, child, before, parent)?;
-        if parent.is_none() {
+        let near = Found::last_above(&mut above, child.depth);
+        if !is_sound_group(tree, alloc, child, near)? {
             return Ok(false);
         }
-        before = Some(child);
+        above.push(child)?;
     }
     Ok(true)
 }
 
-// The parent of a group that may be where it is, which for the root is itself; none where the group may not.
-fn sound_parent<'a>(
-    tree: &'a PlainTree,
+// Whether a group may be where it is. One that is near is looked at before its parent is looked up.
+fn is_sound_group(
+    tree: &PlainTree,
     alloc: Global,
-    child: Found<'a>,
-    before: Option<Found<'a>>,
-    last: Option<Found<'a>>,
-) -> Result<Option<Found<'a>>, AllocError>
+    child: Found<'_>,
+    near: Option<Found<'_>>,
+) -> Result<bool, AllocError>
     requires child { HasGroup tree.now child.path.now child.settings.now }
-    requires before { IfSome before (λ g. HasGroup tree.now g.path.now g.settings.now) }
-    requires last { IfSome last (λ g. HasGroup tree.now g.path.now g.settings.now) }
-    ensures sound { IfOk result (λ parent. IsTrue (is_some parent) ↔ IsSoundGroup tree.now child.entry.path.now child.entry.settings.now) }
-    ensures known { IfOk result (λ parent. IfSome parent (λ g. HasGroup tree.now g.path.now g.settings.now)) }
+    requires near { IfSome near (λ g. HasGroup tree.now g.path.now g.settings.now) }
+    ensures { IfOk result (λ sound. IsTrue sound ↔ IsSoundGroup tree.now child.entry.path.now child.entry.settings.now) }
 {
     if child.path.is_root() {
-        return Ok(Some(child));
+        return Ok(true);
     }
-    match find_parent(tree, alloc, child, before, last)? {
-        Some(parent) if may_be_child(parent.settings, child.settings) => Ok(Some(parent)),
-        _ => Ok(None),
+    match find_parent(tree, alloc, child, near)? {
+        Some(parent) => Ok(may_be_child(parent.settings, child.settings)),
+        None => Ok(false),
     }
 }
 
-// The parent of a group that isn't the root. In the order of the paths it is nearly always the group before, or the parent
-// that was found last.
+// The parent of a group that isn't the root. In the order of the paths it is the last of the groups before whose path is shorter.
 fn find_parent<'a>(
     tree: &'a PlainTree,
     alloc: Global,
     child: Found<'a>,
-    before: Option<Found<'a>>,
-    last: Option<Found<'a>>,
+    near: Option<Found<'a>>,
 ) -> Result<Option<Found<'a>>, AllocError>
     requires below { is_root child.path.now ≡ false }
-    requires before { IfSome before (λ g. HasGroup tree.now g.path.now g.settings.now) }
-    requires last { IfSome last (λ g. HasGroup tree.now g.path.now g.settings.now) }
+    requires near { IfSome near (λ g. HasGroup tree.now g.path.now g.settings.now) }
     ensures found { IfOk result (λ parent. IfSome parent (λ g. HasParent tree.now g.path.now g.settings.now child.entry.path.now)) }
     ensures none { IfOk result (λ parent. parent ≡ None → HasNoParent tree.now child.entry.path.now) }
 {
-    match before {
-        Some(near) if near.is_parent_of(&child) => return Ok(before),
-        _ => {}
-    }
-    match last {
-        Some(near) if near.is_parent_of(&child) => return Ok(last),
+    match near {
+        Some(last) if last.is_parent_of(&child) => return Ok(near),
         _ => {}
     }
     let path = child.path.prefix(alloc, child.depth.saturating_sub(1))?;
@@ -165,10 +173,13 @@ fn may_be_child(parent: &CompactSettings, settings: &CompactSettings) -> bool
     settings.control().is_subset(&control) && (settings.cpus().is_empty() || control.cpuset)
 }
 
-// Whether each process may be where it is.
+// Whether each process may be where it is. It is looked up where that isn't known already.
 fn has_sound_places(tree: &PlainTree, alloc: Global) -> Result<bool, AllocError>
     ensures { IfOk result (λ sound. IsTrue sound ↔ HasSoundPlaces tree.now) }
 {
+    if tree.are_places_sound() {
+        return Ok(true);
+    }
     let kept = allowed_places(tree, alloc)?;
     let allowed = kept.as_ref();
     for (_pid, path) in tree.places() {
@@ -219,7 +230,7 @@ fn sound_places(tree: &PlainTree, alloc: Global) -> Result<IndexSet<&Path>, Allo
 }
 
 // Whether the group at this path may have processes, with these settings.
-fn may_have_processes(path: &Path, settings: &CompactSettings) -> bool
+pub(crate) fn may_have_processes(path: &Path, settings: &CompactSettings) -> bool
     ensures { result ≡ admits path.now settings.now }
 {
     path.is_root() || settings.control().is_empty()

@@ -6,7 +6,6 @@ pub mod laws;
 mod parts;
 mod reader;
 mod reading;
-mod shared_paths;
 mod stage;
 mod statement;
 mod tree_writing;

@@ -7,7 +7,6 @@ ghost use Rattle.cg_model.specs.Sound.{Sound};
 ghost use Rattle.cg_model.specs.Tree.{Tree};
 ghost use Rattle.cg_world_text.specs.Reader.{BeginTree, HasTaken, SomeEnds, SpellTree};
 
-use crate::shared_paths::SharedPaths;
 use crate::stage::Stage;
 use crate::statement::Statement;
 use cg_name::Refusal;
@@ -20,8 +19,6 @@ use std::marker::Model;
 #[derive(Drop)]
 pub struct WorldReader {
     stage: Stage,
-    // Of the groups, for the processes.
-    paths: SharedPaths,
 }
 
 impl Model for WorldReader {
@@ -39,7 +36,6 @@ impl WorldReader {
     {
         WorldReader {
             stage: Stage::Begun,
-            paths: SharedPaths::new(),
         }
     }
 
@@ -56,8 +52,7 @@ impl WorldReader {
         if !read_words(line, &mut words)? {
             return Ok(());
         }
-        let mut statement = Statement::read(alloc, self.stage.version(), words.as_slice())?;
-        self.paths.share_in(alloc, &self.stage, &mut statement)?;
+        let statement = Statement::read(alloc, self.stage.version(), words.as_slice())?;
         self.stage.take(alloc, statement)
     }
 
@@ -75,7 +70,7 @@ impl WorldReader {
         ensures syntax { IsErrOf result Refusal.Syntax → (lines : List Line) (T : Tree) → HasTaken self lines → SpellTree lines T → Sound T → ⊥ }
         ensures refusals { IfErr result IsSyntaxOrMemory }
     {
-        let WorldReader { stage, paths: _ } = self;
+        let WorldReader { stage } = self;
         match stage {
             Stage::Ended(_, tree) => {
                 tree.check_sound(alloc)?;

@@ -51,14 +51,6 @@ impl Stage {
         }
     }
 
-    // The tree so far, where the line of a group or of a process can have come.
-    pub(crate) fn tree(&self) -> Option<&GatheredTree> {
-        match self {
-            Stage::Groups(_, tree) | Stage::Processes(_, tree) => Some(tree),
-            _ => None,
-        }
-    }
-
     // Takes one line more; `Syntax` where the line can't stand there. After an error nothing is told of the stage.
     pub(crate) fn take(&mut self, alloc: Global, statement: Statement) -> Result<(), Refusal>
         requires { HasPid statement }

@@ -7,15 +7,16 @@ use Rattle.cg_name.specs.Order.{path_cmp_total, path_cmp_exact}
 use Rattle.cg_model.specs.Tree.{group}
 use Rattle.cg_world.specs.Plain.{tree_of}
 use Rattle.cg_world.specs.Representable.{IsRepresentable}
-use Rattle.cg_world.proofs.Representable.{group_representable, up_to_last}
+use Rattle.cg_world.proofs.Representable.{group_representable, none_known, up_to_last}
 use Rattle.cg_world.proofs.Trees.{with_groups}
 use Rattle.cg_world.proofs.plain.PlainTree.set_group.Goals as goal
 
 pub invariant_of-self-2 : goal.invariant_of-self-2
 invariant_of-self-2 c =
-    subst IsRepresentable
+    none_known _
+    (subst IsRepresentable
     (sym (ap (with_groups (tree_of c.self.inside)) (view-insert path_cmp_total path_cmp_exact c.self.inside.groups c.insert.new.self c.args.path c.args.settings c.in_ok-former.ensures.updates)))
-    (group_representable (tree_of c.self.inside) c.args.path c.args.settings c.self.invariant c.names.ensures.valid (up_to_last c.args.settings.cpus (subst (λ s. (n : ℕ) → has s n ≡ true → n < 1024) c.cpus.ensures c.contains.ensures.below)))
+    (group_representable (tree_of c.self.inside) c.args.path c.args.settings c.self.invariant.representable c.names.ensures.valid (up_to_last c.args.settings.cpus (subst (λ s. (n : ℕ) → has s n ≡ true → n < 1024) c.cpus.ensures c.contains.ensures.below))))
 
 pub returns-clause-ok : goal.returns-clause-ok
 returns-clause-ok c =

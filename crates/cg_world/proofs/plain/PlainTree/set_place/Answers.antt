@@ -7,15 +7,16 @@ use Rattle.cg_maps.proofs.TreeMaps.{get-view, view-insert}
 use Rattle.cg_model.specs.Tree.{place_of}
 use Rattle.cg_world.specs.Plain.{tree_of}
 use Rattle.cg_world.specs.Representable.{IsRepresentable}
-use Rattle.cg_world.proofs.Representable.{process_representable}
+use Rattle.cg_world.proofs.Representable.{process_representable, none_known}
 use Rattle.cg_world.proofs.Trees.{with_places}
 use Rattle.cg_world.proofs.plain.PlainTree.set_place.Goals as goal
 
 pub invariant_of-self-2 : goal.invariant_of-self-2
 invariant_of-self-2 c =
-    subst IsRepresentable
+    none_known _
+    (subst IsRepresentable
     (sym (ap (with_places (tree_of c.self.inside)) (view-insert nat_cmp_total nat_cmp-IsAntisymmetric c.self.inside.places c.insert.new.self c.args.pid c.args.path c.in_ok-former.ensures.updates)))
-    (process_representable (tree_of c.self.inside) c.args.pid c.args.path c.self.invariant c.requires c.names.ensures.valid)
+    (process_representable (tree_of c.self.inside) c.args.pid c.args.path c.self.invariant.representable c.requires c.names.ensures.valid))
 
 pub returns-clause-ok : goal.returns-clause-ok
 returns-clause-ok c =

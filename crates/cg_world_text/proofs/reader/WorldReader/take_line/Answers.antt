@@ -36,7 +36,7 @@ returns-clause-syntax c =
     let version = c.version.ensures ∙ ap version_at c.self.view_is in
     let says = subst (λ v. SpellsStatement v (map (λ w. w.now) c.as_slice.result.now) c.in_ok-statement.statement) version c.in_ok-statement.ensures.value in
     λ e.
-    let stuck = ap (λ st. taken st c.in_ok-statement.statement) (sym c.self.view_is) ∙ ap (taken c.self.inside.stage) (sym c.share_in.ensures) ∙ c.take.ensures.syntax e in
+    let stuck = ap (λ st. taken st c.in_ok-statement.statement) (sym c.self.view_is) ∙ c.take.ensures.syntax e in
     taken_no_more c.args.self.now c.args.line.now (misplaced c.args.self.now c.args.line.now _ c.in_ok-statement.statement said says stuck)
 
 pub returns-clause-taken : goal.returns-clause-taken
@@ -45,7 +45,7 @@ returns-clause-taken c =
     let version = c.version.ensures ∙ ap version_at c.self.view_is in
     let says = subst (λ v. SpellsStatement v (map (λ w. w.now) c.as_slice.result.now) c.in_ok-statement.statement) version c.in_ok-statement.ensures.value in
     on_ok_weaker c.take.result
-    (λ goes. taken_spoken c.args.self.now c.take.new.self c.args.line.now _ c.in_ok-statement.statement said says (ap (λ st. taken st c.in_ok-statement.statement) (sym c.self.view_is) ∙ ap (taken c.self.inside.stage) (sym c.share_in.ensures) ∙ goes))
+    (λ goes. taken_spoken c.args.self.now c.take.new.self c.args.line.now _ c.in_ok-statement.statement said says (ap (λ st. taken st c.in_ok-statement.statement) (sym c.self.view_is) ∙ goes))
     c.take.ensures.value
 
 pub returns-clause-begins : goal.returns-clause-begins
