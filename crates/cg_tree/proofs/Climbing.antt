@@ -12,10 +12,8 @@ use Rattle.cg_path_tree.specs.declared.node.NodeKey.{NodeKey}
 use Rattle.cg_path_tree.specs.Nodes.{Nodes, parent_path, path_of, with_value, HaveOnePath, IsKey}
 use Rattle.cg_path_tree.proofs.Changing.{path_of-is}
 use Rattle.cg_path_tree.proofs.Parents.{below_parent, length-parent, no_child, root_no_child}
-use Rattle.cg_tree.specs.declared.entry.Count.{Count}
-use Rattle.cg_tree.specs.declared.entry.Count.TheVariants.{Groups, Processes}
 use Rattle.cg_tree.specs.declared.entry.Entry.{Entry}
-use Rattle.cg_tree.specs.Entries.{entry_at, path_at, recounted}
+use Rattle.cg_tree.specs.Entries.{entry_at, path_at}
 
 -- ---- above a path are its parent and what is above that
 
@@ -34,7 +32,7 @@ parent_is_above (n ∷ p) (m ∷ q) h =
     let both = and_parts (same_name n m) (is_parent p q) h in
     λ i. both.0 i && parent_is_above p q both.1 i
 
-root_only : (q : Path) → is_root q ≡ true → q ≡ []
+pub root_only : (q : Path) → is_root q ≡ true → q ≡ []
 root_only [] h = refl
 root_only (m ∷ q) h = absurd (false≢true h)
 
@@ -86,11 +84,7 @@ not_climbed change first at stays one key = record {
   values = λ q. same_entry (get first.values q) (passed change (path_at first at) (path_at first at) q) (λ e. ap (λ b. change b e) (not_yet (is_above q (path_at first at))) ∙ stays e);
 }
 
-pub not_recounted : (which : Count) (comes : Bool) (e : Entry) → recounted which comes false e ≡ e
-not_recounted Groups comes e = refl
-not_recounted Processes comes e = refl
-
-some_of : {A : Type 0} (w : Option A) → is_some w ≡ true → (x : A) × (w ≡ Some x)
+pub some_of : {A : Type 0} (w : Option A) → is_some w ≡ true → (x : A) × (w ≡ Some x)
 some_of None e = absurd (false≢true e)
 some_of (Some x) e = (x, refl)
 

@@ -1,11 +1,14 @@
 -- How many keys of a map pass a test, as one of them is written.
-use Rattle.std.proofs.Common.{◌≡◌, ℕ, suc, ◌+◌, ◌<◌, ◌≤◌, ◌^◌, ◌&&◌, Bool, true, false, not, cond, List, [], ◌∷◌, length, Option, Some, None, option_map, is_some, inl, inr, refl, sym, ap, subst, ◌∙◌, Ordering, arith, add-one, true≢false}
+use Rattle.std.proofs.Common.{◌≡◌, ℕ, suc, ◌+◌, ◌<◌, ◌≤◌, ◌^◌, ◌&&◌, ◌==◌, ◌≢◌, Bool, true, false, not, cond, List, [], ◌∷◌, map, length, Option, Some, None, option_map, is_some, inl, inr, refl, sym, ap, subst, ◌∙◌, Ordering, arith, add-one, true≢false}
+use Rattle.std.proofs.lemmas.Bool.{false≢true}
+use Rattle.std.proofs.lemmas.Bool.Decides.{nat_tests}
+use Rattle.std.proofs.lemmas.Option.{none-some}
 use Rattle.std.specs.Option.{option_flatten}
 use Rattle.std.specs.Cmp.{IsTotalOrder}
 use Rattle.std.specs.FinMap.{IsAntisymmetric}
 use Rattle.std.specs.FinMap.Entries.{is_sorted-put, length-put, where_key}
-use Rattle.cg_maps.specs.FiniteMap.{FiniteMap, bare, domain, empty, get, insert, len, retain, set_at, list-checked}
-use Rattle.cg_maps.proofs.Maps.{same_map, get-domain, get-empty, get-retain, get_here, get_apart, cases, set_same, set_set}
+use Rattle.cg_maps.specs.FiniteMap.{FiniteMap, bare, domain, empty, get, insert, is_nonempty, keys, len, retain, set_at, list-checked}
+use Rattle.cg_maps.proofs.Maps.{same_map, get-domain, get-empty, get-retain, get_here, get_apart, cases, set_same, set_set, some_key}
 use Rattle.cg_name.specs.declared.controller.Controller.{Controller}
 use Rattle.cg_name.specs.declared.controller.Controller.TheVariants.{Cpuset, Cpu, Io, Memory, Hugetlb, Pids, Rdma, Misc}
 use Rattle.cg_name.specs.Order.{path_cmp_total, path_cmp_exact}
@@ -22,6 +25,14 @@ one w = cond (is_some w) 1 0
 len-empty : {K : Type 0} (R : K → K → Ordering) (X : Type 0) → len (empty {X = X} {R = R}) ≡ 0
 unfolding len empty
 len-empty R X = refl
+
+nonempty_keys : {K X : Type 0} (es : List (K × X)) → is_nonempty (map (λ e. e.0) es) ≡ not (length es == 0)
+nonempty_keys [] = refl
+nonempty_keys (e ∷ es) = grind (arith, nat_tests)
+
+pub keys_by_len : {K X : Type 0} {R : K → K → Ordering} (m : FiniteMap R X) → is_nonempty (keys m) ≡ not (len m == 0)
+unfolding keys len
+keys_by_len m = nonempty_keys m.list
 
 module _ {K X : Type 0} {R : K → K → Ordering} (o : IsTotalOrder R) (same : IsAntisymmetric R) where
   -- ---- how many keys a map has
@@ -73,6 +84,56 @@ module _ {K X : Type 0} {R : K → K → Ordering} (o : IsTotalOrder R) (same : 
       ∙ len-set (retain m (λ q. t q (get m q))) k (cond (t k v) v None)
       ∙ ap (λ n. len (retain m (λ q. t q (get m q))) + n) (one_kept (t k v) v)
 
+  -- two tests that differ at one key alone
+  pub passing_apart : (m : FiniteMap R X) (t u : K → Bool) (k : K) → ((q : K) → q ≢ k → t q ≡ u q) → len (retain m u) + cond (t k) (one (get m k)) 0 ≡ len (retain m t) + cond (u k) (one (get m k)) 0
+  passing_apart m t u k differ =
+      let one_less = len-without (retain m t) k in
+      let another = len-without (retain m u) k in
+      let own = here t in
+      let other = here u in
+      let rest : len (set_at (retain m t) k None) ≡ len (set_at (retain m u) k None) = ap len (same_map o same _ _ same_rest) in
+      omega (arith, one_less, another, own, other, rest)
+    where
+      here : (v : K → Bool) → one (get (retain m v) k) ≡ cond (v k) (one (get m k)) 0
+      here v = ap one (get-retain o same m v k) ∙ at (v k)
+        where
+          at : (b : Bool) → one (cond b (get m k) None) ≡ cond b (one (get m k)) 0
+          at true = refl
+          at false = refl
+
+      same_rest : (q : K) → get (set_at (retain m t) k None) q ≡ get (set_at (retain m u) k None) q
+      same_rest q = elim (cases o same q k) [
+        | inl e ↦ subst (λ x. get (set_at (retain m t) k None) x ≡ get (set_at (retain m u) k None) x) (sym e) (get_here o same (retain m t) k None ∙ sym (get_here o same (retain m u) k None))
+        | inr ne ↦
+            get_apart o same (retain m t) k None q ne
+            ∙ get-retain o same m t q
+            ∙ ap (λ b. cond b (get m q) None) (differ q ne)
+            ∙ sym (get_apart o same (retain m u) k None q ne ∙ get-retain o same m u q)
+      ]
+
+  -- one that is there and passes
+  pub some_passing : (m : FiniteMap R X) (t : K → Bool) (k : K) (v : X) → get m k ≡ Some v → t k ≡ true → 0 < len (retain m t)
+  some_passing m t k v there passes =
+      let all = len-without (retain m t) k in
+      let here : one (get (retain m t) k) ≡ 1 = ap one (get-retain o same m t k ∙ ap (λ b. cond b (get m k) None) passes ∙ there) in
+      omega (arith, all, here)
+
+  -- and where some pass, there is one
+  pub found_key : (m : FiniteMap R X) → 0 < len m → (k : K) × (v : X) × (get m k ≡ Some v)
+  found_key m low = some_key o m (keys_by_len m ∙ above (len m) low)
+    where
+      above : (n : ℕ) → 0 < n → not (n == 0) ≡ true
+      above n l = grind (arith, nat_tests, l)
+
+  pub found_passing : (m : FiniteMap R X) (t : K → Bool) → 0 < len (retain m t) → (k : K) × (v : X) × (get m k ≡ Some v) × (t k ≡ true)
+  found_passing m t low =
+      let some = found_key (retain m t) low in
+      by some.0 some.1 (t some.0) refl (sym (get-retain o same m t some.0) ∙ some.2)
+    where
+      by : (k : K) (v : X) (b : Bool) → t k ≡ b → cond b (get m k) None ≡ Some v → (k : K) × (v : X) × (get m k ≡ Some v) × (t k ≡ true)
+      by k v true e h = (k, v, h, e)
+      by k v false e h = absurd (none-some v h)
+
   -- none passes where none that passes is there
   pub none_passing : (m : FiniteMap R X) (t : K → Bool) → ((q : K) → t q ≡ true → get m q ≡ None) → len (retain m t) ≡ 0
   none_passing m t h = ap len (same_map o same (retain m t) empty (λ q. get-retain o same m t q ∙ at q (t q) refl ∙ sym (get-empty R q))) ∙ len-empty R X
@@ -100,6 +161,19 @@ module _ {K X : Type 0} {R : K → K → Ordering} (o : IsTotalOrder R) (same : 
 
   pub len-domain-retain : (m : FiniteMap R X) (t : K → Bool) → len (retain (domain m) t) ≡ len (retain m t)
   len-domain-retain m t = ap len (sym (domain-retain m t)) ∙ len-domain (retain m t)
+
+  -- maps that have the same keys
+  pub passing_alike : (m n : FiniteMap R X) → ((q : K) → is_some (get m q) ≡ is_some (get n q)) → (t : K → Bool) → len (retain m t) ≡ len (retain n t)
+  passing_alike m n there t =
+      sym (len-domain-retain m t)
+      ∙ ap (λ d. len (retain d t)) (same_map o same (domain m) (domain n) (λ q. get-domain m q ∙ alike (get m q) (get n q) (there q) ∙ sym (get-domain n q)))
+      ∙ len-domain-retain n t
+    where
+      alike : (v w : Option X) → is_some v ≡ is_some w → option_map {U = Unit {0}} (λ _. tt) v ≡ option_map (λ _. tt) w
+      alike None None e = refl
+      alike None (Some y) e = absurd (false≢true e)
+      alike (Some x) None e = absurd (true≢false e)
+      alike (Some x) (Some y) e = refl
 
 -- ---- no more pass than there are keys
 

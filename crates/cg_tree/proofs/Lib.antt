@@ -9,6 +9,7 @@ mod NodeLists
 mod Numbering
 mod PassingOn
 mod Places
+mod Populated
 mod Prefixes
 mod Presence
 mod Putting
@@ -16,6 +17,8 @@ mod Rising
 mod Rooms
 mod Rooting
 mod Seeing
+mod Steps
+mod Turning
 mod Unlimited
 mod Unordered
 mod Values

@@ -167,11 +167,11 @@ same_bool true b f g = sym (f refl)
 same_bool false true f g = g refl
 same_bool false false f g = refl
 
-same_path_is : (p q : Path) → same_path p q ≡ true → p ≡ q
+pub same_path_is : (p q : Path) → same_path p q ≡ true → p ≡ q
 unfolding same_path
 same_path_is p q h = is_same path_cmp_total path_cmp_exact p q h
 
-path_itself : (p q : Path) → p ≡ q → same_path p q ≡ true
+pub path_itself : (p q : Path) → p ≡ q → same_path p q ≡ true
 unfolding same_path
 path_itself p q e = ap (eq_by_cmp path_cmp p) (sym e) ∙ here path_cmp_total path_cmp_exact p
 

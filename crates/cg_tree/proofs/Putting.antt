@@ -14,10 +14,9 @@ use Rattle.cg_path_tree.specs.declared.node.NodeKey.{NodeKey}
 use Rattle.cg_path_tree.specs.Nodes.{Nodes, with_value, AreClosed}
 use Rattle.cg_text.specs.Controllers.{has}
 use Rattle.cg_text.specs.declared.settings.Settings.{Settings}
-use Rattle.cg_tree.specs.declared.entry.Count.TheVariants.{Groups}
 use Rattle.cg_tree.specs.declared.entry.Entry.{Entry}
 use Rattle.cg_tree.specs.declared.passing.Passing.{Passing}
-use Rattle.cg_tree.specs.Entries.{counted, entry_at, group_count, groups_in, path_at, recounted, settings_of, with_right_below, AreCounted, AreCountedBelow, CanCount, IsCounted, IsCountedBelow}
+use Rattle.cg_tree.specs.Entries.{counted, entry_at, group_count, groups_in, path_at, with_below, settings_of, with_right_below, AreCounted, AreCountedBelow, CanCount, IsCounted, IsCountedBelow}
 use Rattle.cg_tree.specs.Passing.{control_of, passing_count, tally, times}
 use Rattle.cg_tree.specs.Present.{present}
 use Rattle.cg_tree.proofs.Climbing.{not_above_itself, parent_is_above}
@@ -163,7 +162,7 @@ module _ (a : Nodes Entry) (key : NodeKey) (e : Entry) (there : entry_at a key �
           let before = from_mapped (with_right_below comes (is_parent q p)) (get written.values q) x (sym (right q) ∙ h) in
           room most length fits (is_above q) passes x.below (ap (λ (y : Entry). y.below) (sym before.2) ∙ (counts_before q before.0 before.1).below)
 
-      module _ (c : Nodes Entry) (above : (q : Path) → get c.values q ≡ option_map (recounted Groups comes (is_above q p)) (get b.values q)) where
+      module _ (c : Nodes Entry) (above : (q : Path) → get c.values q ≡ option_map (with_below comes (is_above q p)) (get b.values q)) where
         settings_kept : (f : Entry → Entry) → ((x : Entry) → (f x).settings ≡ x.settings) → (w : Option Entry) → option_map settings_of (option_map f w) ≡ option_map settings_of w
         settings_kept f h None = refl
         settings_kept f h (Some x) = ap Some (h x)
@@ -173,7 +172,7 @@ module _ (a : Nodes Entry) (key : NodeKey) (e : Entry) (there : entry_at a key �
             same_map path_cmp_total path_cmp_exact (groups_in c.values) (groups_in written.values) (λ q.
             get-seen settings_of c.values q
             ∙ ap (option_map settings_of) (above q)
-            ∙ settings_kept (recounted Groups comes (is_above q p)) (λ x. refl) (get b.values q)
+            ∙ settings_kept (with_below comes (is_above q p)) (λ x. refl) (get b.values q)
             ∙ ap (option_map settings_of) (right q)
             ∙ settings_kept (with_right_below comes (is_parent q p)) (λ x. refl) (get written.values q)
             ∙ sym (get-seen settings_of written.values q))
@@ -186,10 +185,10 @@ module _ (a : Nodes Entry) (key : NodeKey) (e : Entry) (there : entry_at a key �
 
         pub counted_anew : AreCountedBelow c.values
         counted_anew q x h =
-            let last = from_mapped (recounted Groups comes (is_above q p)) (get b.values q) x (sym (above q) ∙ h) in
+            let last = from_mapped (with_below comes (is_above q p)) (get b.values q) x (sym (above q) ∙ h) in
             let first = from_mapped (with_right_below comes (is_parent q p)) (get written.values q) last.0 (sym (right q) ∙ last.1) in
             let old = counts_before q first.0 first.1 in
-            subst (λ (y : Entry). IsCountedBelow (groups_in c.values) q y) (ap (recounted Groups comes (is_above q p)) first.2 ∙ last.2)
+            subst (λ (y : Entry). IsCountedBelow (groups_in c.values) q y) (ap (with_below comes (is_above q p)) first.2 ∙ last.2)
             (record { below = recount (is_above q) first.0.below old.below; right_below = recount (is_parent q) first.0.right_below old.right_below })
 
 -- ---- an entry of no group comes or goes
@@ -254,7 +253,7 @@ none_counted_right_below a closed both p none = none_held (groups_in a.values) (
 
 module _ (a : Nodes Entry) (closed : AreClosed a.keys) (both : (p : Path) → is_some (get a.values p) ≡ is_some (get a.keys p)) (p : Path) (absent : get a.keys p ≡ None) (n : Passing) (none : n ≡ tally (λ c. 0)) where
   abbrev dead : Entry
-  dead = record { settings = None; below = 0; right_below = 0; passing = n; processes = 0 }
+  dead = record { settings = None; below = 0; right_below = 0; passing = n; populated_by = 0 }
 
   none_passing_there : (c : Controller) → times n c ≡ passing_count (groups_in a.values) p c
   none_passing_there c = ap (λ k. times k c) none ∙ times-tally (λ d. 0) c ∙ sym (none_passing_right_below a closed both p (ap is_some absent) c)

@@ -12,7 +12,7 @@ use Rattle.cg_text.specs.declared.settings.Settings.{Settings}
 use Rattle.cg_tree.specs.declared.entry.Entry.{Entry}
 use Rattle.cg_tree.specs.declared.new_value.NewValue.{NewValue}
 use Rattle.cg_tree.specs.declared.new_value.NewValue.TheVariants.{Control, Freeze, Cpus, MaxDescendants, MaxDepth}
-use Rattle.cg_tree.specs.Entries.{entry_at, groups_in, held_in, passing_in, passing_of, path_at, processes_of, settings_of, with_passing, AreCounted, AreCountedBelow}
+use Rattle.cg_tree.specs.Entries.{entry_at, groups_in, held_in, passing_in, passing_of, path_at, populated_by_of, settings_of, with_passing, AreCounted, AreCountedBelow}
 use Rattle.cg_tree.specs.NewValue.{with_new}
 use Rattle.cg_tree.specs.Passing.{control_of, CanPass}
 use Rattle.cg_tree.proofs.PassingOn.{all_counted, not_passing, room_to_pass, same_groups}
@@ -66,7 +66,7 @@ module _ (a : Nodes Entry) (key : NodeKey) (e : Entry) (there : entry_at a key �
   groups_changed = written ∙ ap (λ w. set_at (groups_in a.values) p (option_map (with_new n) w)) (sym had)
 
   pub held_alike : held_in changed.values ≡ held_in a.values
-  held_alike = seen_in_place processes_of a.values p e there (record e { settings = s }) refl
+  held_alike = seen_in_place populated_by_of a.values p e there (record e { settings = s }) refl
 
   passing_alike : passing_in changed.values ≡ passing_in a.values
   passing_alike = seen_in_place passing_of a.values p e there (record e { settings = s }) refl
@@ -92,4 +92,4 @@ module _ (a : Nodes Entry) (key : NodeKey) (e : Entry) (there : entry_at a key �
     counted_passing = all_counted a changed p e there s written counts passing_alike counted_below c values
 
     pub held_passing : held_in c.values ≡ held_in a.values
-    held_passing = same_seen processes_of c.values changed.values (λ q. with_passing (control_of e.settings) (control_of s) (is_parent q p)) (λ q x. refl) values ∙ held_alike
+    held_passing = same_seen populated_by_of c.values changed.values (λ q. with_passing (control_of e.settings) (control_of s) (is_parent q p)) (λ q x. refl) values ∙ held_alike

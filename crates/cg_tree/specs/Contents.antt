@@ -1,12 +1,12 @@
 -- What a tree holds at its paths: the settings of each group, and the group of each process.
-use Rattle.std.specs.Prelude.{◌≡◌, ℕ, ◌<◌, Option, Some, refl}
+use Rattle.std.specs.Prelude.{◌≡◌, ℕ, ◌<◌, ◌+◌, ◌&&◌, nat_lt, Bool, Option, Some, refl}
 use Rattle.std.specs.Coded.{Coded, code_by, coded×, coded_ℕ, coded_option}
 use Rattle.std.specs.Ordering.{nat_cmp}
 use Rattle.cg_maps.specs.FiniteMap.{FiniteMap, get, len, retain}
 use Rattle.cg_maps.specs.Code.{map_code}
 use Rattle.cg_model.specs.Code.{path_code, settings_code}
-use Rattle.cg_model.specs.Derived.{is_in_subtree}
-use Rattle.cg_name.specs.Path.{Path, path_cmp}
+use Rattle.cg_model.specs.Derived.{is_in, is_in_subtree}
+use Rattle.cg_name.specs.Path.{Path, path_cmp, is_parent}
 use Rattle.cg_path_tree.specs.declared.node.NodeKey.{NodeKey}
 use Rattle.cg_path_tree.specs.Nodes.{Nodes, path_of, IsKey}
 use Rattle.cg_places.specs.Located.{Located}
@@ -55,13 +55,29 @@ HaveNumbers keys most = (key : NodeKey) → IsKey keys key → key.0 < most
 
 -- ---- processes by the paths of their groups
 
--- the number of processes in the group at p and in those below it
+-- the number of processes in the group at p
+abbrev pub own_count : FiniteMap nat_cmp Path → Path → ℕ
+own_count places p = len (retain places (λ pid. is_in p (get places pid)))
+
+-- and in those below it too
 abbrev pub process_count : FiniteMap nat_cmp Path → Path → ℕ
 process_count places p = len (retain places (λ pid. is_in_subtree p (get places pid)))
 
--- each count of processes is that of its path
+-- some process is there
+abbrev pub populated : FiniteMap nat_cmp Path → Path → Bool
+populated places p = nat_lt 0 (process_count places p)
+
+-- how many of the paths with a count are right below p and populated
+abbrev pub populated_children : FiniteMap path_cmp ℕ → FiniteMap nat_cmp Path → Path → ℕ
+populated_children held places p = len (retain held (λ q. is_parent p q && populated places q))
+
+-- what is counted at p: its own processes, and the populated ones right below it
+abbrev pub counted_at : FiniteMap path_cmp ℕ → FiniteMap nat_cmp Path → Path → ℕ
+counted_at held places p = own_count places p + populated_children held places p
+
+-- each count is that of its path
 abbrev pub AreHeld : FiniteMap path_cmp ℕ → FiniteMap nat_cmp Path → Type 0
-AreHeld held places = (p : Path) (n : ℕ) → get held p ≡ Some n → n ≡ process_count places p
+AreHeld held places = (p : Path) (n : ℕ) → get held p ≡ Some n → n ≡ counted_at held places p
 
 -- what holds of the nodes and the processes
 pub record AreKept (nodes : Nodes Entry) (located : Located) : Type 0 where

@@ -1,4 +1,4 @@
--- What the nodes of the tree of groups hold: the settings of each group, and how many groups and processes are below each path.
+-- What the nodes of the tree of groups hold: the settings of each group, and how many groups are below each path.
 use Rattle.std.specs.Prelude.{◌≡◌, ◌<◌, ◌+◌, ◌-◌, ◌^◌, ℕ, Bool, true, false, cond, Option, Some}
 use Rattle.cg_maps.specs.FiniteMap.{FiniteMap, get, len, retain}
 use Rattle.cg_name.specs.declared.controller.Controller.{Controller}
@@ -7,8 +7,6 @@ use Rattle.cg_path_tree.specs.declared.node.NodeKey.{NodeKey}
 use Rattle.cg_path_tree.specs.Nodes.{Nodes, path_of}
 use Rattle.cg_text.specs.declared.controllers.Controllers.{Controllers}
 use Rattle.cg_text.specs.declared.settings.Settings.{Settings}
-use Rattle.cg_tree.specs.declared.entry.Count.{Count}
-use Rattle.cg_tree.specs.declared.entry.Count.TheVariants.{Groups, Processes}
 use Rattle.cg_tree.specs.declared.entry.Entry.{Entry}
 use Rattle.cg_tree.specs.declared.passing.Passing.{Passing}
 use Rattle.cg_tree.specs.Passing.{passing_count, stepped_if, times}
@@ -22,12 +20,12 @@ settings_of e = e.settings
 abbrev pub groups_in : FiniteMap path_cmp Entry → FiniteMap path_cmp (Option Settings)
 groups_in m = seen_map settings_of m
 
-abbrev pub processes_of : Entry → ℕ
-processes_of e = e.processes
+abbrev pub populated_by_of : Entry → ℕ
+populated_by_of e = e.populated_by
 
--- the map of the counts of processes
+-- the map of the counts of what each path is populated by
 abbrev pub held_in : FiniteMap path_cmp Entry → FiniteMap path_cmp ℕ
-held_in m = seen_map processes_of m
+held_in m = seen_map populated_by_of m
 
 abbrev pub passing_of : Entry → Passing
 passing_of e = e.passing
@@ -73,15 +71,13 @@ abbrev pub CanCount : Bool → ℕ → Type 0
 CanCount true n = n + 1 < 2 ^ 32
 CanCount false n = 0 < n
 
--- the count of an entry that changes at each path above
-abbrev pub count_of : Count → Entry → ℕ
-count_of Groups e = e.below
-count_of Processes e = e.processes
+-- the entry with the count of those below changed, where it is counted
+abbrev pub with_below : Bool → Bool → Entry → Entry
+with_below comes here e = record e { below = counted_if comes here e.below }
 
--- the entry with that count changed, where it is counted
-abbrev pub recounted : Count → Bool → Bool → Entry → Entry
-recounted Groups comes here e = record e { below = counted_if comes here e.below }
-recounted Processes comes here e = record e { processes = counted_if comes here e.processes }
+-- with the count of what it is populated by changed
+abbrev pub with_populated_by : Bool → Bool → Entry → Entry
+with_populated_by comes here e = record e { populated_by = counted_if comes here e.populated_by }
 
 -- the entry with the count of those right below changed, where it is counted
 abbrev pub with_right_below : Bool → Bool → Entry → Entry

@@ -2,6 +2,7 @@ pub mod Alive
 pub mod Ancestors
 pub mod Code
 pub mod Contents
+pub mod CountedUp
 pub mod Entries
 pub mod Inside
 pub mod Listing

@@ -1,15 +1,16 @@
-// The nodes of a tree's groups, with the counts of groups and processes below each kept as these come and go.
+// The nodes of a tree's groups, with the counts of groups below each, and of what populates it, kept as these come and go.
 ghost use Rattle.std.specs.Prelude.{◌≡◌, true, is_some, option_map, List, ℕ, IfOk, OnErr, OnOk, None, Some};
 ghost use Rattle.std.specs.Option.{option_flatten};
 ghost use Rattle.cg_maps.specs.FiniteMap.{get, set_at};
 ghost use Rattle.cg_name.specs.Path.{is_above, is_parent, is_prefix};
 ghost use Rattle.cg_path_tree.specs.Nodes.{with_value, HasParent, IsKey};
 ghost use Rattle.cg_tree.specs.declared.entry.Entry.{Entry};
-ghost use Rattle.cg_tree.specs.Entries.{count_of, counted, counted_if, entry_at, groups_in, held_in, passing_in, path_at, recounted, with_passing, with_right_below, AreCounted, AreCountedBelow, CanCount};
+ghost use Rattle.cg_tree.specs.CountedUp.{IsCountedUp};
+ghost use Rattle.cg_tree.specs.Entries.{counted, entry_at, groups_in, held_in, passing_in, path_at, with_below, with_passing, with_populated_by, with_right_below, AreCounted, AreCountedBelow, CanCount};
 ghost use Rattle.cg_tree.specs.NewValue.{value_there, with_new};
 ghost use Rattle.cg_tree.specs.Passing.{stepped, CanPass};
 
-use crate::entry::{Count, Entry, counted};
+use crate::entry::{Entry, counted};
 use crate::new_value::NewValue;
 use crate::passing::{Passing, control_of};
 use cg_boxed::CompactSettings;
@@ -40,17 +41,14 @@ fn write_value(nodes: &mut PathTree<Entry>, key: NodeKey, value: NewValue) -> Op
     }
 }
 
-// One more or less in a count of a node.
-fn count(nodes: &mut PathTree<Entry>, key: NodeKey, which: Count, comes: bool)
+// One group more or less below a node.
+fn count_below(nodes: &mut PathTree<Entry>, key: NodeKey, comes: bool)
     requires key { IsKey nodes.old.keys key }
-    requires room { (e : Entry) → entry_at nodes.old key ≡ Some e → CanCount comes (count_of which e) }
-    ensures { (e : Entry) → entry_at nodes.old key ≡ Some e → nodes.new ≡ with_value nodes.old (path_at nodes.old key) (recounted which comes true e) }
+    requires room { (e : Entry) → entry_at nodes.old key ≡ Some e → CanCount comes e.below }
+    ensures { (e : Entry) → entry_at nodes.old key ≡ Some e → nodes.new ≡ with_value nodes.old (path_at nodes.old key) (with_below comes true e) }
 {
     let entry = nodes.get_mut(key);
-    match which {
-        Count::Groups => entry.below = counted(entry.below, comes),
-        Count::Processes => entry.processes = counted(entry.processes, comes),
-    }
+    entry.below = counted(entry.below, comes);
 }
 
 // One group more or less right below a node.
@@ -61,6 +59,18 @@ fn count_right_below(nodes: &mut PathTree<Entry>, key: NodeKey, comes: bool)
 {
     let entry = nodes.get_mut(key);
     entry.right_below = counted(entry.right_below, comes);
+}
+
+// One more or less in the count of what a node is populated by, and that count then.
+fn count_populating(nodes: &mut PathTree<Entry>, key: NodeKey, comes: bool) -> u32
+    requires key { IsKey nodes.old.keys key }
+    requires room { (e : Entry) → entry_at nodes.old key ≡ Some e → CanCount comes e.populated_by }
+    ensures nodes { (e : Entry) → entry_at nodes.old key ≡ Some e → nodes.new ≡ with_value nodes.old (path_at nodes.old key) (with_populated_by comes true e) }
+    ensures count { (e : Entry) → entry_at nodes.old key ≡ Some e → result ≡ counted comes e.populated_by }
+{
+    let entry = nodes.get_mut(key);
+    entry.populated_by = counted(entry.populated_by, comes);
+    entry.populated_by
 }
 
 // What a group right below a node passes on is another set.
@@ -78,17 +88,17 @@ fn change_passing(
     entry.passing = entry.passing.changed(before, after);
 }
 
-// One more or less in that count of each node above that of the key.
-fn count_above(nodes: &mut PathTree<Entry>, key: NodeKey, which: Count, comes: bool)
+// One group more or less below each node above that of the key.
+fn count_above(nodes: &mut PathTree<Entry>, key: NodeKey, comes: bool)
     requires key { IsKey nodes.old.keys key }
-    requires room { (q : List (List ℕ)) (e : Entry) → is_above q (path_at nodes.old key) ≡ true → get nodes.old.values q ≡ Some e → CanCount comes (count_of which e) }
+    requires room { (q : List (List ℕ)) (e : Entry) → is_above q (path_at nodes.old key) ≡ true → get nodes.old.values q ≡ Some e → CanCount comes e.below }
     ensures keys { nodes.new.keys ≡ nodes.old.keys }
-    ensures values { (q : List (List ℕ)) → get nodes.new.values q ≡ option_map (recounted which comes (is_above q (path_at nodes.old key))) (get nodes.old.values q) }
+    ensures values { (q : List (List ℕ)) → get nodes.new.values q ≡ option_map (with_below comes (is_above q (path_at nodes.old key))) (get nodes.old.values q) }
 {
     nodes.laws();
     let mut at = key;
     while let Some(above) = nodes.parent(at) {
-        count(nodes, above, which, comes);
+        count_below(nodes, above, comes);
         at = above;
     }
 }
@@ -144,7 +154,7 @@ fn put_group(nodes: &mut PathTree<Entry>, key: NodeKey, settings: &mut Option<Co
     swap_settings(nodes, key, settings);
     if comes != was {
         count_at_parent(nodes, key, comes);
-        count_above(nodes, key, Count::Groups, comes);
+        count_above(nodes, key, comes);
     }
 }
 
@@ -203,7 +213,8 @@ pub(crate) fn put_value(
     was
 }
 
-// One process more or less in the group of a node: counted there and at each node above.
+// One process more or less in the group of a node: counted there, and at the node above where the group turned populated or back,
+// and so on. So one that comes to a populated group, or leaves one that stays so, is counted at one node.
 pub(crate) fn count_process(nodes: &mut PathTree<Entry>, key: NodeKey, comes: bool)
     requires key { IsKey nodes.old.keys key }
     requires counted { AreCounted nodes.old.values }
@@ -211,11 +222,21 @@ pub(crate) fn count_process(nodes: &mut PathTree<Entry>, key: NodeKey, comes: bo
     ensures keys { nodes.new.keys ≡ nodes.old.keys }
     ensures groups { groups_in nodes.new.values ≡ groups_in nodes.old.values }
     ensures counted { AreCounted nodes.new.values }
-    ensures held { (q : List (List ℕ)) → get (held_in nodes.new.values) q ≡ option_map (counted_if comes (is_prefix q (path_at nodes.old key))) (get (held_in nodes.old.values) q) }
+    ensures held { IsCountedUp comes (path_at nodes.old key) (held_in nodes.old.values) (held_in nodes.new.values) }
 {
     nodes.laws();
-    count(nodes, key, Count::Processes, comes);
-    count_above(nodes, key, Count::Processes, comes);
+    // What is counted of a group that turned: the first that comes turns it populated, and the last that goes turns it back.
+    let turned = u32::from(comes);
+    let mut at = key;
+    'up: loop {
+        if count_populating(nodes, at, comes) != turned {
+            return;
+        }
+        let Some(above) = nodes.parent(at) else {
+            return;
+        };
+        at = above;
+    }
 }
 
 // Puts a dead entry at a path that has none. Where there is no memory for it, all is as it was.
@@ -239,7 +260,7 @@ pub(crate) fn add_dead(
         below: 0,
         right_below: 0,
         passing: Passing::none(),
-        processes: 0,
+        populated_by: 0,
     };
     let Ok(key) = nodes.add(alloc, path, entry) else {
         return Err(AllocError);

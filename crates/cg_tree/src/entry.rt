@@ -5,13 +5,14 @@ ghost use Rattle.cg_tree.specs.Entries.{counted, CanCount};
 use crate::passing::Passing;
 use cg_boxed::CompactSettings;
 
-// The settings of a group, how many processes are in it and below, how many groups are below, and what those right below pass on.
-// What most commands look at stands first, in one line of the cache or two.
+// The settings of a group, what it is populated by, how many groups are below, and what those right below pass on. What most
+// commands look at stands first, in one line of the cache or two.
 pub(crate) struct Entry {
     // The settings of the group, and `None` where the path is dead.
     pub(crate) settings: Option<CompactSettings>,
-    // How many processes are in the groups at the path and below it.
-    pub(crate) processes: u32,
+    // How many processes are in the group itself, and how many of those right below it are populated, in one sum: the group is
+    // populated where that isn't 0.
+    pub(crate) populated_by: u32,
     // How many groups are below the path.
     pub(crate) below: u32,
     // How many of them are right below it.
@@ -20,21 +21,12 @@ pub(crate) struct Entry {
     pub(crate) passing: Passing,
 }
 
-// Which count of an entry changes at each path above.
-#[derive(Clone, Copy)]
-pub(crate) enum Count {
-    // Of the groups below.
-    Groups,
-    // Of the processes.
-    Processes,
-}
-
 // By hand, so that whoever drops one calls this, and doesn't drop each thing in it: that makes proofs shorter.
 impl Drop for Entry {
     fn drop(self) {
         let Entry {
             settings: _,
-            processes: _,
+            populated_by: _,
             below: _,
             right_below: _,
             passing: _,

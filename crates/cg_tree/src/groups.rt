@@ -1,5 +1,5 @@
-// The groups of a tree and its dead paths, each found by one look-up, with how many groups and processes are below, and the
-// processes in them.
+// The groups of a tree and its dead paths, each found by one look-up, with how many groups are below and whether it is populated,
+// and the processes in them.
 ghost use Rattle.std.specs.Prelude.{◌≡◌, ◌≢◌, ◌≤◌, ◌<◌, ℕ, false, filter, is_some, length, option_copied, option_map, suc, true, take, IsSome, IfOk, IsOk, OnErr, OnOk, Some, None};
 ghost use Rattle.std.specs.Option.{option_flatten};
 ghost use Rattle.cg_maps.specs.FiniteMap.{empty, entries, get, is_nonempty, keys, retain, set_at};
@@ -412,7 +412,7 @@ impl Groups {
     {
         self.nodes.laws();
         match entry(&self.nodes, path) {
-            Some(entry) => entry.processes > 0,
+            Some(entry) => entry.populated_by > 0,
             None => false,
         }
     }

@@ -9,7 +9,7 @@ pub returns-clause-groups : goal.returns-clause-groups
 returns-clause-groups c = ap groups_in c.in-Ok.ensures.values ∙ groups_added c.args.nodes.now c.laws.ensures.closed c.laws.ensures.both c.args.path.now c.requires.absent c.none.result c.none.ensures
 
 pub returns-clause-held : goal.returns-clause-held
-returns-clause-held c = ap held_in c.in-Ok.ensures.values ∙ held_written c.args.nodes.now.values c.args.path.now (Some (record { settings = None; below = 0; right_below = 0; passing = c.none.result; processes = 0 }))
+returns-clause-held c = ap held_in c.in-Ok.ensures.values ∙ held_written c.args.nodes.now.values c.args.path.now (Some (record { settings = None; below = 0; right_below = 0; passing = c.none.result; populated_by = 0 }))
 
 pub returns-clause-counted : goal.returns-clause-counted
 returns-clause-counted c =

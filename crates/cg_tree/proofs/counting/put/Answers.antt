@@ -3,7 +3,7 @@ use Rattle.std.proofs.Common.{◌≡◌, ◌<◌, ◌^◌, Some, option_map, tru
 use Rattle.cg_maps.specs.FiniteMap.{get, len}
 use Rattle.cg_name.specs.Path.{Path, is_parent}
 use Rattle.cg_path_tree.specs.Nodes.{path_of}
-use Rattle.cg_tree.specs.Entries.{entry_at, path_at, processes_of, with_passing}
+use Rattle.cg_tree.specs.Entries.{entry_at, path_at, populated_by_of, with_passing}
 use Rattle.cg_tree.specs.Passing.{control_of, CanPass}
 use Rattle.cg_tree.proofs.Climbing.{at_own_path}
 use Rattle.cg_tree.proofs.PassingOn.{all_counted, not_passing, room_to_pass, same_groups, same_sets}
@@ -44,7 +44,7 @@ returns-then-ne-clause-counted c =
 
 pub returns-then-ne-clause-held : goal.returns-then-ne-clause-held
 returns-then-ne-clause-held c =
-    same_seen processes_of c.pass_at_parent.new.nodes.values c.put_group.new.nodes.values (λ q. with_passing c.control_of-before.result c.control_of-after.result (is_parent q (path_at c.put_group.new.nodes c.args.key))) (λ q x. refl) c.pass_at_parent.ensures.values
+    same_seen populated_by_of c.pass_at_parent.new.nodes.values c.put_group.new.nodes.values (λ q. with_passing c.control_of-before.result c.control_of-after.result (is_parent q (path_at c.put_group.new.nodes c.args.key))) (λ q x. refl) c.pass_at_parent.ensures.values
     ∙ c.put_group.ensures.held
 
 pub returns-else-ne-clause-counted : goal.returns-else-ne-clause-counted

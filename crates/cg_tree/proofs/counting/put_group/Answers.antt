@@ -3,8 +3,7 @@ use Rattle.std.proofs.Common.{◌≡◌, ◌<◌, ◌^◌, Some, option_map, is_
 use Rattle.cg_maps.specs.FiniteMap.{get, len}
 use Rattle.cg_name.specs.Path.{is_above, is_parent}
 use Rattle.cg_path_tree.specs.Nodes.{path_of, IsKey}
-use Rattle.cg_tree.specs.declared.entry.Count.TheVariants.{Groups}
-use Rattle.cg_tree.specs.Entries.{entry_at, groups_in, held_in, passing_in, passing_of, path_at, processes_of, recounted, with_right_below, AreCountedBelow}
+use Rattle.cg_tree.specs.Entries.{entry_at, groups_in, held_in, passing_in, passing_of, path_at, populated_by_of, with_below, with_right_below, AreCountedBelow}
 use Rattle.cg_tree.proofs.Climbing.{at_own_path}
 use Rattle.cg_tree.proofs.Putting.{as_many, counted_alike, counted_anew, counted_groups, differ, agree, held_at, room_below, room_right_below, written_groups}
 use Rattle.cg_tree.proofs.Seeing.{same_seen, seen_in_place}
@@ -69,7 +68,7 @@ returns-then-comes-was-clause-groups c =
     let new : is_some c.args.settings.now ≡ c.is_some-comes.result = sym c.is_some-comes.ensures in
     let old : is_some e.settings ≡ not c.is_some-comes.result = sym c.is_some-was.ensures ∙ differ c.is_some-comes.result c.is_some-was.result c.if-comes-was.true in
     counted_groups c.args.nodes.now c.args.key e there c.args.settings.now c.requires.counted c.is_some-comes.result new old c.count_at_parent.new.nodes (λ r. subst (λ n. get c.count_at_parent.new.nodes.values r ≡ option_map (with_right_below c.is_some-comes.result (is_parent r (path_at n c.args.key))) (get n.values r)) wrote (c.count_at_parent.ensures.values r)) c.count_above.new.nodes
-    (λ r. subst (λ k. get c.count_above.new.nodes.values r ≡ option_map (recounted Groups c.is_some-comes.result (is_above r (path_of k c.args.key))) (get c.count_at_parent.new.nodes.values r)) (c.count_at_parent.ensures.keys ∙ ap (λ n. n.keys) wrote) (c.count_above.ensures.values r))
+    (λ r. subst (λ k. get c.count_above.new.nodes.values r ≡ option_map (with_below c.is_some-comes.result (is_above r (path_of k c.args.key))) (get c.count_at_parent.new.nodes.values r)) (c.count_at_parent.ensures.keys ∙ ap (λ n. n.keys) wrote) (c.count_above.ensures.values r))
 
 pub returns-then-comes-was-clause-counted : goal.returns-then-comes-was-clause-counted
 returns-then-comes-was-clause-counted c =
@@ -80,7 +79,7 @@ returns-then-comes-was-clause-counted c =
     let new : is_some c.args.settings.now ≡ c.is_some-comes.result = sym c.is_some-comes.ensures in
     let old : is_some e.settings ≡ not c.is_some-comes.result = sym c.is_some-was.ensures ∙ differ c.is_some-comes.result c.is_some-was.result c.if-comes-was.true in
     counted_anew c.args.nodes.now c.args.key e there c.args.settings.now c.requires.counted c.is_some-comes.result new old c.count_at_parent.new.nodes (λ r. subst (λ n. get c.count_at_parent.new.nodes.values r ≡ option_map (with_right_below c.is_some-comes.result (is_parent r (path_at n c.args.key))) (get n.values r)) wrote (c.count_at_parent.ensures.values r)) c.count_above.new.nodes
-    (λ r. subst (λ k. get c.count_above.new.nodes.values r ≡ option_map (recounted Groups c.is_some-comes.result (is_above r (path_of k c.args.key))) (get c.count_at_parent.new.nodes.values r)) (c.count_at_parent.ensures.keys ∙ ap (λ n. n.keys) wrote) (c.count_above.ensures.values r))
+    (λ r. subst (λ k. get c.count_above.new.nodes.values r ≡ option_map (with_below c.is_some-comes.result (is_above r (path_of k c.args.key))) (get c.count_at_parent.new.nodes.values r)) (c.count_at_parent.ensures.keys ∙ ap (λ n. n.keys) wrote) (c.count_above.ensures.values r))
 
 pub returns-else-comes-was-clause-keys : goal.returns-else-comes-was-clause-keys
 returns-else-comes-was-clause-keys c =
@@ -113,10 +112,10 @@ returns-then-comes-was-clause-held c =
     let e = c.get.result.now in
     let there : entry_at c.args.nodes.now c.args.key ≡ Some e = c.get.ensures (path_at c.args.nodes.now c.args.key) key in
     let wrote = c.swap_settings.ensures.nodes e there in
-    same_seen processes_of c.count_above.new.nodes.values c.count_at_parent.new.nodes.values _ (λ q e. refl) c.count_above.ensures.values
-    ∙ same_seen processes_of c.count_at_parent.new.nodes.values c.swap_settings.new.nodes.values (λ q. with_right_below c.is_some-comes.result (is_parent q (path_at c.swap_settings.new.nodes c.args.key))) (λ q e. refl) c.count_at_parent.ensures.values
+    same_seen populated_by_of c.count_above.new.nodes.values c.count_at_parent.new.nodes.values _ (λ q e. refl) c.count_above.ensures.values
+    ∙ same_seen populated_by_of c.count_at_parent.new.nodes.values c.swap_settings.new.nodes.values (λ q. with_right_below c.is_some-comes.result (is_parent q (path_at c.swap_settings.new.nodes c.args.key))) (λ q e. refl) c.count_at_parent.ensures.values
     ∙ ap (λ n. held_in n.values) wrote
-    ∙ seen_in_place processes_of c.args.nodes.now.values (path_at c.args.nodes.now c.args.key) e there (record e { settings = c.args.settings.now }) refl
+    ∙ seen_in_place populated_by_of c.args.nodes.now.values (path_at c.args.nodes.now c.args.key) e there (record e { settings = c.args.settings.now }) refl
 
 pub returns-else-comes-was-clause-held : goal.returns-else-comes-was-clause-held
 returns-else-comes-was-clause-held c =
@@ -125,7 +124,7 @@ returns-else-comes-was-clause-held c =
     let there : entry_at c.args.nodes.now c.args.key ≡ Some e = c.get.ensures (path_at c.args.nodes.now c.args.key) key in
     let wrote = c.swap_settings.ensures.nodes e there in
     ap (λ n. held_in n.values) wrote
-    ∙ seen_in_place processes_of c.args.nodes.now.values (path_at c.args.nodes.now c.args.key) e there (record e { settings = c.args.settings.now }) refl
+    ∙ seen_in_place populated_by_of c.args.nodes.now.values (path_at c.args.nodes.now c.args.key) e there (record e { settings = c.args.settings.now }) refl
 
 pub returns-then-comes-was-clause-passing : goal.returns-then-comes-was-clause-passing
 returns-then-comes-was-clause-passing c =

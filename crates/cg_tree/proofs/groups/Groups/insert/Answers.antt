@@ -76,6 +76,7 @@ invariant_of-self-in_default c =
           subst (λ h. AreHeld h (places_in c.remove.new.self.keys c.make_room.new.places.places)) (sym (ap held_in (c.remove.ensures.values c.args.path.now made) ∙ held_written c.add_dead.new.nodes.values c.args.path.now None ∙ ap (λ h. set_at h c.args.path.now None) c.in_ok-key.ensures.held))
           (subst (λ ps. AreHeld (set_at (set_at (held_in c.self.inside.nodes.values) c.args.path.now (Some 0)) c.args.path.now None) ps) (sym (λ i. places_in (same_keys (goal.at.invariant_of-self-in_default c).After-drop-remove i) (c.make_room.ensures.places i)))
           (held_without (set_at (held_in c.self.inside.nodes.values) c.args.path.now (Some 0)) (places_in c.self.inside.nodes.keys c.self.inside.places.places) c.args.path.now
+          (nobody_below c.self.inside.nodes.keys c.laws.ensures.closed c.laws.ensures.one_path c.self.inside.places.places c.self.invariant.placed c.args.path.now absent)
           (held_with (held_in c.self.inside.nodes.values) (places_in c.self.inside.nodes.keys c.self.inside.places.places) c.args.path.now
           (nobody_below c.self.inside.nodes.keys c.laws.ensures.closed c.laws.ensures.one_path c.self.inside.places.places c.self.invariant.placed c.args.path.now absent) c.self.invariant.held)));
       placed = subst (λ m. AreAtNodes c.remove.new.self.keys m) (sym c.make_room.ensures.places) (subst (λ ks. AreAtNodes ks c.self.inside.places.places) (sym (same_keys (goal.at.invariant_of-self-in_default c).After-drop-remove)) c.self.invariant.placed);

@@ -1,11 +1,12 @@
 -- The process is counted off where it was, gets the number of the path's node, and is counted there.
-use Rattle.std.proofs.Common.{◌≡◌, ◌<◌, ◌^◌, true, Some, None, option_map, is_some, ap, sym, subst, refl, arith, true≢false, ◌∙◌}
+use Rattle.std.proofs.Common.{◌≡◌, ◌<◌, ◌^◌, true, Some, None, is_some, ap, sym, subst, refl, arith, true≢false, ◌∙◌}
 use Rattle.cg_maps.specs.FiniteMap.{get, set_at}
 use Rattle.cg_model.specs.Key.{replaced}
 use Rattle.cg_name.specs.Path.{is_prefix}
 use Rattle.cg_path_tree.specs.Nodes.{path_of}
 use Rattle.cg_tree.specs.Contents.{places_in, Contents, AreAtNodes, AreHeld, HaveNumbers}
-use Rattle.cg_tree.specs.Entries.{counted_if, held_in}
+use Rattle.cg_tree.specs.CountedUp.{IsOneMoreUp}
+use Rattle.cg_tree.specs.Entries.{held_in}
 use Rattle.cg_tree.proofs.Climbing.{at_path}
 use Rattle.cg_tree.proofs.Holding.{held_where_it_comes, room_where_it_comes, room_where_it_was}
 use Rattle.cg_tree.proofs.Numbering.{has_node, moved, placed_in}
@@ -19,7 +20,7 @@ pub count_process-requires-clause-key : goal.count_process-requires-clause-key
 count_process-requires-clause-key c = has_node c.visit-found.new.self.keys c.self.inside.places.places c.args.pid c.in-Some-group_of.group c.new.result c.new.ensures c.in-Some-group_of.ensures (kept_again c.self.inside.nodes c.visit-found.new.self c.self.inside.places c.visit-found.ensures.same c.self.invariant).placed
 
 pub count_process-requires-clause-room : goal.count_process-requires-clause-room
-count_process-requires-clause-room c = room_where_it_was c.visit-found.new.self.keys c.laws.ensures.one_path c.self.inside.places.places (kept_again c.self.inside.nodes c.visit-found.new.self c.self.inside.places c.visit-found.ensures.same c.self.invariant).placed c.args.pid c.in-Some-group_of.group c.new.result c.new.ensures c.in-Some-group_of.ensures (held_in c.visit-found.new.self.values) (kept_again c.self.inside.nodes c.visit-found.new.self c.self.inside.places c.visit-found.ensures.same c.self.invariant).held
+count_process-requires-clause-room c = room_where_it_was c.visit-found.new.self c.laws.ensures.closed c.laws.ensures.one_path c.laws.ensures.both c.self.inside.places.places (kept_again c.self.inside.nodes c.visit-found.new.self c.self.inside.places c.visit-found.ensures.same c.self.invariant).placed c.args.pid c.in-Some-group_of.group c.new.result c.new.ensures c.in-Some-group_of.ensures (kept_again c.self.inside.nodes c.visit-found.new.self c.self.inside.places c.visit-found.ensures.same c.self.invariant).held
 
 -- ---- into the other group
 
@@ -35,7 +36,7 @@ count_process-requires-2-clause-room c q m above h =
     let put : c.put.new.self.places ≡ set_at c.self.inside.places.places c.args.pid (Some c.in-Some.key.0) =
     c.put.ensures.places (ap is_some (sym c.in-Some-group_of.ensures)) ∙ ap (λ n. set_at c.self.inside.places.places c.args.pid (Some n)) c.number.ensures in
     let fits : c.len.result < 2 ^ 32 = omega arith in
-    room_where_it_comes c.visit-found.new.self.keys c.laws.ensures.one_path c.self.inside.places.places (kept_again c.self.inside.nodes c.visit-found.new.self c.self.inside.places c.visit-found.ensures.same c.self.invariant).placed c.args.pid c.in-Some-group_of.group c.new.result c.new.ensures c.in-Some-group_of.ensures (held_in c.visit-found.new.self.values) (kept_again c.self.inside.nodes c.visit-found.new.self c.self.inside.places c.visit-found.ensures.same c.self.invariant).held (held_in c.count_process.new.nodes.values) c.count_process.ensures.held c.args.path.now c.in-Some.key (sym (found_again c.self.inside.nodes c.visit-found.new.self c.args.path.now c.visit-found.result (Some c.in-Some.key) c.visit-found.ensures.same c.visit-found.ensures.found c.in-Some.is)) c.put.new.self.places put c.len.result c.len.ensures.value fits q m
+    room_where_it_comes c.visit-found.new.self c.laws.ensures.closed c.laws.ensures.one_path c.laws.ensures.both c.self.inside.places.places (kept_again c.self.inside.nodes c.visit-found.new.self c.self.inside.places c.visit-found.ensures.same c.self.invariant).placed c.args.pid c.in-Some-group_of.group c.new.result c.new.ensures c.in-Some-group_of.ensures (kept_again c.self.inside.nodes c.visit-found.new.self c.self.inside.places c.visit-found.ensures.same c.self.invariant).held (held_in c.count_process.new.nodes.values) c.count_process.ensures.held c.args.path.now c.in-Some.key (sym (found_again c.self.inside.nodes c.visit-found.new.self c.args.path.now c.visit-found.result (Some c.in-Some.key) c.visit-found.ensures.same c.visit-found.ensures.found c.in-Some.is)) c.put.new.self.places put c.len.result c.len.ensures.value fits q m
     (subst (λ p. is_prefix q p ≡ true) place above) h
 
 pub invariant_of-self : goal.invariant_of-self
@@ -51,8 +52,8 @@ invariant_of-self-2 c =
       counted = c.count_process-2.ensures.counted;
       held =
           subst (λ ks. AreHeld (held_in c.count_process-2.new.nodes.values) (places_in ks c.put.new.self.places)) (sym keys)
-          (held_where_it_comes c.visit-found.new.self.keys c.laws.ensures.one_path c.self.inside.places.places (kept_again c.self.inside.nodes c.visit-found.new.self c.self.inside.places c.visit-found.ensures.same c.self.invariant).placed c.args.pid c.in-Some-group_of.group c.new.result c.new.ensures c.in-Some-group_of.ensures (held_in c.visit-found.new.self.values) (kept_again c.self.inside.nodes c.visit-found.new.self c.self.inside.places c.visit-found.ensures.same c.self.invariant).held (held_in c.count_process.new.nodes.values) c.count_process.ensures.held c.args.path.now c.in-Some.key (sym (found_again c.self.inside.nodes c.visit-found.new.self c.args.path.now c.visit-found.result (Some c.in-Some.key) c.visit-found.ensures.same c.visit-found.ensures.found c.in-Some.is)) c.put.new.self.places put (held_in c.count_process-2.new.nodes.values)
-          (λ q. subst (λ p. get (held_in c.count_process-2.new.nodes.values) q ≡ option_map (counted_if true (is_prefix q p)) (get (held_in c.count_process.new.nodes.values) q)) place (c.count_process-2.ensures.held q)));
+          (held_where_it_comes c.visit-found.new.self c.laws.ensures.closed c.laws.ensures.one_path c.laws.ensures.both c.self.inside.places.places (kept_again c.self.inside.nodes c.visit-found.new.self c.self.inside.places c.visit-found.ensures.same c.self.invariant).placed c.args.pid c.in-Some-group_of.group c.new.result c.new.ensures c.in-Some-group_of.ensures (kept_again c.self.inside.nodes c.visit-found.new.self c.self.inside.places c.visit-found.ensures.same c.self.invariant).held (held_in c.count_process.new.nodes.values) c.count_process.ensures.held c.args.path.now c.in-Some.key (sym (found_again c.self.inside.nodes c.visit-found.new.self c.args.path.now c.visit-found.result (Some c.in-Some.key) c.visit-found.ensures.same c.visit-found.ensures.found c.in-Some.is)) c.put.new.self.places put (held_in c.count_process-2.new.nodes.values)
+          (subst (λ p. IsOneMoreUp p (held_in c.count_process.new.nodes.values) (held_in c.count_process-2.new.nodes.values)) place c.count_process-2.ensures.held));
       placed =
           subst (λ ks. AreAtNodes ks c.put.new.self.places) (sym keys)
           (placed_in c.visit-found.new.self.keys c.laws.ensures.one_path c.self.inside.places.places (kept_again c.self.inside.nodes c.visit-found.new.self c.self.inside.places c.visit-found.ensures.same c.self.invariant).placed c.args.path.now c.in-Some.key (sym (found_again c.self.inside.nodes c.visit-found.new.self c.args.path.now c.visit-found.result (Some c.in-Some.key) c.visit-found.ensures.same c.visit-found.ensures.found c.in-Some.is)) c.put.new.self.places c.args.pid put);

@@ -3,12 +3,12 @@ use Rattle.std.proofs.Common.{◌≡◌, ℕ, Some, None, IsSome, is_some, ap, s
 use Rattle.std.specs.Option.{option_flatten}
 use Rattle.std.proofs.lemmas.Option.{none-some}
 use Rattle.cg_maps.specs.FiniteMap.{get, set_at}
-use Rattle.cg_maps.proofs.Maps.{set_same}
+use Rattle.cg_maps.proofs.Maps.{get_here, set_same}
 use Rattle.cg_name.specs.Order.{path_cmp_total, path_cmp_exact}
 use Rattle.cg_name.specs.Path.{Path, is_parent}
-use Rattle.cg_tree.specs.Contents.{numbered, places_in, Contents, AreHeld}
+use Rattle.cg_tree.specs.Contents.{numbered, places_in, process_count, Contents, AreHeld}
 use Rattle.cg_tree.specs.Entries.{groups_in, held_in, AreCounted}
-use Rattle.cg_tree.proofs.Holding.{held_without, held_written}
+use Rattle.cg_tree.proofs.Holding.{held_without, held_written, nobody_below}
 use Rattle.cg_tree.proofs.Numbering.{numbers_with_less, places_kept, stay_with_less, still_placed}
 use Rattle.cg_tree.proofs.Putting.{counted_kept, groups_written, no_node, node_there}
 use Rattle.cg_tree.proofs.Rooms.{none_there}
@@ -37,6 +37,14 @@ stays c =
 same_places : (c : After-laws-in-Some) → places_in c.remove.new.self.keys c.self.inside.places.places ≡ places_in c.visit-found.new.self.keys c.self.inside.places.places
 same_places c = places_kept c.visit-found.new.self.keys c.remove.new.self.keys c.laws.ensures.one_path c.laws-in-Some.ensures.one_path c.self.inside.places.places (kept_again c.self.inside.nodes c.visit-found.new.self c.self.inside.places c.visit-found.ensures.same c.self.invariant).placed (stays c)
 
+-- nor below it
+nobody : (c : After-laws-in-Some) → process_count (places_in c.visit-found.new.self.keys c.self.inside.places.places) c.args.path.now ≡ 0
+nobody c =
+    ap (λ ps. process_count ps c.args.path.now) (sym (same_places c))
+    ∙ nobody_below c.remove.new.self.keys c.laws-in-Some.ensures.closed c.laws-in-Some.ensures.one_path c.self.inside.places.places
+    (still_placed c.visit-found.new.self.keys c.remove.new.self.keys c.laws.ensures.one_path c.laws-in-Some.ensures.one_path c.self.inside.places.places (kept_again c.self.inside.nodes c.visit-found.new.self c.self.inside.places c.visit-found.ensures.same c.self.invariant).placed (stays c))
+    c.args.path.now (ap (λ ks. get ks c.args.path.now) (dropped c) ∙ get_here path_cmp_total path_cmp_exact c.visit-found.new.self.keys c.args.path.now None)
+
 pub invariant_of-self : goal.invariant_of-self
 invariant_of-self c =
     let own : Some c.in-Some.key ≡ get c.visit-found.new.self.keys c.args.path.now = (found_again c.self.inside.nodes c.visit-found.new.self c.args.path.now c.visit-found.result (Some c.in-Some.key) c.visit-found.ensures.same c.visit-found.ensures.found c.in-Some.is) in
@@ -47,7 +55,7 @@ invariant_of-self c =
       held =
           subst (λ ps. AreHeld (held_in c.remove.new.self.values) ps) (sym (same_places c))
           (subst (λ h. AreHeld h (places_in c.visit-found.new.self.keys c.self.inside.places.places)) (sym (ap held_in (c.remove.ensures.values c.args.path.now (sym own)) ∙ held_written c.visit-found.new.self.values c.args.path.now None))
-          (held_without (held_in c.visit-found.new.self.values) (places_in c.visit-found.new.self.keys c.self.inside.places.places) c.args.path.now (kept_again c.self.inside.nodes c.visit-found.new.self c.self.inside.places c.visit-found.ensures.same c.self.invariant).held));
+          (held_without (held_in c.visit-found.new.self.values) (places_in c.visit-found.new.self.keys c.self.inside.places.places) c.args.path.now (nobody (goal.at.invariant_of-self c).After-laws-in-Some) (kept_again c.self.inside.nodes c.visit-found.new.self c.self.inside.places c.visit-found.ensures.same c.self.invariant).held));
       placed = still_placed c.visit-found.new.self.keys c.remove.new.self.keys c.laws.ensures.one_path c.laws-in-Some.ensures.one_path c.self.inside.places.places (kept_again c.self.inside.nodes c.visit-found.new.self c.self.inside.places c.visit-found.ensures.same c.self.invariant).placed (stays c);
       numbers = numbers_with_less c.visit-found.new.self.keys c.remove.new.self.keys c.laws.ensures.one_path c.args.path.now (dropped c) c.self.inside.places.groups (kept_again c.self.inside.nodes c.visit-found.new.self c.self.inside.places c.visit-found.ensures.same c.self.invariant).numbers;
     }
