@@ -1,10 +1,12 @@
 //! Sets of CPU numbers in memory that their copies share.
-ghost use Rattle.std.specs.Prelude.{◌≡◌, ◌<◌, ℕ, cond, IfOk, IsOk, IsTrue, true};
+ghost use Rattle.std.specs.Prelude.{◌≡◌, ◌<◌, ℕ, cond, IfOk, IfSome, IsOk, IsTrue, true};
+ghost use Rattle.cg_cpus.specs.Words.{low_set};
 ghost use Rattle.std.proofs.Common.{nat_eq, rules};
 ghost use Rattle.std.specs.Cmp.Lexicographic.{pointwise};
 ghost use Rattle.std.specs.Cmp.Rules.{comparing};
 ghost use Rattle.cg_maps.specs.FiniteSet.{has, in_common, is_empty_set, members, no_members};
 
+use crate::low::LowCpus;
 use cg_cpus::CpuSet;
 use std::alloc::{AllocError, Global};
 use std::marker::Model;
@@ -72,6 +74,26 @@ impl BoxedCpus {
         ensures { result ≡ no_members }
     {
         BoxedCpus { kept: Kept::Low(0) }
+    }
+
+    // The set of the numbers below 64 whose bits the word has.
+    pub(crate) fn from_low(word: u64) -> BoxedCpus
+        ensures { result ≡ low_set word }
+    {
+        BoxedCpus {
+            kept: Kept::Low(word),
+        }
+    }
+
+    /// The set in a word, where its numbers are below 64.
+    #[inline(always)]
+    pub fn low(&self) -> Option<LowCpus>
+        ensures { IfSome result (λ low. low ≡ self.now) }
+    {
+        match &self.kept {
+            Kept::Low(word) => Some(LowCpus { word: *word }),
+            Kept::Wide(_) => None,
+        }
     }
 
     /// That set; an error where there is no memory for it. A set of numbers below 64 takes none, and so the empty one.

@@ -4,8 +4,10 @@
 mod compact;
 mod cpus;
 mod limit;
+mod low;
 mod settings;
 
 pub use compact::CompactSettings;
 pub use cpus::BoxedCpus;
+pub use low::LowCpus;
 pub use settings::BoxedSettings;

@@ -30,7 +30,7 @@ pub(crate) fn create(
         near: tree.near(),
         path: own,
     };
-    Ok((Outcome::Done, Inverse::of_one(alloc, change)))
+    Ok((Outcome::Done, Inverse::of_one(change)))
 }
 
 // Takes the group at the path away. Its entry stays.
@@ -64,7 +64,7 @@ pub(crate) fn remove(
         path: own,
         before,
     };
-    Ok((Outcome::Done, Inverse::of_one(alloc, change)))
+    Ok((Outcome::Done, Inverse::of_one(change)))
 }
 
 // Moves the process into the group.
@@ -90,7 +90,7 @@ pub(crate) fn migrate(
         left: path.copy(alloc)?,
     };
     tree.put_place(pid, path);
-    Ok((Outcome::Done, Inverse::of_one(alloc, change)))
+    Ok((Outcome::Done, Inverse::of_one(change)))
 }
 
 // Writes `cgroup.freeze`.
@@ -117,7 +117,7 @@ pub(crate) fn freeze(
         before,
         left: value,
     };
-    Ok((Outcome::Done, Inverse::of_one(alloc, change)))
+    Ok((Outcome::Done, Inverse::of_one(change)))
 }
 
 // Writes `cpuset.cpus`.
@@ -133,19 +133,14 @@ pub(crate) fn cpus(
 {
     let own = path.copy(alloc)?;
     let left = value.copy(alloc)?;
-    let value = NewValue::Cpus(value.copy(alloc)?);
     let near = tree.near();
-    let Some(NewValue::Cpus(before)) = tree.swap_value(path, near, value) else {
+    let Some(settings) = tree.settings(path) else {
         // As above.
         unreachable!()
     };
-    let change = Change::Cpus {
-        near,
-        path: own,
-        before,
-        left,
-    };
-    Ok((Outcome::Done, Inverse::of_one(alloc, change)))
+    let change = Change::of_cpus(alloc, near, own, settings.cpus().copy(alloc)?, left)?;
+    tree.put_value(path, near, NewValue::Cpus(value.copy(alloc)?));
+    Ok((Outcome::Done, Inverse::of_one(change)))
 }
 
 // Writes `cgroup.max.descendants`.
@@ -172,7 +167,7 @@ pub(crate) fn max_descendants(
         before,
         left: limit,
     };
-    Ok((Outcome::Done, Inverse::of_one(alloc, change)))
+    Ok((Outcome::Done, Inverse::of_one(change)))
 }
 
 // Writes `cgroup.max.depth`.
@@ -199,7 +194,7 @@ pub(crate) fn max_depth(
         before,
         left: limit,
     };
-    Ok((Outcome::Done, Inverse::of_one(alloc, change)))
+    Ok((Outcome::Done, Inverse::of_one(change)))
 }
 
 // Sets which CPUs are online.
@@ -216,7 +211,7 @@ pub(crate) fn online(
         left: value.copy(alloc)?,
     };
     tree.put_online(value.get());
-    Ok((Outcome::Done, Inverse::of_one(alloc, change)))
+    Ok((Outcome::Done, Inverse::of_one(change)))
 }
 
 // Tells the text of the file.

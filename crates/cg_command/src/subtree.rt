@@ -53,12 +53,13 @@ fn changes_of(
 {
     let mut inverse = Inverse::new(alloc);
     add_emptied(loses_cpuset(before, left), path, alloc, tree, &mut inverse)?;
-    inverse.push(Change::Control {
+    let control = Change::Control {
         near: tree.near(),
         path: path.copy(alloc)?,
         before,
         left,
-    })?;
+    };
+    inverse.push(alloc, control)?;
     Ok(inverse)
 }
 
@@ -84,12 +85,16 @@ fn add_emptied(
     }
     let mut children = tree.children_with_cpus(alloc, path)?;
     while let Some((child, settings)) = children.next() {
-        inverse.push(Change::Cpus {
-            near: children.near(),
-            path: child.to_path(alloc)?,
-            before: settings.cpus().copy(alloc)?,
-            left: BoxedCpus::empty(),
-        })?;
+        let near = children.near();
+        let before = settings.cpus().copy(alloc)?;
+        let change = Change::of_cpus(
+            alloc,
+            near,
+            child.to_path(alloc)?,
+            before,
+            BoxedCpus::empty(),
+        )?;
+        inverse.push(alloc, change)?;
     }
     Ok(())
 }

@@ -1,15 +1,15 @@
 //! Changes: a key of the tree, what it held before a command, and what the command left there.
-ghost use Rattle.std.specs.Prelude.{◌≡◌, ◌↔◌, IsOk, IsTrue, OnErr, OnOk, Some, option_copied};
+ghost use Rattle.std.specs.Prelude.{◌≡◌, ◌↔◌, IfOk, IsOk, IsTrue, OnErr, OnOk, Some, option_copied};
 ghost use Rattle.cg_inverse.specs.Meaning.{change_of, FitsIn, HasRoomIn, HasRoomToMake, LeavesNoCpus, MayGoBack};
-ghost use Rattle.cg_model.specs.Key.{put};
+ghost use Rattle.cg_model.specs.Change.{change};
+ghost use Rattle.cg_model.specs.Key.{put, Part, Cpus};
 ghost use Rattle.cg_text.specs.Settings.{fresh};
 
-use cg_boxed::{BoxedCpus, BoxedSettings, CompactSettings};
+use cg_boxed::{BoxedCpus, BoxedSettings, CompactSettings, LowCpus};
 use cg_name::Path;
 use cg_text::{Controllers, Limit};
 use cg_tree::{NewValue, Tree};
 use std::alloc::{AllocError, Global};
-use std::default::MadeWith;
 
 /// One key of a tree, with what it held before a command and what the command left. What is near is the number of the entry that the
 /// group most likely has, as `Tree::near` gives it: it is for speed alone, and any does.
@@ -61,16 +61,25 @@ pub enum Change {
         /// Its own value now.
         left: bool,
     },
-    /// `cpuset.cpus` of a group.
-    Cpus {
+    /// `cpuset.cpus` of a group, of CPUs below 64.
+    LowCpus {
         /// Near which entry.
         near: u32,
         /// The group.
         path: Path,
         /// The CPUs that it asked for before.
-        before: BoxedCpus,
+        before: LowCpus,
         /// The CPUs that it asks for now.
-        left: BoxedCpus,
+        left: LowCpus,
+    },
+    /// `cpuset.cpus` of a group, of any CPUs.
+    WideCpus {
+        /// Near which entry.
+        near: u32,
+        /// The group.
+        path: Path,
+        /// The CPUs that it asked for before, and those that it asks for now.
+        both: Box<BothCpus>,
     },
     /// `cgroup.max.descendants` of a group.
     MaxDescendants {
@@ -103,8 +112,17 @@ pub enum Change {
     },
 }
 
-// It is handed on with each command.
-const _: () = prove!(size_of::<Change>() == 56);
+// One stands on a transaction's stack for most commands, and is handed on with each.
+const _: () = prove!(size_of::<Change>() == 40);
+
+/// The CPUs that a group asked for before a command, and those that it asks for after it.
+#[derive(Drop)]
+pub struct BothCpus {
+    /// Those before.
+    pub before: BoxedCpus,
+    /// Those after.
+    pub left: BoxedCpus,
+}
 
 // By hand, so that whoever drops one calls this, and doesn't drop each thing in it: that makes proofs shorter. It
 // stands in its callers all the same: most of these have nothing to give back.
@@ -135,11 +153,16 @@ impl Drop for Change {
                 before: _,
                 left: _,
             } => {}
-            Change::Cpus {
+            Change::LowCpus {
                 near: _,
                 path: _,
                 before: _,
                 left: _,
+            } => {}
+            Change::WideCpus {
+                near: _,
+                path: _,
+                both: _,
             } => {}
             Change::MaxDescendants {
                 near: _,
@@ -158,17 +181,31 @@ impl Drop for Change {
     }
 }
 
-// What fills the place of an inverse that has no change yet.
-impl MadeWith<Global> for Change {
-    fn made_with(_alloc: Global) -> Change {
-        Change::Online {
-            before: BoxedCpus::empty(),
-            left: BoxedCpus::empty(),
-        }
-    }
-}
-
 impl Change {
+    /// That of `cpuset.cpus` of the group at the path, near that entry. An error, where there is no memory for it: where all CPUs
+    /// are below 64, it takes none.
+    #[inline(always)]
+    pub fn of_cpus(
+        alloc: Global,
+        near: u32,
+        path: Path,
+        before: BoxedCpus,
+        left: BoxedCpus,
+    ) -> Result<Change, AllocError>
+        ensures { IfOk result (λ c. change_of c ≡ change (Part path Cpus) (Some before) (Some left)) }
+    {
+        if let (Some(before), Some(left)) = (before.low(), left.low()) {
+            return Ok(Change::LowCpus {
+                near,
+                path,
+                before,
+                left,
+            });
+        }
+        let both = Box::new(alloc, BothCpus { before, left })?;
+        Ok(Change::WideCpus { near, path, both })
+    }
+
     /// Puts the key back to its value before. Takes no memory: what the tree is to keep is moved out of the change.
     pub fn put_before(self, tree: &mut Tree)
         requires { HasRoomIn tree.old (change_of self) }
@@ -197,12 +234,16 @@ impl Change {
                 before,
                 left: _,
             } => tree.put_value(&path, near, NewValue::Freeze(before)),
-            Change::Cpus {
+            Change::LowCpus {
                 near,
                 path,
                 before,
                 left: _,
-            } => tree.put_value(&path, near, NewValue::Cpus(before)),
+            } => tree.put_value(&path, near, NewValue::Cpus(before.boxed())),
+            Change::WideCpus { near, path, both } => {
+                let BothCpus { before, left: _ } = Box::into_inner(both);
+                tree.put_value(&path, near, NewValue::Cpus(before));
+            }
             Change::MaxDescendants {
                 near,
                 path,
@@ -246,13 +287,14 @@ impl Change {
                 left,
                 ..
             } => tree.put_value(path, *near, NewValue::Freeze(*left)),
-            Change::Cpus {
+            Change::LowCpus {
                 near,
                 path,
                 left,
                 ..
-            } => {
-                tree.put_value(path, *near, NewValue::Cpus(left.copy(alloc)?));
+            } => tree.put_value(path, *near, NewValue::Cpus(left.boxed())),
+            Change::WideCpus { near, path, both } => {
+                tree.put_value(path, *near, NewValue::Cpus(both.left.copy(alloc)?));
             }
             Change::MaxDescendants {
                 near,
@@ -291,8 +333,12 @@ impl Change {
                 Some(settings) => settings.freeze() == *left,
                 None => false,
             },
-            Change::Cpus { path, left, .. } => match tree.settings(path) {
-                Some(settings) => *settings.cpus() == *left,
+            Change::LowCpus { path, left, .. } => match tree.settings(path) {
+                Some(settings) => *settings.cpus() == left.boxed(),
+                None => false,
+            },
+            Change::WideCpus { path, both, .. } => match tree.settings(path) {
+                Some(settings) => *settings.cpus() == both.left,
                 None => false,
             },
             Change::MaxDescendants { path, left, .. } => match tree.settings(path) {

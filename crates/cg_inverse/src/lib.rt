@@ -4,5 +4,5 @@
 mod change;
 mod inverse;
 
-pub use change::Change;
+pub use change::{BothCpus, Change};
 pub use inverse::Inverse;

@@ -211,20 +211,29 @@ fn a_tree_is_edited(rt: HostRuntime) {
     assert!(rt; out.as_slice() == SHOWN.as_bytes());
 }
 
-// Has the root ask for a CPU by a change, and tells whether it does.
-fn makes_change(alloc: Global) -> Result<bool, Refusal> {
+// Has the root ask for these CPUs by a change, and tells whether it does, and no longer when the change went back.
+fn makes_change(alloc: Global, cpus: &str) -> Result<(bool, bool), Refusal> {
     let mut tree = tree(alloc, LARGER)?;
-    let change = Change::Cpus {
-        near: tree.near(),
-        path: Path::root(alloc),
-        before: BoxedCpus::empty(),
-        left: BoxedCpus::new(alloc, CpuSet::read("0")?)?,
-    };
+    let left = BoxedCpus::new(alloc, CpuSet::read(cpus)?)?;
+    let change = Change::of_cpus(
+        alloc,
+        tree.near(),
+        Path::root(alloc),
+        BoxedCpus::empty(),
+        left,
+    )?;
     change.put_left(alloc, &mut tree)?;
-    Ok(change.fits(&tree))
+    let asks = change.fits(&tree);
+    change.put_before(&mut tree);
+    let asks_still = match tree.settings(&Path::root(alloc)) {
+        Some(settings) => !settings.cpus().is_empty(),
+        None => true,
+    };
+    Ok((asks, asks_still))
 }
 
 #[test]
 fn a_change_is_made(rt: HostRuntime) {
-    assert!(rt; makes_change(rt.alloc()) == Ok(true));
+    assert!(rt; makes_change(rt.alloc(), "0") == Ok((true, false)));
+    assert!(rt; makes_change(rt.alloc(), "63-64") == Ok((true, false)));
 }

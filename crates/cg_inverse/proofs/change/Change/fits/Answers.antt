@@ -44,27 +44,37 @@ returns-in-None-settings c = part_absent c.args.tree.now.tree (ap change_of c.in
 
 pub returns-in-Some-settings-2 : goal.returns-in-Some-settings-2
 returns-in-Some-settings-2 c =
-    part_there c.args.tree.now.tree (ap change_of c.in-Cpus.is) _ c.in-Some-settings-2.settings.now c.in-Some-settings-2.ensures
-    (subst (λ v. Decides c.eq-in-Some-settings-2.result (v ≡ c.in-Cpus.left)) c.cpus.ensures (Decides-at _ _ c.eq-in-Some-settings-2.ensures (sets_decide _ _)))
+    part_there c.args.tree.now.tree (ap change_of c.in-LowCpus.is) _ c.in-Some-settings-2.settings.now c.in-Some-settings-2.ensures
+    (subst (λ v. Decides c.eq-in-Some-settings-2.result (v ≡ c.in-LowCpus.left)) c.cpus.ensures
+    (subst (λ v. Decides c.eq-in-Some-settings-2.result (c.cpus.result.now ≡ v)) c.boxed.ensures (Decides-at _ _ c.eq-in-Some-settings-2.ensures (sets_decide _ _))))
 
 pub returns-in-None-settings-2 : goal.returns-in-None-settings-2
-returns-in-None-settings-2 c = part_absent c.args.tree.now.tree (ap change_of c.in-Cpus.is) c.in-None-settings-2.ensures
+returns-in-None-settings-2 c = part_absent c.args.tree.now.tree (ap change_of c.in-LowCpus.is) c.in-None-settings-2.ensures
 
 pub returns-in-Some-settings-3 : goal.returns-in-Some-settings-3
 returns-in-Some-settings-3 c =
-    part_there c.args.tree.now.tree (ap change_of c.in-MaxDescendants.is) _ c.in-Some-settings-3.settings.now c.in-Some-settings-3.ensures
-    (subst (λ v. Decides c.eq-in-Some-settings-3.result (v ≡ c.in-MaxDescendants.left)) c.max_descendants.ensures (Decides-at _ _ c.eq-in-Some-settings-3.ensures (limits_decide _ _)))
+    part_there c.args.tree.now.tree (ap change_of c.in-WideCpus.is) _ c.in-Some-settings-3.settings.now c.in-Some-settings-3.ensures
+    (subst (λ v. Decides c.eq-in-Some-settings-3.result (v ≡ c.in-WideCpus.both.value.left)) c.cpus-in-Some-settings-3.ensures
+    (subst (λ b. Decides c.eq-in-Some-settings-3.result (c.cpus-in-Some-settings-3.result.now ≡ b.left)) c.deref.ensures (Decides-at _ _ c.eq-in-Some-settings-3.ensures (sets_decide _ _))))
 
 pub returns-in-None-settings-3 : goal.returns-in-None-settings-3
-returns-in-None-settings-3 c = part_absent c.args.tree.now.tree (ap change_of c.in-MaxDescendants.is) c.in-None-settings-3.ensures
+returns-in-None-settings-3 c = part_absent c.args.tree.now.tree (ap change_of c.in-WideCpus.is) c.in-None-settings-3.ensures
 
 pub returns-in-Some-settings-4 : goal.returns-in-Some-settings-4
 returns-in-Some-settings-4 c =
-    part_there c.args.tree.now.tree (ap change_of c.in-MaxDepth.is) _ c.in-Some-settings-4.settings.now c.in-Some-settings-4.ensures
-    (subst (λ v. Decides c.eq-in-Some-settings-4.result (v ≡ c.in-MaxDepth.left)) c.max_depth.ensures (Decides-at _ _ c.eq-in-Some-settings-4.ensures (limits_decide _ _)))
+    part_there c.args.tree.now.tree (ap change_of c.in-MaxDescendants.is) _ c.in-Some-settings-4.settings.now c.in-Some-settings-4.ensures
+    (subst (λ v. Decides c.eq-in-Some-settings-4.result (v ≡ c.in-MaxDescendants.left)) c.max_descendants.ensures (Decides-at _ _ c.eq-in-Some-settings-4.ensures (limits_decide _ _)))
 
 pub returns-in-None-settings-4 : goal.returns-in-None-settings-4
-returns-in-None-settings-4 c = part_absent c.args.tree.now.tree (ap change_of c.in-MaxDepth.is) c.in-None-settings-4.ensures
+returns-in-None-settings-4 c = part_absent c.args.tree.now.tree (ap change_of c.in-MaxDescendants.is) c.in-None-settings-4.ensures
+
+pub returns-in-Some-settings-5 : goal.returns-in-Some-settings-5
+returns-in-Some-settings-5 c =
+    part_there c.args.tree.now.tree (ap change_of c.in-MaxDepth.is) _ c.in-Some-settings-5.settings.now c.in-Some-settings-5.ensures
+    (subst (λ v. Decides c.eq-in-Some-settings-5.result (v ≡ c.in-MaxDepth.left)) c.max_depth.ensures (Decides-at _ _ c.eq-in-Some-settings-5.ensures (limits_decide _ _)))
+
+pub returns-in-None-settings-5 : goal.returns-in-None-settings-5
+returns-in-None-settings-5 c = part_absent c.args.tree.now.tree (ap change_of c.in-MaxDepth.is) c.in-None-settings-5.ensures
 
 pub returns-in-Online : goal.returns-in-Online
 returns-in-Online c =

@@ -28,9 +28,17 @@ returns-in-Control-clause-tree c = c.put_value.ensures.tree ∙ ap (λ x. with_b
 pub returns-in-Freeze-clause-tree : goal.returns-in-Freeze-clause-tree
 returns-in-Freeze-clause-tree c = c.put_value-in-Freeze.ensures.tree ∙ ap (λ x. with_before x c.args.tree.now.tree) (sym c.in-Freeze.is)
 
-pub returns-in-Cpus-clause-tree : goal.returns-in-Cpus-clause-tree
-returns-in-Cpus-clause-tree c =
-    c.put_value-in-Cpus.ensures.tree ∙ ap (λ x. with_before x c.args.tree.now.tree) (sym c.in-Cpus.is)
+pub returns-in-LowCpus-clause-tree : goal.returns-in-LowCpus-clause-tree
+returns-in-LowCpus-clause-tree c =
+    c.put_value-in-LowCpus.ensures.tree
+    ∙ ap (λ v. put (keys.Part c.in-LowCpus.path keys.Cpus) (Some v) c.args.tree.now.tree) c.boxed.ensures
+    ∙ ap (λ x. with_before x c.args.tree.now.tree) (sym c.in-LowCpus.is)
+
+pub returns-in-WideCpus-clause-tree : goal.returns-in-WideCpus-clause-tree
+returns-in-WideCpus-clause-tree c =
+    c.put_value-in-WideCpus.ensures.tree
+    ∙ ap (λ b. put (keys.Part c.in-WideCpus.path keys.Cpus) (Some b.before) c.args.tree.now.tree) c.into_inner-before.ensures
+    ∙ ap (λ x. with_before x c.args.tree.now.tree) (sym c.in-WideCpus.is)
 
 pub returns-in-MaxDescendants-clause-tree : goal.returns-in-MaxDescendants-clause-tree
 returns-in-MaxDescendants-clause-tree c = c.put_value-in-MaxDescendants.ensures.tree ∙ ap (λ x. with_before x c.args.tree.now.tree) (sym c.in-MaxDescendants.is)

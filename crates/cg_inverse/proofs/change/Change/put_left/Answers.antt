@@ -1,5 +1,6 @@
 -- Each variant is one write.
-use Rattle.std.proofs.Common.{Some, sym, ap, subst, ◌∙◌}
+use Rattle.std.proofs.Common.{◌≡◌, Some, sym, ap, subst, true, ◌∙◌}
+use Rattle.cg_maps.specs.FiniteSet.{is_empty_set}
 use Rattle.std.proofs.lemmas.Bool.{false≢true}
 use Rattle.cg_inverse.specs.Meaning.{change_of, HasRoomToMake, LeavesNoCpus}
 use Rattle.cg_inverse.proofs.Going.{with_left}
@@ -29,11 +30,18 @@ returns-in-Control-clause-tree c = c.put_value.ensures.tree ∙ ap (λ x. with_l
 pub returns-in-Freeze-clause-tree : goal.returns-in-Freeze-clause-tree
 returns-in-Freeze-clause-tree c = c.put_value-in-Freeze.ensures.tree ∙ ap (λ x. with_left x c.args.tree.now.tree) (sym c.in-Freeze.is)
 
-pub returns-in_ok-copy-in-Cpus-clause-tree : goal.returns-in_ok-copy-in-Cpus-clause-tree
-returns-in_ok-copy-in-Cpus-clause-tree c =
-    c.put_value-in-Cpus.ensures.tree
-    ∙ ap (λ v. put (keys.Part c.in-Cpus.path keys.Cpus) (Some v) c.args.tree.now.tree) c.in_ok-copy-in-Cpus.ensures.value
-    ∙ ap (λ x. with_left x c.args.tree.now.tree) (sym c.in-Cpus.is)
+pub returns-in-LowCpus-clause-tree : goal.returns-in-LowCpus-clause-tree
+returns-in-LowCpus-clause-tree c =
+    c.put_value-in-LowCpus.ensures.tree
+    ∙ ap (λ v. put (keys.Part c.in-LowCpus.path keys.Cpus) (Some v) c.args.tree.now.tree) c.boxed.ensures
+    ∙ ap (λ x. with_left x c.args.tree.now.tree) (sym c.in-LowCpus.is)
+
+pub returns-in_ok-copy-in-WideCpus-clause-tree : goal.returns-in_ok-copy-in-WideCpus-clause-tree
+returns-in_ok-copy-in-WideCpus-clause-tree c =
+    c.put_value-in-WideCpus.ensures.tree
+    ∙ ap (λ v. put (keys.Part c.in-WideCpus.path keys.Cpus) (Some v) c.args.tree.now.tree) c.in_ok-copy-in-WideCpus.ensures.value
+    ∙ ap (λ b. put (keys.Part c.in-WideCpus.path keys.Cpus) (Some b.left) c.args.tree.now.tree) c.deref.ensures
+    ∙ ap (λ x. with_left x c.args.tree.now.tree) (sym c.in-WideCpus.is)
 
 pub returns-in-MaxDescendants-clause-tree : goal.returns-in-MaxDescendants-clause-tree
 returns-in-MaxDescendants-clause-tree c = c.put_value-in-MaxDescendants.ensures.tree ∙ ap (λ x. with_left x c.args.tree.now.tree) (sym c.in-MaxDescendants.is)
@@ -47,6 +55,7 @@ returns-in-Online-clause-tree c =
 
 -- an error says that there are CPUs
 
-pub returns-in_err-copy-in-Cpus-clause-without_cpus : goal.returns-in_err-copy-in-Cpus-clause-without_cpus
-returns-in_err-copy-in-Cpus-clause-without_cpus c = λ none.
-    absurd (false≢true (c.in_err-copy-in-Cpus.ensures.empty (subst (λ x. LeavesNoCpus (change_of x)) c.in-Cpus.is none)))
+pub returns-in_err-copy-in-WideCpus-clause-without_cpus : goal.returns-in_err-copy-in-WideCpus-clause-without_cpus
+returns-in_err-copy-in-WideCpus-clause-without_cpus c = λ none.
+    absurd (false≢true (c.in_err-copy-in-WideCpus.ensures.empty
+    (subst (λ b. is_empty_set b.left ≡ true) (sym c.deref.ensures) (subst (λ x. LeavesNoCpus (change_of x)) c.in-WideCpus.is none))))
