@@ -2,7 +2,7 @@
 use Rattle.std.specs.Prelude.{ℕ, List, [], ◌∷◌, length, map}
 use Rattle.cg_model.specs.Footprint as model
 use Rattle.cg_locks.specs.declared.footprint.Kept.{Kept}
-use Rattle.cg_locks.specs.declared.footprint.Kept.TheVariants.{One, Many, Counted}
+use Rattle.cg_locks.specs.declared.footprint.Kept.TheVariants.{One, Two, Three, Counted}
 use Rattle.cg_locks.specs.declared.mark.Mark as rust
 use Rattle.cg_locks.specs.declared.mark.Mark.TheVariants as marks
 use Rattle.cg_locks.specs.Counts.{counts_at, prefixes, AreDescending}
@@ -14,8 +14,9 @@ counts_above (marks.Changed p) ds = counts_at (prefixes p ds)
 counts_above m ds = []
 
 abbrev pub marks_of : Kept → List model.Mark
-marks_of (One m) = mark_of m ∷ []
-marks_of (Many ms) = map mark_of ms.items
+marks_of (One n m) = mark_of m ∷ []
+marks_of (Two several) = map mark_of several.value.marks
+marks_of (Three several) = map mark_of several.value.marks
 marks_of (Counted more) = mark_of more.value.mark ∷ counts_above more.value.mark more.value.depths.items
 
 -- the groups are above that path, the deepest first

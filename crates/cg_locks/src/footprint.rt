@@ -13,6 +13,7 @@ use crate::mark::Mark;
 use crate::taken_at::TakenAt;
 use cg_command::Command;
 use cg_name::Path;
+use cg_path_tree::NodeKey;
 use cg_text::Limit;
 use cg_tree::{Ancestor, Ancestors, Tree};
 use smallvec::SmallVec;
@@ -25,22 +26,36 @@ use std::slice::from_ref;
 #[derive(Drop)]
 pub struct Footprint {
     kept: Kept,
-    // It tells nothing but where to look first.
-    taken_at: TakenAt,
 }
 
+// One stands with each command that a transaction can take back, so that a run goes over as many of these bytes as it has
+// accepted commands.
+const _: () = prove!(size_of::<Footprint>() == 32);
+
 // Most footprints are of one mark, and these are made, moved and dropped with each command: what the others have besides lies
-// in memory of its own.
+// in memory of its own. The nodes at which the marks were taken tell nothing but where to look first. That of one mark stands
+// where the number of the variant leaves room.
 #[derive(Drop)]
 enum Kept {
-    One(Mark),
-    Many(Vec<Mark>),
+    One(NodeKey, Mark),
+    // Those of a migration: of a process that is in no group, and of one that leaves its group.
+    Two(Box<Several<2>>),
+    Three(Box<Several<3>>),
     Counted(Box<WithCounts>),
+}
+
+// So many marks, none on a number of descendants.
+#[derive(Drop)]
+struct Several<const N: usize> {
+    taken_at: TakenAt,
+    marks: [Mark; N],
 }
 
 // A mark of a subtree to be changed, with those on the numbers of descendants of groups above it.
 #[derive(Drop)]
 struct WithCounts {
+    // The node at which the mark was taken.
+    node: NodeKey,
     mark: Mark,
     // How many names the paths of these groups have, the deepest first.
     depths: SmallVec<u32, 4>,
@@ -97,8 +112,9 @@ impl Footprint {
         ensures descending { IfSome result.1 (λ c. AreDescending (length c.path.now) c.depths.now) }
     {
         match &self.kept {
-            Kept::One(mark) => (from_ref(mark), None),
-            Kept::Many(marks) => (marks.as_slice(), None),
+            Kept::One(_, mark) => (from_ref(mark), None),
+            Kept::Two(several) => (&several.marks, None),
+            Kept::Three(several) => (&several.marks, None),
             Kept::Counted(more) => (from_ref(&more.mark), more.counted()),
         }
     }
@@ -109,25 +125,33 @@ impl Footprint {
         ensures { option_copied result ≡ changed self.now }
     {
         match &self.kept {
-            Kept::One(mark) => mark.changed(),
-            Kept::Many(marks) => match marks.as_slice().first() {
-                Some(mark) => mark.changed(),
-                None => None,
-            },
+            Kept::One(_, mark) => mark.changed(),
+            Kept::Two(several) => several.marks[0].changed(),
+            Kept::Three(several) => several.marks[0].changed(),
             Kept::Counted(more) => more.mark.changed(),
         }
     }
 
     // The nodes at which its marks were taken.
     pub(crate) fn taken_at(&self) -> TakenAt {
-        self.taken_at
+        match &self.kept {
+            Kept::One(node, _) => TakenAt::one(*node),
+            Kept::Two(several) => several.taken_at,
+            Kept::Three(several) => several.taken_at,
+            Kept::Counted(more) => TakenAt::one(more.node),
+        }
     }
 
     // Notes the nodes at which its marks were taken. It stays the same footprint.
     pub(crate) fn note(&mut self, taken_at: TakenAt)
         ensures { self.new ≡ self.old }
     {
-        self.taken_at = taken_at;
+        match &mut self.kept {
+            Kept::One(node, _) => *node = taken_at.first(),
+            Kept::Two(several) => several.taken_at = taken_at,
+            Kept::Three(several) => several.taken_at = taken_at,
+            Kept::Counted(more) => more.node = taken_at.first(),
+        }
     }
 
     // That with this mark alone.
@@ -135,9 +159,18 @@ impl Footprint {
         ensures { result ≡ mark_of mark ∷ [] }
     {
         Footprint {
-            kept: Kept::One(mark),
-            taken_at: TakenAt::new(),
+            kept: Kept::One(NodeKey::new(0), mark),
         }
+    }
+}
+
+impl<const N: usize> Several<N> {
+    // These, where nothing is noted.
+    fn new(alloc: Global, marks: [Mark; N]) -> Result<Box<Several<N>>, AllocError>
+        ensures { IfOk result (λ several. several.value.marks ≡ marks.entry) }
+    {
+        let taken_at = TakenAt::new();
+        Ok(Box::new(alloc, Several { taken_at, marks })?)
     }
 }
 
@@ -183,10 +216,10 @@ fn with_counts(alloc: Global, path: &Path, tree: &Tree) -> Result<Footprint, All
     if depths.is_empty() {
         return Ok(Footprint::one(mark));
     }
-    let more = Box::new(alloc, WithCounts { mark, depths })?;
+    let node = NodeKey::new(0);
+    let more = Box::new(alloc, WithCounts { node, mark, depths })?;
     Ok(Footprint {
         kept: Kept::Counted(more),
-        taken_at: TakenAt::new(),
     })
 }
 
@@ -217,16 +250,13 @@ fn push_limited(depths: &mut SmallVec<u32, 4>, above: Ancestors<'_>) -> Result<(
 fn of_migration(alloc: Global, pid: u32, path: &Path, tree: &Tree) -> Result<Footprint, AllocError>
     ensures { IfOk result (λ f. f ≡ model.Pid pid ∷ model.N path.now ∷ old_place (place_of tree.now.tree pid)) }
 {
-    let mut marks = Vec::with_capacity(alloc, 3)?;
-    marks.push(Mark::Process(pid))?;
-    marks.push(Mark::Stays(path.copy(alloc)?))?;
-    if let Some(place) = tree.location(alloc, pid)? {
-        marks.push(Mark::Stays(place))?;
-    }
-    Ok(Footprint {
-        kept: Kept::Many(marks),
-        taken_at: TakenAt::new(),
-    })
+    let process = Mark::Process(pid);
+    let group = Mark::Stays(path.copy(alloc)?);
+    let kept = match tree.location(alloc, pid)? {
+        Some(place) => Kept::Three(Several::new(alloc, [process, group, Mark::Stays(place)])?),
+        None => Kept::Two(Several::new(alloc, [process, group])?),
+    };
+    Ok(Footprint { kept })
 }
 
 // Whether the group is there, and its descendants are limited in number.

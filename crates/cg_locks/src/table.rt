@@ -249,9 +249,9 @@ impl LockTable {
         ensures { (u : ℕ) (m : model.Mark) → holdings self.new u m + cond (u == transaction.0) (times m footprint.now) 0 ≡ holdings self.old u m }
     {
         let (marks, counted) = footprint.parts();
-        let mut taken_at = footprint.taken_at();
-        self.release_counted(transaction, counted, taken_at.next());
-        self.release_all(transaction, marks, footprint.taken_at());
+        let taken_at = footprint.taken_at();
+        self.release_counted(transaction, counted, taken_at.first());
+        self.release_all(transaction, marks, taken_at);
         if !self.is_sole {
             self.look_for_quiet();
         }

@@ -3,7 +3,7 @@ use cg_path_tree::NodeKey;
 
 // The nodes at which the marks of a footprint were taken. They are looked at first where it is let go: a path is looked up
 // only where its node was never noted, or is another's by now. At most two marks of a footprint have paths, and one of these
-// stands right behind the other: so there are two places, which take turns.
+// stands right behind the other: so there are two places, which take turns. A footprint of one mark keeps the first alone.
 #[derive(Clone, Copy)]
 pub(crate) struct TakenAt {
     // That of the mark which comes next, and that of the one behind it.
@@ -14,10 +14,20 @@ pub(crate) struct TakenAt {
 impl TakenAt {
     // Nothing is noted.
     pub(crate) fn new() -> TakenAt {
+        TakenAt::one(NodeKey::new(0))
+    }
+
+    // This node is, of a single mark.
+    pub(crate) fn one(node: NodeKey) -> TakenAt {
         TakenAt {
-            next: NodeKey::new(0),
+            next: node,
             after: NodeKey::new(0),
         }
+    }
+
+    // The node of the first mark.
+    pub(crate) fn first(&self) -> NodeKey {
+        self.next
     }
 
     // Notes the node of the mark that stands behind so many others.
