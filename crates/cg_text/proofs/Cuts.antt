@@ -1,14 +1,12 @@
 -- A line is cut into words in one way, and says one thing.
-use Rattle.std.proofs.Common.{◌≡◌, ◌==◌, inl, inr, ℕ, true, false, not, cond, List, [], ◌∷◌, ◌++◌, Some, None, refl, ap, sym, subst, ◌∙◌, append_assoc, true≢false}
-use Rattle.std.proofs.Math.Bool.{not-not}
+use Rattle.std.proofs.Common.{◌≡◌, inl, inr, ℕ, true, false, List, [], ◌∷◌, ◌++◌, Some, None, refl, ap, sym, subst, ◌∙◌, append_assoc, true≢false}
 use Rattle.std.proofs.lemmas.List.{append-nil}
 use Rattle.std.specs.List.{list_all}
 use Rattle.std.specs.Str.Lines.{strip_carriage_return}
 use Rattle.cg_name.specs.Word.{is_blank, IsWord}
-use Rattle.cg_text.specs.Cutting.{behind, BeginsWith, say_something}
+use Rattle.cg_text.specs.Cutting.{behind, BeginsWith}
 use Rattle.cg_text.specs.Laws.{OneCut, OneSaying, OneText}
-use Rattle.cg_text.specs.Words.{Line, Word, Cuts, is_silent}
-use Rattle.cg_text.proofs.Blanks.{silent_behind, starts_silent}
+use Rattle.cg_text.specs.Words.{Line, Word, Cuts}
 use Rattle.cg_text.proofs.Lists.{all_append, behind_none, behind_row, behind_again, front_row}
 use Rattle.cg_text.proofs.FirstWord.{one_first, word_starts}
 
@@ -38,15 +36,6 @@ no_word line w ws h c =
     let s : (b : ℕ) × (bs : List ℕ) × (w ≡ b ∷ bs) × (is_blank b ≡ false) = word_starts w f.1.is_word in
     let e : [] ≡ s.0 ∷ s.1 ++ f.0 = sym (all_blank line h) ∙ f.1.parts ∙ ap (λ z. z ++ f.0) s.2 in
     cc
-
--- a line that is cut says nothing where its words say nothing
-pub says_as_words : (line : Line) (ws : List Word) → Cuts line ws → is_silent line ≡ not (say_something ws)
-says_as_words line [] h = silent_behind line ∙ ap starts_silent (all_blank line h)
-says_as_words line (w ∷ ws) h =
-    let f : (rest : Line) × BeginsWith (behind is_blank line) w rest × Cuts rest ws = first_cut line w ws h in
-    let s : (b : ℕ) × (bs : List ℕ) × (w ≡ b ∷ bs) × (is_blank b ≡ false) = word_starts w f.1.is_word in
-    let first : is_silent w ≡ (s.0 == 35) = ap is_silent s.2 ∙ ap (λ k. cond k (is_silent s.1) (s.0 == 35)) s.3 in
-    silent_behind line ∙ ap starts_silent (f.1.parts ∙ ap (λ z. z ++ f.0) s.2) ∙ sym first ∙ sym (not-not (is_silent w))
 
 -- ---- in one way
 

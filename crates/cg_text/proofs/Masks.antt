@@ -1,15 +1,32 @@
--- The marks of a line as a number, by those of its parts.
-use Rattle.std.proofs.Common.{◌≡◌, ℕ, zero, suc, ◌+◌, ◌-◌, ◌*◌, ◌/◌, ◌%◌, ◌^◌, ◌<◌, ◌≤◌, ◌==◌, ◌||◌, Bool, true, false, not, cond, leb, List, [], ◌∷◌, ◌++◌, map, length, take, drop, replicate, slice_index_or, bit_or, refl, ap, sym, ◌∙◌, arith, length-drop, shr-shr, pow_mono, zero-mul}
-use Rattle.std.specs.Simd.Lanes.{zip2, mask_l, top}
-use Rattle.std.proofs.Math.Nat.{pow-succ', div-one, zero-div}
-use Rattle.std.proofs.Math.Numerals.{one-add}
-use Rattle.std.proofs.lemmas.List.{length-map, drop-map, map-append, take-append-drop, drop-drop, length-take-le}
-use Rattle.std.proofs.lemmas.Nat.{shl_whole}
-use Rattle.std.specs.Simd.{first_chunks}
-use Rattle.std.proofs.lemmas.Simd.{mask_l-lt, mask_l-mod}
-use Rattle.cg_text.specs.Marks.{ends_plain}
+-- The bits of a line's bytes as a number, by those of its parts, and where its words end.
+use Rattle.std.proofs.Common.{◌≡◌, ℕ, zero, suc, ◌+◌, ◌-◌, ◌*◌, ◌/◌, ◌%◌, ◌^◌, ◌<◌, ◌≤◌, ◌==◌, ◌||◌, ◌&&◌, Bool, true, false, not, subst, cond, leb, List, [], ◌∷◌, ◌++◌, map, length, take, drop, replicate, bit_and, bit_or, refl, ap, sym, ◌∙◌, append_assoc, arith, pow_mono, length-append, length-drop}
+use Rattle.std.specs.Int.Bits.{or_zero_r}
+use Rattle.std.specs.Array.{IsFirstChunk, IsWholeChunk}
+use Rattle.std.specs.List.{list_all, range_with_len}
+use Rattle.std.specs.Simd.Lanes.{zip2, mask_l, pick_l, top}
+use Rattle.std.proofs.Math.Nat.{pow-succ'}
+use Rattle.std.proofs.lemmas.Bool.{and_parts}
+use Rattle.std.proofs.lemmas.List.{length-map, length-take-le, map-append, take-map, take-append-drop, take-append-le}
+use Rattle.std.proofs.lemmas.List.Folds.{list_all-append}
+use Rattle.std.proofs.lemmas.Nat.{and_mask, le_or_l, le_or_r, mod_low, one_shl, or_block, or_shifted, pow_pos, shl_whole, shr_high}
+use Rattle.std.proofs.lemmas.Simd.{mask_l-lt, mask_l-mod, pick_l_whole}
+use Rattle.cg_name.specs.Word.{is_blank}
+use Rattle.cg_text.specs.WordEnds.{is_unusual, is_usual, word_ends}
 
--- ---- sixteen bytes at once
+-- ---- some bytes at once
+
+abbrev equal_lanes : ℕ → List ℕ → ℕ → List ℕ
+equal_lanes n xs y = zip2 (λ x z. cond (x == z) 255 0) xs (replicate n y)
+
+abbrev either_lanes : List ℕ → List ℕ → List ℕ
+either_lanes xs ys = zip2 bit_or xs ys
+
+-- the lanes of n bytes where one is a blank, and where one is unusual
+abbrev blank_lanes : ℕ → List ℕ → List ℕ
+blank_lanes n xs = either_lanes (equal_lanes n xs 32) (equal_lanes n xs 9)
+
+abbrev unusual_lanes : ℕ → List ℕ → List ℕ
+unusual_lanes n xs = either_lanes (either_lanes (equal_lanes n xs 34) (equal_lanes n xs 92)) (zip2 (λ x y. cond (leb x y) 255 0) (replicate n 128) xs)
 
 or_lanes : (a b : Bool) → bit_or (cond a 255 0) (cond b 255 0) ≡ cond (a || b) 255 0
 or_lanes true true = refl
@@ -17,36 +34,33 @@ or_lanes true false = refl
 or_lanes false true = refl
 or_lanes false false = refl
 
-top_lane : (a b : Bool) → top 7 (cond (a || b) 255 0) ≡ not (not a) || b
+top_lane : (a b : Bool) → top 7 (bit_or (cond a 255 0) (cond b 255 0)) ≡ a || b
 top_lane true true = refl
 top_lane true false = refl
 top_lane false true = refl
 top_lane false false = refl
 
-lane : (a b c d e : Bool) → top 7 (bit_or (bit_or (bit_or (cond a 255 0) (cond b 255 0)) (bit_or (cond c 255 0) (cond d 255 0))) (cond e 255 0)) ≡ not (not ((a || b) || (c || d))) || e
-lane a b c d e = simp or_lanes (top_lane ((a || b) || (c || d)) e)
+blanks_are_lanes : (xs : List ℕ) (n : ℕ) → length xs ≡ n → map (top 7) (blank_lanes n xs) ≡ map is_blank xs
+blanks_are_lanes [] n e = refl
+blanks_are_lanes (x ∷ xs) zero e = absurd (omega arith)
+blanks_are_lanes (x ∷ xs) (suc n) e = λ i. top_lane (x == 32) (x == 9) i ∷ blanks_are_lanes xs n (omega arith) i
 
-abbrev equal_lanes : List ℕ → List ℕ → List ℕ
-equal_lanes xs ys = zip2 (λ x y. cond (x == y) 255 0) xs ys
+unusual_are_lanes : (xs : List ℕ) (n : ℕ) → length xs ≡ n → map (top 7) (unusual_lanes n xs) ≡ map is_unusual xs
+unusual_are_lanes [] n e = refl
+unusual_are_lanes (x ∷ xs) zero e = absurd (omega arith)
+unusual_are_lanes (x ∷ xs) (suc n) e =
+    let here : top 7 (bit_or (bit_or (cond (x == 34) 255 0) (cond (x == 92) 255 0)) (cond (leb 128 x) 255 0)) ≡ is_unusual x =
+    ap (λ z. top 7 (bit_or z (cond (leb 128 x) 255 0))) (or_lanes (x == 34) (x == 92)) ∙ top_lane ((x == 34) || (x == 92)) (leb 128 x) in
+    λ i. here i ∷ unusual_are_lanes xs n (omega arith) i
 
-abbrev both_lanes : List ℕ → List ℕ → List ℕ
-both_lanes xs ys = zip2 bit_or xs ys
+mask_fits : (p : ℕ → Bool) (xs : List ℕ) → length xs ≤ 64 → mask_l (map p xs) % 2 ^ 64 ≡ mask_l (map p xs)
+mask_fits p xs few = mask_l-mod (map p xs) 64 (omega (arith, length-map xs p))
 
--- the lanes where a byte ends a plain word, of n bytes
-abbrev marked_lanes : ℕ → List ℕ → List ℕ
-marked_lanes n xs =
-    let blanks = both_lanes (equal_lanes xs (replicate n 32)) (equal_lanes xs (replicate n 9)) in
-    let special = both_lanes (equal_lanes xs (replicate n 34)) (equal_lanes xs (replicate n 92)) in
-    both_lanes (both_lanes blanks special) (zip2 (λ x y. cond (leb x y) 255 0) (replicate n 128) xs)
+pub blanks_of_lanes : (xs : List ℕ) (n : ℕ) → length xs ≡ n → n ≤ 64 → mask_l (map (top 7) (blank_lanes n xs)) % 2 ^ 64 ≡ mask_l (map is_blank xs)
+blanks_of_lanes xs n e few = ap (λ ms. mask_l ms % 2 ^ 64) (blanks_are_lanes xs n e) ∙ mask_fits is_blank xs (omega (arith, e))
 
-lanes_are_marks : (xs : List ℕ) (n : ℕ) → length xs ≡ n → map (top 7) (marked_lanes n xs) ≡ map ends_plain xs
-lanes_are_marks [] n e = refl
-lanes_are_marks (x ∷ xs) zero e = absurd (omega arith)
-lanes_are_marks (x ∷ xs) (suc n) e =
-    λ i. lane (x == 32) (x == 9) (x == 34) (x == 92) (leb 128 x) i ∷ lanes_are_marks xs n (omega arith) i
-
-pub marks_of_lanes : (xs : List ℕ) → length xs ≡ 16 → mask_l (map (top 7) (marked_lanes 16 xs)) % 2 ^ 64 ≡ mask_l (map ends_plain xs)
-marks_of_lanes xs e = ap (λ ms. mask_l ms % 2 ^ 64) (lanes_are_marks xs 16 e) ∙ mask_l-mod (map ends_plain xs) 64 (omega (arith, length-map xs ends_plain))
+pub unusual_of_lanes : (xs : List ℕ) (n : ℕ) → length xs ≡ n → n ≤ 64 → mask_l (map (top 7) (unusual_lanes n xs)) % 2 ^ 64 ≡ mask_l (map is_unusual xs)
+unusual_of_lanes xs n e few = ap (λ ms. mask_l ms % 2 ^ 64) (unusual_are_lanes xs n e) ∙ mask_fits is_unusual xs (omega (arith, e))
 
 -- ---- masks of parts
 
@@ -58,88 +72,198 @@ mask_l-append (m ∷ ms) ns =
     let doubled : mask_l ns * 2 ^ suc (length ms) ≡ mask_l ns * (2 * 2 ^ length ms) = ap (λ n. mask_l ns * n) power in
     omega (arith, rest, doubled)
 
-half : (m : Bool) (n : ℕ) → (cond m 1 0 + 2 * n) / 2 ≡ n
-half true n = omega arith
-half false n = omega arith
+or_bits : (l m : Bool) → bit_or (cond l 1 0) (cond m 1 0) ≡ cond (l || m) 1 0
+or_bits true true = refl
+or_bits true false = refl
+or_bits false true = refl
+or_bits false false = refl
 
-mask_l-drop : (k : ℕ) (ms : List Bool) → mask_l (drop k ms) ≡ mask_l ms / 2 ^ k
-mask_l-drop zero ms = sym (div-one (mask_l ms))
-mask_l-drop (suc k) [] = sym (zero-div (2 ^ suc k))
-mask_l-drop (suc k) (m ∷ ms) =
-    mask_l-drop k ms ∙ ap (λ n. n / 2 ^ k) (sym (half m (mask_l ms))) ∙ shr-shr (mask_l (m ∷ ms)) 1 k ∙ ap (λ n. mask_l (m ∷ ms) / 2 ^ n) (one-add k)
+bit_lt : (m : Bool) → cond m 1 0 < 2 ^ 1
+bit_lt true = omega arith
+bit_lt false = omega arith
 
--- the mask of a line
-abbrev pub marks : List ℕ → ℕ
-marks line = mask_l (map ends_plain line)
+or_first : (l m : Bool) (a b : ℕ) → bit_or (cond l 1 0 + 2 * a) (cond m 1 0 + 2 * b) ≡ cond (l || m) 1 0 + 2 * bit_or a b
+or_first l m a b =
+    let left : cond l 1 0 + 2 * a ≡ a * 2 ^ 1 + cond l 1 0 = omega arith in
+    let right : cond m 1 0 + 2 * b ≡ b * 2 ^ 1 + cond m 1 0 = omega arith in
+    (λ i. bit_or (left i) (right i)) ∙ or_block 1 a b (cond l 1 0) (cond m 1 0) (bit_lt l) (bit_lt m) ∙ omega (arith, or_bits l m)
 
-pub marks-lt : (line : List ℕ) (k : ℕ) → length line ≤ k → marks line < 2 ^ k
-marks-lt line k h =
-    let short : length (map ends_plain line) ≤ k = omega (arith, length-map line ends_plain) in
-    omega (arith, mask_l-lt (map ends_plain line), pow_mono short)
+or_same : (m : Bool) → m || m ≡ m
+or_same true = refl
+or_same false = refl
 
-pub marks-drop : (k : ℕ) (line : List ℕ) → marks line / 2 ^ k ≡ marks (drop k line)
-marks-drop k line = sym (mask_l-drop k (map ends_plain line)) ∙ ap mask_l (drop-map ends_plain k line)
+-- bits that stand in both
+or_front : (ms : List Bool) (k : ℕ) → bit_or (mask_l ms) (mask_l (take k ms)) ≡ mask_l ms
+or_front [] zero = or_zero_r 0
+or_front [] (suc k) = or_zero_r 0
+or_front (m ∷ ms) zero = or_zero_r (mask_l (m ∷ ms))
+or_front (m ∷ ms) (suc k) = or_first m m (mask_l ms) (mask_l (take k ms)) ∙ (λ i. cond (or_same m i) 1 0 + 2 * or_front ms k i)
 
--- a part of sixteen bytes and what stands behind it
-pub marks_together : (line : List ℕ) → 16 ≤ length line → length line ≤ 63 → marks (drop 16 line) * 2 ^ 16 % 2 ^ 64 + marks (take 16 line) ≡ marks line
-marks_together line long short =
-    let part = take 16 line in
-    let rest = drop 16 line in
-    let whole : marks line ≡ marks rest * 2 ^ length (map ends_plain part) + marks part =
-    ap marks (sym (take-append-drop 16 line)) ∙ ap mask_l (map-append ends_plain part rest) ∙ mask_l-append (map ends_plain part) (map ends_plain rest) in
-    let sixteen : length (map ends_plain part) ≡ 16 = length-map part ends_plain ∙ length-take-le 16 line long in
-    let fits : marks rest < 2 ^ 48 = marks-lt rest 48 (omega (arith, length-drop 16 line)) in
-    ap (λ n. n + marks part) (shl_whole (marks rest) 48 16 64 fits (omega arith)) ∙ ap (λ n. marks rest * 2 ^ n + marks part) (sym sixteen) ∙ sym whole
+or_overlapping : (ms ns : List Bool) (k : ℕ) → length ms ≤ k → bit_or (mask_l ns * 2 ^ length ms) (mask_l (take k (ms ++ ns))) ≡ mask_l (ms ++ ns)
+or_overlapping [] ns k h = ap (λ a. bit_or a (mask_l (take k ns))) (let e : mask_l ns * 2 ^ 0 ≡ mask_l ns = omega arith in e) ∙ or_front ns k
+or_overlapping (m ∷ ms) ns zero h = absurd (omega (arith, h))
+or_overlapping (m ∷ ms) ns (suc k) h =
+    let part = mask_l ns * 2 ^ length ms in
+    let doubled : mask_l ns * 2 ^ suc (length ms) ≡ mask_l ns * (2 * 2 ^ length ms) = ap (λ n. mask_l ns * n) (pow-succ' 2 (length ms)) in
+    let even : mask_l ns * 2 ^ suc (length ms) ≡ cond false 1 0 + 2 * part = omega (arith, doubled) in
+    ap (λ a. bit_or a (mask_l (m ∷ take k (ms ++ ns)))) even ∙ or_first false m part (mask_l (take k (ms ++ ns))) ∙ ap (λ a. cond m 1 0 + 2 * a) (or_overlapping ms ns k (omega (arith, h)))
 
--- bytes of plain words behind a line have no mark
-no_marks : (n : ℕ) → marks (replicate n 97) ≡ 0
-no_marks zero = refl
-no_marks (suc n) = ap (λ m. 0 + 2 * m) (no_marks n)
+-- ---- where words end
 
-pub marks_of_front : (line : List ℕ) (n : ℕ) → marks (line ++ replicate n 97) ≡ marks line
-marks_of_front [] n = no_marks n
-marks_of_front (b ∷ line) n = ap (λ m. cond (ends_plain b) 1 0 + 2 * m) (marks_of_front line n)
+word_ends-append : (xs ys : List ℕ) → word_ends (xs ++ ys) ≡ word_ends ys * 2 ^ length xs + mask_l (map is_blank xs)
+word_ends-append xs ys =
+    let rest = map is_blank ys ++ true ∷ [] in
+    ap mask_l (ap (λ ms. ms ++ true ∷ []) (map-append is_blank xs ys) ∙ append_assoc (map is_blank xs) (map is_blank ys) (true ∷ []))
+    ∙ mask_l-append (map is_blank xs) rest ∙ ap (λ n. mask_l rest * 2 ^ n + mask_l (map is_blank xs)) (length-map xs is_blank)
 
--- ---- chunks of sixteen bytes
+-- the end of the line behind its blanks
+word_ends_are : (xs : List ℕ) → word_ends xs ≡ 1 * 2 ^ length xs + mask_l (map is_blank xs)
+word_ends_are xs = mask_l-append (map is_blank xs) (true ∷ []) ∙ ap (λ n. 1 * 2 ^ n + mask_l (map is_blank xs)) (length-map xs is_blank)
 
-pub front_chunks : (k : ℕ) (line : List ℕ) → take k (first_chunks 16 (suc k) line) ≡ first_chunks 16 k line
-front_chunks zero line = refl
-front_chunks (suc k) line = ap (λ chunks. take 16 line ∷ chunks) (front_chunks k (drop 16 line))
+pub word_ends-lt : (xs : List ℕ) (k : ℕ) → length xs < k → word_ends xs < 2 ^ k
+word_ends-lt xs k h =
+    let bits = map is_blank xs ++ true ∷ [] in
+    let few : length bits ≤ k = omega (arith, length-append (map is_blank xs) (true ∷ []), length-map xs is_blank) in
+    omega (arith, mask_l-lt bits, pow_mono few)
 
-pub last_chunk : (k : ℕ) (line : List ℕ) → drop k (first_chunks 16 (suc k) line) ≡ take 16 (drop (k * 16) line) ∷ []
-last_chunk zero line = ap (λ n. take 16 (drop n line) ∷ []) (sym (zero-mul 16))
-last_chunk (suc k) line =
-    last_chunk k (drop 16 line) ∙ ap (λ rest. take 16 rest ∷ []) (drop-drop (k * 16) 16 line ∙ ap (λ n. drop n line) (let e : 16 + k * 16 ≡ suc k * 16 = omega arith in e))
+pub word_ends-pos : (xs : List ℕ) → 0 < word_ends xs
+word_ends-pos xs = omega (arith, word_ends_are xs, pow_pos (length xs))
 
--- the last chunk, and those before it
-pub record LastChunk (line : List ℕ) (front bytes : List (List ℕ)) : Type 0 where
-  pub before : front ≡ first_chunks 16 (length front) line
-  pub last : bytes ≡ take 16 (drop (length front * 16) line) ∷ []
+blanks_lt : (xs : List ℕ) (k : ℕ) → length xs ≡ k → mask_l (map is_blank xs) < 2 ^ k
+blanks_lt xs k e = subst (λ n. mask_l (map is_blank xs) < 2 ^ n) (length-map xs is_blank ∙ e) (mask_l-lt (map is_blank xs))
 
-pub cut_last : (line : List ℕ) (whole front bytes : List (List ℕ)) → whole ≡ first_chunks 16 (length whole) line → (front ≡ take (length whole - 1) whole) × (bytes ≡ drop (length whole - 1) whole) × (length front + 1 ≡ length whole) → LastChunk line front bytes
-cut_last line whole front bytes e cut =
-    let k = length front in
-    let one_less : length whole - 1 ≡ k = omega (arith, cut.2) in
-    let chunks : whole ≡ first_chunks 16 (suc k) line = e ∙ ap (λ n. first_chunks 16 n line) (let s : length whole ≡ suc k = omega (arith, cut.2) in s) in
+-- sixteen bytes more at the front
+pub ends_more : (part rest : List ℕ) (n : ℕ) → length part ≡ 16 → length rest ≤ 47 → n ≡ word_ends rest → bit_or (n * 2 ^ 16 % 2 ^ 64) (mask_l (map is_blank part)) ≡ word_ends (part ++ rest)
+ends_more part rest n whole short e =
+    let blanks = mask_l (map is_blank part) in
+    ap (λ m. bit_or (m * 2 ^ 16 % 2 ^ 64) blanks) e
+    ∙ ap (λ m. bit_or m blanks) (shl_whole (word_ends rest) 48 16 64 (word_ends-lt rest 48 (omega (arith, short))) (omega arith))
+    ∙ or_shifted (word_ends rest) 16 blanks (blanks_lt part 16 whole)
+    ∙ ap (λ k. word_ends rest * 2 ^ k + blanks) (sym whole) ∙ sym (word_ends-append part rest)
+
+-- the bytes at the front, of which some stand behind them too
+pub ends_joined : (line front rest : List ℕ) (n k : ℕ) → line ≡ front ++ rest → length line ≤ 63 → length front ≤ k → k ≤ length line → n ≡ word_ends rest → bit_or (n * 2 ^ length front % 2 ^ 64) (mask_l (map is_blank (take k line))) ≡ word_ends line
+ends_joined line front rest n k parts short less more e =
+    let long : length front + length rest ≡ length line = sym (length-append front rest) ∙ ap length (sym parts) in
+    let within : length rest + 1 + length front ≤ 64 = omega (arith, long, short) in
+    let bits = map is_blank rest ++ true ∷ [] in
+    let whole : map is_blank line ++ true ∷ [] ≡ map is_blank front ++ bits =
+    ap (λ bs. map is_blank bs ++ true ∷ []) parts ∙ ap (λ ms. ms ++ true ∷ []) (map-append is_blank front rest) ∙ append_assoc (map is_blank front) (map is_blank rest) (true ∷ []) in
+    let first : map is_blank (take k line) ≡ take k (map is_blank front ++ bits) =
+    sym (take-map is_blank k line) ∙ sym (take-append-le k (map is_blank line) (true ∷ []) (omega (arith, more, length-map line is_blank))) ∙ ap (take k) whole in
+    ap (λ m. bit_or (m * 2 ^ length front % 2 ^ 64) (mask_l (map is_blank (take k line)))) e
+    ∙ (λ i. bit_or (shl_whole (word_ends rest) (length rest + 1) (length front) 64 (word_ends-lt rest (length rest + 1) (omega arith)) within i) (mask_l (first i)))
+    ∙ ap (λ j. bit_or (mask_l bits * 2 ^ j) (mask_l (take k (map is_blank front ++ bits)))) (sym (length-map front is_blank))
+    ∙ or_overlapping (map is_blank front) bits k (omega (arith, less, length-map front is_blank)) ∙ ap mask_l (sym whole)
+
+-- the first bytes, and behind these the last ones as the end of the line
+pub ends_of_halves : (line : List ℕ) (k blanks : ℕ) → k ≤ length line → length line ≤ 2 * k → k ≤ 16 → blanks ≡ mask_l (map is_blank (take k line ++ drop (length line - k) line)) → bit_or (bit_or (1 * 2 ^ k % 2 ^ 64) (blanks / 2 ^ k) * 2 ^ (length line - k) % 2 ^ 64) (bit_and blanks (1 * 2 ^ k % 2 ^ 64 - 1)) ≡ word_ends line
+ends_of_halves line k blanks some few short e =
+    let before = length line - k in
+    let first = take k line in
+    let last = drop before line in
+    let front = take before line in
+    let high = mask_l (map is_blank last) in
+    let low = mask_l (map is_blank first) in
+    let one : 1 * 2 ^ k % 2 ^ 64 ≡ 2 ^ k = one_shl k 64 (omega (arith, short)) in
+    let long : length first ≡ k = length-take-le k line some in
+    let parts : blanks ≡ high * 2 ^ k + low =
+    e ∙ ap mask_l (map-append is_blank first last) ∙ mask_l-append (map is_blank first) (map is_blank last) ∙ ap (λ n. high * 2 ^ n + low) (length-map first is_blank ∙ long) in
+    let low_fits : low < 2 ^ k = blanks_lt first k long in
+    let behind : length last ≡ k = omega (arith, length-drop before line, some) in
+    let tail : bit_or (1 * 2 ^ k % 2 ^ 64) (blanks / 2 ^ k) ≡ word_ends last =
+    (λ i. bit_or (one_shl k 64 (omega (arith, short)) i) ((ap (λ b. b / 2 ^ k) parts ∙ shr_high high k low low_fits) i))
+    ∙ ap (λ m. bit_or m high) (let same : 2 ^ k ≡ 1 * 2 ^ k = omega arith in same) ∙ or_shifted 1 k high (blanks_lt last k behind)
+    ∙ ap (λ n. 1 * 2 ^ n + high) (sym behind) ∙ sym (word_ends_are last) in
+    let head : bit_and blanks (1 * 2 ^ k % 2 ^ 64 - 1) ≡ low =
+    (λ i. bit_and (parts i) (one i - 1)) ∙ and_mask (high * 2 ^ k + low) k ∙ mod_low high k low low_fits in
+    let ahead : length front ≡ before = length-take-le before line (omega arith) in
+    ap (λ m. bit_or (bit_or (1 * 2 ^ k % 2 ^ 64) (blanks / 2 ^ k) * 2 ^ before % 2 ^ 64) m) head
+    ∙ ap (λ j. bit_or (bit_or (1 * 2 ^ k % 2 ^ 64) (blanks / 2 ^ k) * 2 ^ j % 2 ^ 64) low) (sym ahead)
+    ∙ ends_joined line front last (bit_or (1 * 2 ^ k % 2 ^ 64) (blanks / 2 ^ k)) k (sym (take-append-drop before line)) (omega (arith, few, short)) (omega (arith, ahead, few)) some tail
+
+-- ---- lines without an unusual byte
+
+bit_none : (m : Bool) (n : ℕ) → cond m 1 0 + 2 * n ≡ 0 → (m ≡ false) × (n ≡ 0)
+bit_none true n e = absurd (omega (arith, e))
+bit_none false n e = (refl, omega (arith, e))
+
+pub none_unusual : (xs : List ℕ) → mask_l (map is_unusual xs) ≡ 0 → list_all is_usual xs ≡ true
+none_unusual [] e = refl
+none_unusual (x ∷ xs) e =
+    let none : (is_unusual x ≡ false) × (mask_l (map is_unusual xs) ≡ 0) = bit_none (is_unusual x) (mask_l (map is_unusual xs)) e in
+    (λ i. not (none.0 i) && none_unusual xs none.1 i)
+
+pub usual_joined : (front rest : List ℕ) (k : ℕ) → length front ≤ k → list_all is_usual (take k (front ++ rest)) ≡ true → list_all is_usual rest ≡ true → list_all is_usual (front ++ rest) ≡ true
+usual_joined [] rest k less first h = h
+usual_joined (x ∷ front) rest zero less first h = absurd (omega (arith, less))
+usual_joined (x ∷ front) rest (suc k) less first h =
+    let both : (is_usual x ≡ true) × (list_all is_usual (take k (front ++ rest)) ≡ true) = and_parts (is_usual x) (list_all is_usual (take k (front ++ rest))) first in
+    (λ i. both.0 i && usual_joined front rest k (omega (arith, less)) both.1 h i)
+
+-- ---- the first half and the last of a line, which may overlap
+
+pub halves : (line first last : List ℕ) (k : ℕ) → IsFirstChunk line first k → (k ≤ length line) × IsWholeChunk (drop (length line - k) line) last k → pick_l 0 (first ++ last) (range_with_len 0 (2 * k)) ≡ take k line ++ drop (length line - k) line
+halves line first last k h l =
+    let long : length (first ++ last) ≡ 2 * k = omega (arith, length-append first last, ap length h.same, length-take-le k line h.enough, ap length l.1.same, l.1.long) in
+    pick_l_whole 0 (first ++ last) (2 * k) long ∙ (λ i. h.same i ++ l.1.same i)
+
+pub usual_halves : (line : List ℕ) (k unusual : ℕ) → k ≤ length line → length line ≤ 2 * k → unusual ≡ mask_l (map is_unusual (take k line ++ drop (length line - k) line)) → unusual ≡ 0 → list_all is_usual line ≡ true
+usual_halves line k unusual some few e none =
+    let before = length line - k in
+    let parts : take before line ++ drop before line ≡ line = take-append-drop before line in
+    let both : (list_all is_usual (take k line) ≡ true) × (list_all is_usual (drop before line) ≡ true) =
+    and_parts (list_all is_usual (take k line)) (list_all is_usual (drop before line))
+    (sym (list_all-append is_usual (take k line) (drop before line)) ∙ none_unusual (take k line ++ drop before line) (sym e ∙ none)) in
+    ap (list_all is_usual) (sym parts)
+    ∙ usual_joined (take before line) (drop before line) k (omega (arith, length-take-le before line (omega arith), few)) (ap (λ bs. list_all is_usual (take k bs)) parts ∙ both.0) both.1
+
+-- ---- from the last bytes to the first
+
+-- what stands behind the rest of a line has these ends, and no unusual byte where `unusual` is 0, and neither have the first sixteen bytes
+pub record IsAheadOf (line rest : List ℕ) (ends unusual : ℕ) : Type 0 where
+  pub behind : List ℕ
+  pub parts : line ≡ rest ++ behind
+  pub value : ends ≡ word_ends behind
+  pub usual : unusual ≡ 0 → list_all is_usual behind ≡ true
+  pub first_usual : unusual ≡ 0 → list_all is_usual (take 16 line) ≡ true
+
+pub split_parts : (whole front last : List ℕ) → (front ≡ take (length whole - 16) whole) × (last ≡ drop (length whole - 16) whole) × (length front + 16 ≡ length whole) → (front ++ last ≡ whole) × (length last ≡ 16)
+split_parts whole front last cut =
+    let parts : front ++ last ≡ whole = (λ i. cut.0 i ++ cut.1 i) ∙ take-append-drop (length whole - 16) whole in
+    (parts, omega (arith, ap length parts, length-append front last, cut.2))
+
+or_none : (a b : ℕ) → bit_or a b ≡ 0 → (a ≡ 0) × (b ≡ 0)
+or_none a b e = (omega (arith, e, le_or_l a b), omega (arith, e, le_or_r a b))
+
+pub first_part : (line front last : List ℕ) (first : List ℕ) (ends unusual : ℕ) → front ++ last ≡ line → length last ≡ 16 → first ≡ take 16 line → ends ≡ bit_or (1 * 2 ^ 16 % 2 ^ 64) (mask_l (map is_blank last)) → unusual ≡ bit_or (mask_l (map is_unusual first)) (mask_l (map is_unusual last)) → IsAheadOf line front ends unusual
+first_part line front last first ends unusual parts whole same value e = record {
+  behind = last;
+  parts = sym parts;
+  value = value ∙ or_shifted 1 16 (mask_l (map is_blank last)) (blanks_lt last 16 whole) ∙ ap (λ k. 1 * 2 ^ k + mask_l (map is_blank last)) (sym whole) ∙ sym (word_ends_are last);
+  usual = λ none. none_unusual last (or_none (mask_l (map is_unusual first)) (mask_l (map is_unusual last)) (sym e ∙ none)).1;
+  first_usual = λ none. ap (list_all is_usual) (sym same) ∙ none_unusual first (or_none (mask_l (map is_unusual first)) (mask_l (map is_unusual last)) (sym e ∙ none)).0;
+}
+
+pub more_parts : (line rest front last : List ℕ) (ends unusual more_ends more_unusual : ℕ) → IsAheadOf line rest ends unusual → front ++ last ≡ rest → length last ≡ 16 → length line ≤ 63 → more_ends ≡ bit_or (ends * 2 ^ 16 % 2 ^ 64) (mask_l (map is_blank last)) → more_unusual ≡ bit_or unusual (mask_l (map is_unusual last)) → IsAheadOf line front more_ends more_unusual
+more_parts line rest front last ends unusual more_ends more_unusual h parts whole short value e =
+    let long : length front + 16 + length h.behind ≡ length line = omega (arith, whole, ap length parts, length-append front last, ap length h.parts, length-append rest h.behind) in
     record {
-      before = cut.0 ∙ (λ i. take (one_less i) (chunks i)) ∙ front_chunks k line;
-      last = cut.1 ∙ (λ i. drop (one_less i) (chunks i)) ∙ last_chunk k line;
+      behind = last ++ h.behind;
+      parts = h.parts ∙ ap (λ bs. bs ++ h.behind) (sym parts) ∙ append_assoc front last h.behind;
+      value = value ∙ ends_more last h.behind ends whole (omega (arith, long, short)) h.value;
+      usual = λ none.
+          let both : (unusual ≡ 0) × (mask_l (map is_unusual last) ≡ 0) = or_none unusual (mask_l (map is_unusual last)) (sym e ∙ none) in
+          list_all-append is_usual last h.behind ∙ (λ i. none_unusual last both.1 i && h.usual both.0 i);
+      first_usual = λ none. h.first_usual (or_none unusual (mask_l (map is_unusual last)) (sym e ∙ none)).0;
     }
 
-pub length-last : (line : List ℕ) (k : ℕ) → k * 16 + 16 ≤ length line → length (take 16 (drop (k * 16) line)) ≡ 16
-length-last line k h = length-take-le 16 (drop (k * 16) line) (omega (arith, length-drop (k * 16) line))
+pub all_parts : (line rest first : List ℕ) (ends unusual : ℕ) → IsAheadOf line rest ends unusual → first ≡ take 16 line → length rest < 16 → 16 ≤ length line → length line ≤ 63 → bit_or (ends * 2 ^ length rest % 2 ^ 64) (mask_l (map is_blank first)) ≡ word_ends line
+all_parts line rest first ends unusual h same few long short =
+    ap (λ bs. bit_or (ends * 2 ^ length rest % 2 ^ 64) (mask_l (map is_blank bs))) same
+    ∙ ends_joined line rest h.behind ends 16 h.parts short (omega (arith, few)) long h.value
 
--- the marks from the last chunk on
-pub marks_more : (line : List ℕ) (whole front bytes : List (List ℕ)) (m n : ℕ) → LastChunk line front bytes → length front + 1 ≡ length whole → length line ≤ 63 → length whole * 16 ≤ length line → m ≡ marks (drop (length whole * 16) line) → n ≡ marks (slice_index_or bytes 0 []) → m * 2 ^ 16 % 2 ^ 64 + n ≡ marks (drop (length front * 16) line)
-marks_more line whole front bytes m n cut more short within rest last =
-    let at = length front * 16 in
-    let here = drop at line in
-    let behind : drop (length whole * 16) line ≡ drop 16 here = sym (drop-drop 16 at line ∙ ap (λ i. drop i line) (let e : at + 16 ≡ length whole * 16 = omega (arith, more) in e)) in
-    let part : n ≡ marks (take 16 here) = last ∙ ap (λ bs. marks (slice_index_or bs 0 [])) cut.last in
-    (λ i. (rest ∙ ap marks behind) i * 2 ^ 16 % 2 ^ 64 + part i) ∙ marks_together here (omega (arith, length-drop at line)) (omega (arith, length-drop at line))
-
--- the marks behind the whole chunks, by those of the last sixteen bytes
-pub marks_of_last : (line : List ℕ) (k r : ℕ) → 16 ≤ length line → k ≡ length line / 16 → r ≡ length line % 16 → marks (drop (length line - 16) line) / 2 ^ (16 - r) ≡ marks (drop (k * 16) line)
-marks_of_last line k r long whole over =
-    marks-drop (16 - r) (drop (length line - 16) line)
-    ∙ ap marks (drop-drop (16 - r) (length line - 16) line ∙ ap (λ i. drop i line) (let e : length line - 16 + (16 - r) ≡ k * 16 = omega arith in e))
+pub all_usual : (line rest : List ℕ) (ends unusual : ℕ) → IsAheadOf line rest ends unusual → length rest < 16 → unusual ≡ 0 → list_all is_usual line ≡ true
+all_usual line rest ends unusual h few none =
+    ap (list_all is_usual) h.parts
+    ∙ usual_joined rest h.behind 16 (omega (arith, few)) (ap (λ bs. list_all is_usual (take 16 bs)) (sym h.parts) ∙ h.first_usual none) (h.usual none)

@@ -5,6 +5,6 @@ pub mod Settings
 pub mod FileText
 pub mod Words
 pub mod Cutting
-pub mod Marks
+pub mod WordEnds
 pub mod Reading
 pub mod Laws

@@ -6,11 +6,11 @@ ghost use Rattle.std.specs.Str.{IsUtf8};
 ghost use Rattle.std.specs.Str.Lines.{strip_carriage_return};
 ghost use Rattle.cg_name.specs.Refusal.{IsSyntaxOrMemory};
 ghost use Rattle.cg_name.specs.Word.{is_bare_byte, is_blank};
-ghost use Rattle.cg_text.specs.Cutting.{BeginsWith, Closes, behind, is_escaped, say_something, starts_blank};
+ghost use Rattle.cg_text.specs.Cutting.{BeginsWith, Closes, behind, is_escaped, starts_blank, starts_sign};
 ghost use Rattle.cg_text.specs.Words.{Cuts, EndsWord, Line, Says, Word, is_silent};
 
 use crate::line_words::LineWords;
-use crate::marks::{SHORT_LINE, marks_of};
+use crate::word_ends::{SHORT_LINE, word_ends};
 use cg_name::{Refusal, is_bare_byte};
 use memchr::{memchr, memchr3};
 
@@ -52,68 +52,34 @@ pub fn read_words<'a>(line: &'a [u8], words: &mut LineWords<'a>) -> Result<bool,
     ensures syntax { IsErrOf result Refusal.Syntax → (said : Option (List Word)) → Says line.now said → ⊥ }
     ensures refusals { IfErr result IsSyntaxOrMemory }
 {
+    let text = without_carriage_return(line);
+    if text.len() <= SHORT_LINE && cut_plain(text, words) {
+        return Ok(true);
+    }
     if line.len() > LONGEST_LINE {
         return Err(Refusal::Syntax);
     }
-    let line = without_carriage_return(line);
-    if line.len() <= SHORT_LINE && cut_plain(line, words)? {
-        return Ok(say_something(words.as_slice()));
-    }
-    let Some(line) = as_text(line) else {
+    let Some(text) = as_text(text) else {
         return Err(Refusal::Syntax);
     };
-    if is_silent(line) {
+    if is_silent(text) {
         return Ok(false);
     }
-    cut_words(line, words)?;
+    cut_words(text, words)?;
     Ok(true)
 }
 
-// Puts the words of a short line in the place of those that `words` has, where all of them are plain, that is bare and
-// of ASCII: most lines are such, and are cut at their marks. False where it has others, and then nothing is told of
-// `words`.
-fn cut_plain<'a>(line: &'a [u8], words: &mut LineWords<'a>) -> Result<bool, Refusal>
+// Puts the words of a short line in the place of those that `words` has, where the line says something and the words are
+// plain, that is bare and of ASCII, with one blank between each two: most lines are such, and are cut at their blanks. False
+// where it can't, and then nothing is told of `words`.
+#[inline(always)]
+fn cut_plain<'a>(line: &'a [u8], words: &mut LineWords<'a>) -> bool
     requires short { length line.now ≤ 63 }
-    ensures words { IfOk result (λ cut. cut ≡ true → IsUtf8 line.now × Cuts line.now words.new) }
-    ensures refusals { IfErr result (λ refusal. refusal ≡ Refusal.Memory) }
+    ensures { IsTrue result → IsUtf8 line.now × (is_silent line.now ≡ false) × Cuts line.now words.new }
 {
-    words.clear();
-    let mut rest = line;
-    let mut marks = marks_of(line);
-    loop {
-        rest = match rest {
-            [] => return Ok(true),
-            [byte, others @ ..] if is_blank(*byte) => {
-                marks >>= 1;
-                others
-            }
-            _ => {
-                let end = (marks.trailing_zeros() as usize).min(rest.len());
-                let (word, behind) = rest.split_at(end);
-                if word.is_empty() {
-                    return Ok(false);
-                }
-                words.push(unsafe { std::str::from_utf8_unchecked(word) })?;
-                match behind {
-                    [] => return Ok(true),
-                    [byte, others @ ..] if is_blank(*byte) => {
-                        marks >>= end + 1;
-                        others
-                    }
-                    _ => return Ok(false),
-                }
-            }
-        };
-    }
-}
-
-// Whether a line of these words says something: there is one, and the first begins with no number sign.
-fn say_something(words: &[&str]) -> bool
-    ensures { result ≡ say_something (map (λ w. w.now) words.now) }
-{
-    match words {
-        [] => false,
-        [first, ..] => !is_silent(first),
+    match word_ends(line) {
+        Some(ends) if !starts_sign(line) => words.cut(line, ends),
+        _ => false,
     }
 }
 
@@ -241,11 +207,11 @@ fn starts_blank(text: &str) -> bool
     matches!(text.as_bytes(), [b' ' | b'\t', ..])
 }
 
-// Whether the byte is a blank.
-fn is_blank(byte: u8) -> bool
-    ensures { result ≡ is_blank byte }
+// Whether the text begins with a number sign.
+fn starts_sign(text: &[u8]) -> bool
+    ensures { result ≡ starts_sign text.now }
 {
-    matches!(byte, b' ' | b'\t')
+    matches!(text, [b'#', ..])
 }
 
 // Whether a word may end before the text: it is empty or begins with a blank.

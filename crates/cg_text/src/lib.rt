@@ -7,9 +7,9 @@ mod cutting;
 pub mod laws;
 mod limit;
 mod line_words;
-mod marks;
 mod reading;
 mod settings;
+mod word_ends;
 mod writing;
 
 pub use cg_name::{FileName, write_quoted};

@@ -1,5 +1,9 @@
 //! The words of a line.
-ghost use Rattle.std.specs.Prelude.{◌≡◌, ◌≤◌, ◌∷◌, ◌++◌, [], OnErr, OnOk, length, map};
+ghost use Rattle.std.specs.Prelude.{◌≡◌, ◌≤◌, ◌∷◌, ◌++◌, [], IsTrue, OnErr, OnOk, length, map, true};
+ghost use Rattle.std.specs.List.{list_all};
+ghost use Rattle.cg_text.specs.Cutting.{starts_word};
+ghost use Rattle.cg_text.specs.WordEnds.{is_usual, word_ends};
+ghost use Rattle.cg_text.specs.Words.{Cuts};
 
 use std::alloc::{AllocError, Global};
 use std::marker::Model;
@@ -44,6 +48,34 @@ impl<'a> LineWords<'a> {
         ensures { self.new ≡ [] }
     {
         self.len = 0;
+    }
+
+    // Puts the words of a line in the place of those that there are, by where they end, where there are few and one blank
+    // stands between each two. False where it can't, and then nothing is told of the words.
+    #[inline(always)]
+    pub(crate) fn cut(&mut self, line: &'a [u8], ends: u64) -> bool
+        requires short { length line.now ≤ 63 }
+        requires usual { list_all is_usual line.now ≡ true }
+        requires ends { ends ≡ word_ends line.now }
+        ensures { IsTrue result → (starts_word line.now ≡ true) × Cuts line.now self.new }
+    {
+        let mut start = 0;
+        let mut ends = ends;
+        for place in 0..FEW {
+            let end = ends.trailing_zeros() as usize;
+            if start == end {
+                return false;
+            }
+            self.few[place] = unsafe { std::str::from_utf8_unchecked(&line[start..end]) };
+            // The lowest bit is taken off.
+            ends &= ends - 1;
+            if ends == 0 {
+                self.len = place + 1;
+                return true;
+            }
+            start = end + 1;
+        }
+        false
     }
 
     // Puts a word behind the others. An error is want of memory, and leaves the words as they were.
