@@ -6,6 +6,7 @@ use Rattle.std.proofs.lemmas.Bool.Decides.{nat_tests}
 use Rattle.std.proofs.lemmas.List.{drop-drop, get_or-drop, get_or-take, take_all}
 use Rattle.std.proofs.lemmas.Simd.{bit_mask_l, mask_l-mod}
 use Rattle.cg_name.specs.Simple.{may_follow, GoesOn}
+use Rattle.cg_name.proofs.Lanes.{equal_lanes, either_lanes, or_lanes, and_lanes, top_lane}
 
 -- a byte that may not stand behind that one
 abbrev bad : ℕ → ℕ → Bool
@@ -16,39 +17,17 @@ follows before b h = grind (arith, nat_tests)
 
 -- ---- the lanes
 
-or_lanes : (a b : Bool) → bit_or (cond a 255 0) (cond b 255 0) ≡ cond (a || b) 255 0
-or_lanes true true = refl
-or_lanes true false = refl
-or_lanes false true = refl
-or_lanes false false = refl
-
-and_lanes : (a b : Bool) → bit_and (cond a 255 0) (cond b 255 0) ≡ cond (a && b) 255 0
-and_lanes true true = refl
-and_lanes true false = refl
-and_lanes false true = refl
-and_lanes false false = refl
-
-top_lane : (a : Bool) → top 7 (cond a 255 0) ≡ a
-top_lane true = refl
-top_lane false = refl
-
 lane : (a b c d e f : Bool)
     → top 7 (bit_or (bit_or (bit_or (cond a 255 0) (cond b 255 0)) (bit_or (cond c 255 0) (cond d 255 0))) (bit_and (cond e 255 0) (cond f 255 0)))
     ≡ ((a || b) || (c || d)) || (e && f)
 lane a b c d e f = simp (or_lanes, and_lanes) (top_lane (((a || b) || (c || d)) || (e && f)))
 
-abbrev equal_lanes : List ℕ → List ℕ → List ℕ
-equal_lanes xs ys = zip2 (λ x y. cond (x == y) 255 0) xs ys
-
-abbrev both_lanes : List ℕ → List ℕ → List ℕ
-both_lanes xs ys = zip2 bit_or xs ys
-
 -- the lanes where a byte may not stand, of n bytes and those before them
 abbrev bad_lanes : ℕ → List ℕ → List ℕ → List ℕ
 bad_lanes n bs ps =
-    let low = both_lanes (zip2 (λ x y. cond (ltb x y) 255 0) bs (replicate n 45)) (equal_lanes bs (replicate n 46)) in
-    let high = both_lanes (equal_lanes bs (replicate n 92)) (zip2 (λ x y. cond (leb x y) 255 0) (replicate n 128) bs) in
-    both_lanes (both_lanes low high) (zip2 bit_and (equal_lanes bs (replicate n 47)) (equal_lanes ps (replicate n 47)))
+    let low = either_lanes (zip2 (λ x y. cond (ltb x y) 255 0) bs (replicate n 45)) (equal_lanes n bs 46) in
+    let high = either_lanes (equal_lanes n bs 92) (zip2 (λ x y. cond (leb x y) 255 0) (replicate n 128) bs) in
+    either_lanes (either_lanes low high) (zip2 bit_and (equal_lanes n bs 47) (equal_lanes n ps 47))
 
 abbrev bads : List ℕ → List ℕ → List Bool
 bads (b ∷ bs) (p ∷ ps) = bad p b ∷ bads bs ps

@@ -9,17 +9,12 @@ use Rattle.std.proofs.lemmas.Bool.{and_parts}
 use Rattle.std.proofs.lemmas.List.{length-map, length-take-le, map-append, take-map, take-append-drop, take-append-le}
 use Rattle.std.proofs.lemmas.List.Folds.{list_all-append}
 use Rattle.std.proofs.lemmas.Nat.{and_mask, le_or_l, le_or_r, mod_low, one_shl, or_block, or_shifted, pow_pos, shl_whole, shr_high}
-use Rattle.std.proofs.lemmas.Simd.{mask_l-lt, mask_l-mod, pick_l_whole}
+use Rattle.std.proofs.lemmas.Simd.{mask_l-lt, pick_l_whole}
 use Rattle.cg_name.specs.Word.{is_blank}
+use Rattle.cg_name.proofs.Lanes.{equal_lanes, either_lanes, top_of_two, top_of_three, mask_fits, bit_none}
 use Rattle.cg_text.specs.WordEnds.{is_unusual, is_usual, word_ends}
 
 -- ---- some bytes at once
-
-abbrev equal_lanes : ℕ → List ℕ → ℕ → List ℕ
-equal_lanes n xs y = zip2 (λ x z. cond (x == z) 255 0) xs (replicate n y)
-
-abbrev either_lanes : List ℕ → List ℕ → List ℕ
-either_lanes xs ys = zip2 bit_or xs ys
 
 -- the lanes of n bytes where one is a blank, and where one is unusual
 abbrev blank_lanes : ℕ → List ℕ → List ℕ
@@ -28,33 +23,15 @@ blank_lanes n xs = either_lanes (equal_lanes n xs 32) (equal_lanes n xs 9)
 abbrev unusual_lanes : ℕ → List ℕ → List ℕ
 unusual_lanes n xs = either_lanes (either_lanes (equal_lanes n xs 34) (equal_lanes n xs 92)) (zip2 (λ x y. cond (leb x y) 255 0) (replicate n 128) xs)
 
-or_lanes : (a b : Bool) → bit_or (cond a 255 0) (cond b 255 0) ≡ cond (a || b) 255 0
-or_lanes true true = refl
-or_lanes true false = refl
-or_lanes false true = refl
-or_lanes false false = refl
-
-top_lane : (a b : Bool) → top 7 (bit_or (cond a 255 0) (cond b 255 0)) ≡ a || b
-top_lane true true = refl
-top_lane true false = refl
-top_lane false true = refl
-top_lane false false = refl
-
 blanks_are_lanes : (xs : List ℕ) (n : ℕ) → length xs ≡ n → map (top 7) (blank_lanes n xs) ≡ map is_blank xs
 blanks_are_lanes [] n e = refl
 blanks_are_lanes (x ∷ xs) zero e = absurd (omega arith)
-blanks_are_lanes (x ∷ xs) (suc n) e = λ i. top_lane (x == 32) (x == 9) i ∷ blanks_are_lanes xs n (omega arith) i
+blanks_are_lanes (x ∷ xs) (suc n) e = λ i. top_of_two (x == 32) (x == 9) i ∷ blanks_are_lanes xs n (omega arith) i
 
 unusual_are_lanes : (xs : List ℕ) (n : ℕ) → length xs ≡ n → map (top 7) (unusual_lanes n xs) ≡ map is_unusual xs
 unusual_are_lanes [] n e = refl
 unusual_are_lanes (x ∷ xs) zero e = absurd (omega arith)
-unusual_are_lanes (x ∷ xs) (suc n) e =
-    let here : top 7 (bit_or (bit_or (cond (x == 34) 255 0) (cond (x == 92) 255 0)) (cond (leb 128 x) 255 0)) ≡ is_unusual x =
-    ap (λ z. top 7 (bit_or z (cond (leb 128 x) 255 0))) (or_lanes (x == 34) (x == 92)) ∙ top_lane ((x == 34) || (x == 92)) (leb 128 x) in
-    λ i. here i ∷ unusual_are_lanes xs n (omega arith) i
-
-mask_fits : (p : ℕ → Bool) (xs : List ℕ) → length xs ≤ 64 → mask_l (map p xs) % 2 ^ 64 ≡ mask_l (map p xs)
-mask_fits p xs few = mask_l-mod (map p xs) 64 (omega (arith, length-map xs p))
+unusual_are_lanes (x ∷ xs) (suc n) e = λ i. top_of_three (x == 34) (x == 92) (leb 128 x) i ∷ unusual_are_lanes xs n (omega arith) i
 
 pub blanks_of_lanes : (xs : List ℕ) (n : ℕ) → length xs ≡ n → n ≤ 64 → mask_l (map (top 7) (blank_lanes n xs)) % 2 ^ 64 ≡ mask_l (map is_blank xs)
 blanks_of_lanes xs n e few = ap (λ ms. mask_l ms % 2 ^ 64) (blanks_are_lanes xs n e) ∙ mask_fits is_blank xs (omega (arith, e))
@@ -183,10 +160,6 @@ ends_of_halves line k blanks some few short e =
     ∙ ends_joined line front last (bit_or (1 * 2 ^ k % 2 ^ 64) (blanks / 2 ^ k)) k (sym (take-append-drop before line)) (omega (arith, few, short)) (omega (arith, ahead, few)) some tail
 
 -- ---- lines without an unusual byte
-
-bit_none : (m : Bool) (n : ℕ) → cond m 1 0 + 2 * n ≡ 0 → (m ≡ false) × (n ≡ 0)
-bit_none true n e = absurd (omega (arith, e))
-bit_none false n e = (refl, omega (arith, e))
 
 pub none_unusual : (xs : List ℕ) → mask_l (map is_unusual xs) ≡ 0 → list_all is_usual xs ≡ true
 none_unusual [] e = refl

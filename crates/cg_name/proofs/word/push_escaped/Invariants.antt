@@ -6,7 +6,7 @@ use Rattle.cg_name.proofs.word.push_escaped.Given as goal
 -- the bytes so far stand behind what was there, with room for the others
 abbrev pub invariant-loop-byte : goal.invariant-loop-byte
 invariant-loop-byte l = record {
-  items : l.out.items ≡ l.fn.out.items ++ flat_map quoted_byte (take l.byte-index l.text);
-  room : vec_len l.out ≤ vec_len l.fn.out + 2 * l.byte-index;
+  items : l.out.items ≡ l.initial.out.items ++ flat_map quoted_byte (take l.byte-index l.rest);
+  room : vec_len l.out ≤ vec_len l.initial.out + 2 * l.byte-index;
   capacity : vec_capacity l.out ≡ vec_capacity l.fn.out;
 }
