@@ -127,3 +127,17 @@ next_is_held H M t xs i x low at all h =
 -- marks taken and released leave what was held
 pub undone : (H M M' : Holdings) (t : ℕ) (f : List model.Mark) → IsMoreBy H t f M → IsMoreBy M' t f M → (u : ℕ) (m : model.Mark) → holdings M' u m ≡ holdings H u m
 undone H M M' t f a b u m = let x = a u m in let y = b u m in omega (arith, x, y)
+
+-- ---- a footprint of one mark
+
+one_time : (m n : model.Mark) → times m (n ∷ []) ≡ once m n
+one_time m n = sum_by-cons (λ k. cond (same_mark m k) 1 0) n [] ∙ omega arith
+
+pub one_is_held : (H : Holdings) (t : ℕ) (f : List model.Mark) (n : model.Mark) → f ≡ n ∷ [] → HoldsAll H t f → 0 < holdings H t n
+one_is_held H t f n is all =
+    let enough : times n (n ∷ []) ≤ holdings H t n = subst (λ g. HoldsMark H t g n) is (all n) in
+    let stands : times n (n ∷ []) ≡ 1 = one_time n n ∙ ap (λ b. cond b 1 0) (same_mark-itself n) in
+    omega (arith, enough, stands)
+
+pub one_taken : (H M : Holdings) (t : ℕ) (f : List model.Mark) (n : model.Mark) → f ≡ n ∷ [] → IsHeldOnceMore H t n M → IsMoreBy H t f M
+one_taken H M t f n is more u m = more u m ∙ ap (λ k. holdings H u m + cond (u == t) k 0) (sym (ap (times m) is ∙ one_time m n))

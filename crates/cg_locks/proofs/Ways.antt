@@ -175,6 +175,10 @@ module _ (H : Holdings) (t : ℕ) where
   pub all_so_far : (xs : List Mark) (f : List model.Mark) (i : ℕ) (r : Option ℕ) → map mark_of xs ≡ f → length xs ≤ i → IsLeastSoFar xs i r → IsLeast (IsInTheWay H t f) r
   all_so_far xs f i r is end h = subst (λ g. IsLeast (IsInTheWay H t g) r) (ap (map mark_of) (take_all i xs end) ∙ is) h
 
+  -- of a footprint of one mark
+  pub least_of_one : (f : List model.Mark) (x : Mark) (r : Option ℕ) → f ≡ mark_of x ∷ [] → IsLeastInTheWay H t (mark_of x) r → IsLeast (IsInTheWay H t f) r
+  least_of_one f x r is h = subst (λ g. IsLeast (IsInTheWay H t g) r) (sym is) (next_so_far (x ∷ []) 0 x None r (omega arith) refl (none_so_far (x ∷ [])) h)
+
 pub some_found : (P : ℕ → Type 0) (r : Option TxnNumber) → IsLeast P (option_map number_of r) → IfSome r (λ u. P u.0)
 some_found P None h = tt
 some_found P (Some u) h = h.some u.0 refl

@@ -132,6 +132,17 @@ impl Footprint {
         }
     }
 
+    // Its mark, where it is one alone that is on no number of descendants, as most are, and the node at which that was taken.
+    #[inline(always)]
+    pub(crate) fn single(&self) -> Option<(NodeKey, &Mark)>
+        ensures { IfSome result (λ single. self.now ≡ mark_of single.1.now ∷ []) }
+    {
+        match &self.kept {
+            Kept::One(node, mark) => Some((*node, mark)),
+            Kept::Two(_) | Kept::Three(_) | Kept::Counted(_) => None,
+        }
+    }
+
     // The nodes at which its marks were taken.
     pub(crate) fn taken_at(&self) -> TakenAt {
         match &self.kept {

@@ -128,6 +128,17 @@ impl LockTable {
         ensures least { IfSome result (λ u. (v : ℕ) → IsInTheWay self.now transaction.0 footprint.now v → u.0 ≤ v) }
         ensures none { result ≡ None → (v : ℕ) → ¬ (IsInTheWay self.now transaction.0 footprint.now v) }
     {
+        if let Some((_node, mark)) = footprint.single() {
+            return self.clash_with(transaction, mark);
+        }
+        self.clash_with_several(transaction, footprint)
+    }
+
+    // The same, of any number of marks.
+    #[inline(never)]
+    fn clash_with_several(&self, transaction: TxnNumber, footprint: &Footprint) -> Option<TxnNumber>
+        ensures { IsLeast (IsInTheWay self.now transaction.0 footprint.now) (option_map number_of result) }
+    {
         let (marks, counted) = footprint.parts();
         let least = self.clash_with_all(transaction, marks);
         lesser(least, self.clash_with_counted(transaction, counted))
@@ -230,6 +241,26 @@ impl LockTable {
         ensures footprint { footprint.new ≡ footprint.old }
     {
         self.make_room()?;
+        if let Some((_node, mark)) = footprint.single() {
+            let node = self.take_mark(alloc, transaction, mark)?;
+            footprint.note(TakenAt::one(node));
+            return Ok(());
+        }
+        self.take_several(alloc, transaction, footprint)
+    }
+
+    // The same, of any number of marks.
+    #[inline(never)]
+    fn take_several(
+        &mut self,
+        alloc: Global,
+        transaction: TxnNumber,
+        footprint: &mut Footprint,
+    ) -> Result<(), AllocError>
+        ensures ok { OnOk result ((u : ℕ) (m : model.Mark) → holdings self.new u m ≡ holdings self.old u m + cond (u == transaction.0) (times m footprint.old) 0) }
+        ensures err { OnErr result (self.new ≡ self.old) }
+        ensures footprint { footprint.new ≡ footprint.old }
+    {
         self.tell();
         let (marks, counted) = footprint.parts();
         let taken_at = self.take_all(alloc, transaction, marks)?;
@@ -248,13 +279,25 @@ impl LockTable {
         requires { HoldsAll self.old transaction.0 footprint.now }
         ensures { (u : ℕ) (m : model.Mark) → holdings self.new u m + cond (u == transaction.0) (times m footprint.now) 0 ≡ holdings self.old u m }
     {
+        match footprint.single() {
+            Some((node, mark)) => self.release_mark(transaction, mark, node),
+            None => self.release_several(transaction, footprint),
+        }
+        if !self.is_sole {
+            self.look_for_quiet();
+        }
+    }
+
+    // The same, of any number of marks.
+    #[inline(never)]
+    fn release_several(&mut self, transaction: TxnNumber, footprint: &Footprint)
+        requires { HoldsAll self.old transaction.0 footprint.now }
+        ensures { (u : ℕ) (m : model.Mark) → holdings self.new u m + cond (u == transaction.0) (times m footprint.now) 0 ≡ holdings self.old u m }
+    {
         let (marks, counted) = footprint.parts();
         let taken_at = footprint.taken_at();
         self.release_counted(transaction, counted, taken_at.first());
         self.release_all(transaction, marks, taken_at);
-        if !self.is_sole {
-            self.look_for_quiet();
-        }
     }
 
     // Where nothing is held any more, and it was so often before, marks stand apart again: transactions come one after another.
