@@ -1,3 +1,4 @@
 pub mod Kept
 pub mod Limits
 pub mod LimitsBack
+pub mod LowBack

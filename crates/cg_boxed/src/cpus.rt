@@ -1,5 +1,5 @@
 //! Sets of CPU numbers in memory that their copies share.
-ghost use Rattle.std.specs.Prelude.{◌≡◌, ◌<◌, ℕ, cond, IfOk, IfSome, IsOk, IsTrue, true};
+ghost use Rattle.std.specs.Prelude.{◌≡◌, ◌<◌, ◌≤◌, ℕ, cond, IfNone, IfOk, IfSome, IsOk, IsTrue, true};
 ghost use Rattle.cg_cpus.specs.Words.{low_set};
 ghost use Rattle.std.proofs.Common.{nat_eq, rules};
 ghost use Rattle.std.specs.Cmp.Lexicographic.{pointwise};
@@ -88,7 +88,8 @@ impl BoxedCpus {
     /// The set in a word, where its numbers are below 64.
     #[inline(always)]
     pub fn low(&self) -> Option<LowCpus>
-        ensures { IfSome result (λ low. low ≡ self.now) }
+        ensures value { IfSome result (λ low. low ≡ self.now) }
+        ensures none { IfNone result ((n : ℕ) × IsTrue (has self.now n) × (64 ≤ n)) }
     {
         match &self.kept {
             Kept::Low(word) => Some(LowCpus { word: *word }),

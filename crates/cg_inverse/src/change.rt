@@ -1,5 +1,6 @@
 //! Changes: a key of the tree, what it held before a command, and what the command left there.
-ghost use Rattle.std.specs.Prelude.{◌≡◌, ◌↔◌, IfOk, IsOk, IsTrue, OnErr, OnOk, Some, option_copied};
+ghost use Rattle.std.specs.Prelude.{◌≡◌, ◌↔◌, ◌<◌, ℕ, IfOk, IsOk, IsTrue, OnErr, OnOk, Some, option_copied};
+ghost use Rattle.cg_maps.specs.FiniteSet.{has};
 ghost use Rattle.cg_inverse.specs.Meaning.{change_of, FitsIn, HasRoomIn, HasRoomToMake, LeavesNoCpus, MayGoBack};
 ghost use Rattle.cg_model.specs.Change.{change};
 ghost use Rattle.cg_model.specs.Key.{put, Part, Cpus};
@@ -192,7 +193,8 @@ impl Change {
         before: BoxedCpus,
         left: BoxedCpus,
     ) -> Result<Change, AllocError>
-        ensures { IfOk result (λ c. change_of c ≡ change (Part path Cpus) (Some before) (Some left)) }
+        ensures value { IfOk result (λ c. change_of c ≡ change (Part path Cpus) (Some before) (Some left)) }
+        ensures low { ((n : ℕ) → IsTrue (has before n) → n < 64) → ((n : ℕ) → IsTrue (has left n) → n < 64) → IsOk result }
     {
         if let (Some(before), Some(left)) = (before.low(), left.low()) {
             return Ok(Change::LowCpus {
