@@ -1,3 +1,4 @@
+pub mod Alike
 pub mod Applied
 pub mod CompactFields
 pub mod CompactOps

@@ -1,10 +1,12 @@
 //! The ten commands (the kernel's cgroup-v2 page, "Organizing Processes and Threads", "Core Interface Files" and "Cpuset
 //! Interface Files").
-ghost use Rattle.std.specs.Prelude.{◌≡◌, IfOk, IfErr, OnErr, OnOk, option_copied};
+ghost use Rattle.std.specs.Prelude.{◌≡◌, ◌<◌, ℕ, IfOk, IfErr, IsOk, IsTrue, OnErr, OnOk, option_copied};
+ghost use Rattle.cg_maps.specs.FiniteSet.{has};
+ghost use Rattle.cg_command.specs.Alike.{like};
 ghost use Rattle.cg_command.specs.Applied.{entries_after, outcome_of, IsCarriedOut};
 ghost use Rattle.cg_command.specs.Meaning.{command_of, path_of};
 ghost use Rattle.cg_model.specs.Change.{done, undone, Fits};
-ghost use Rattle.cg_model.specs.Command.{IsAccepted};
+ghost use Rattle.cg_model.specs.Command.{Cpus, IsAccepted};
 ghost use Rattle.cg_model.specs.Effect.{effect};
 ghost use Rattle.cg_model.specs.Room.{RoomFor};
 ghost use Rattle.cg_model.specs.Sound.{Sound};
@@ -23,6 +25,8 @@ use crate::online_cpus::OnlineCpus;
 use crate::pid::Pid;
 use crate::shared_cpus::SharedCpus;
 use crate::subtree::subtree;
+use cg_boxed::LowCpus;
+use cg_cpus::CpuSet;
 use cg_inverse::Inverse;
 use cg_name::{Path, Refusal};
 use cg_text::{FileName, Limit};
@@ -30,7 +34,6 @@ use cg_tree::Tree;
 use std::alloc::{AllocError, Global};
 
 /// What a session asks of the tree.
-#[derive(PartialEq, Eq)]
 pub enum Command {
     /// Makes the group at the path.
     Create {
@@ -63,8 +66,15 @@ pub enum Command {
         /// Whether it is to be frozen.
         value: bool,
     },
-    /// Writes `cpuset.cpus`.
-    Cpus {
+    /// Writes `cpuset.cpus`, of CPUs below 64.
+    LowCpus {
+        /// The group.
+        path: Path,
+        /// The CPUs that it asks for.
+        cpus: LowCpus,
+    },
+    /// Writes `cpuset.cpus`, of any CPUs.
+    WideCpus {
         /// The group.
         path: Path,
         /// The CPUs that it asks for.
@@ -112,7 +122,8 @@ impl Drop for Command {
             Command::Migrate { pid: _, path: _ } => {}
             Command::Subtree { path: _, ops: _ } => {}
             Command::Freeze { path: _, value: _ } => {}
-            Command::Cpus { path: _, cpus: _ } => {}
+            Command::LowCpus { path: _, cpus: _ } => {}
+            Command::WideCpus { path: _, cpus: _ } => {}
             Command::Show { path: _, file: _ } => {}
             Command::Online { cpus: _ } => {}
             Command::MaxDescendants { path: _, limit: _ } => {}
@@ -130,7 +141,70 @@ pub enum Outcome {
     Text(BoxedText),
 }
 
+// By hand, since the same CPUs are the same however they are kept.
+impl PartialEq for Command {
+    ghost use Rattle.std.specs.Cmp.{on_per};
+    ghost use Rattle.cg_command.specs.Alike.{alike, alike_per};
+
+    ghost eq = { λ a b. alike (command_of a) (command_of b) };
+
+    ghost laws = { on_per command_of alike_per };
+
+    fn eq(&self, other: &Command) -> bool {
+        self.is_like(other) && self.path() == other.path()
+    }
+}
+
+impl Eq for Command {
+    ghost use Rattle.std.specs.Cmp.{on_equiv};
+    ghost use Rattle.cg_command.specs.Alike.{alike_equiv};
+
+    ghost laws = { on_equiv command_of alike_equiv };
+}
+
 impl Command {
+    // Whether it is the same as the other but for the path.
+    fn is_like(&self, other: &Command) -> bool
+        ensures { result ≡ like (command_of self.now) (command_of other.now) }
+    {
+        match (self, other) {
+            (Command::Create { .. }, Command::Create { .. })
+            | (Command::Remove { .. }, Command::Remove { .. }) => true,
+            (Command::Migrate { pid, .. }, Command::Migrate { pid: other, .. }) => pid == other,
+            (Command::Subtree { ops, .. }, Command::Subtree { ops: other, .. }) => ops == other,
+            (Command::Freeze { value, .. }, Command::Freeze { value: other, .. }) => value == other,
+            (Command::LowCpus { cpus, .. }, Command::LowCpus { cpus: other, .. }) => cpus == other,
+            (Command::WideCpus { cpus, .. }, Command::WideCpus { cpus: other, .. }) => {
+                cpus == other
+            }
+            (Command::LowCpus { cpus: low, .. }, Command::WideCpus { cpus: wide, .. })
+            | (Command::WideCpus { cpus: wide, .. }, Command::LowCpus { cpus: low, .. }) => {
+                low.boxed() == *wide.boxed()
+            }
+            (Command::Show { file, .. }, Command::Show { file: other, .. }) => file == other,
+            (Command::Online { cpus }, Command::Online { cpus: other }) => cpus == other,
+            (Command::MaxDescendants { limit, .. }, Command::MaxDescendants { limit: other, .. })
+            | (Command::MaxDepth { limit, .. }, Command::MaxDepth { limit: other, .. }) => {
+                limit == other
+            }
+            _ => false,
+        }
+    }
+
+    /// That which has the group at the path ask for these CPUs. An error, where there is no memory for it: where all CPUs are below
+    /// 64, it takes none.
+    #[inline(always)]
+    pub fn of_cpus(alloc: Global, path: Path, cpus: CpuSet) -> Result<Command, AllocError>
+        ensures value { IfOk result (λ c. command_of c ≡ Cpus path cpus) }
+        ensures low { ((n : ℕ) → IsTrue (has cpus n) → n < 64) → IsOk result }
+    {
+        if let Some(cpus) = LowCpus::of(&cpus) {
+            return Ok(Command::LowCpus { path, cpus });
+        }
+        let cpus = SharedCpus::new(alloc, cpus)?;
+        Ok(Command::WideCpus { path, cpus })
+    }
+
     /// An equal command; an error where there is no memory for it.
     pub fn copy(&self, alloc: Global) -> Result<Command, AllocError>
         ensures { IfOk result (λ c. c ≡ self.now) }
@@ -154,7 +228,11 @@ impl Command {
                 path: path.copy(alloc)?,
                 value: *value,
             },
-            Command::Cpus { path, cpus } => Command::Cpus {
+            Command::LowCpus { path, cpus } => Command::LowCpus {
+                path: path.copy(alloc)?,
+                cpus: *cpus,
+            },
+            Command::WideCpus { path, cpus } => Command::WideCpus {
                 path: path.copy(alloc)?,
                 cpus: cpus.copy()?,
             },
@@ -186,7 +264,8 @@ impl Command {
             | Command::Migrate { path, .. }
             | Command::Subtree { path, .. }
             | Command::Freeze { path, .. }
-            | Command::Cpus { path, .. }
+            | Command::LowCpus { path, .. }
+            | Command::WideCpus { path, .. }
             | Command::Show { path, .. }
             | Command::MaxDescendants { path, .. }
             | Command::MaxDepth { path, .. } => Some(path),
@@ -205,7 +284,8 @@ impl Command {
             Command::Migrate { path, .. } => tree.share(alloc, path),
             Command::Subtree { path, .. } => tree.share(alloc, path),
             Command::Freeze { path, .. } => tree.share(alloc, path),
-            Command::Cpus { path, .. } => tree.share(alloc, path),
+            Command::LowCpus { path, .. } => tree.share(alloc, path),
+            Command::WideCpus { path, .. } => tree.share(alloc, path),
             Command::Show { path, .. } => tree.share(alloc, path),
             Command::MaxDescendants { path, .. } => tree.share(alloc, path),
             Command::MaxDepth { path, .. } => tree.share(alloc, path),
@@ -225,7 +305,8 @@ impl Command {
             Command::Migrate { pid, path } => check_migrate(pid.number, path, tree),
             Command::Subtree { path, ops } => check_subtree(path, ops.get(), tree),
             Command::Freeze { path, .. } => check_freeze(path, tree),
-            Command::Cpus { path, .. } => check_cpus(path, tree),
+            Command::LowCpus { path, .. } => check_cpus(path, tree),
+            Command::WideCpus { path, .. } => check_cpus(path, tree),
             Command::Show { path, file } => check_show(path, *file, tree),
             Command::Online { .. } => Ok(()),
             Command::MaxDescendants { path, .. } => check_limit(path, tree),
@@ -261,7 +342,8 @@ impl Command {
             Command::Migrate { pid, path } => migrate(pid.number, path, alloc, tree),
             Command::Subtree { path, ops } => subtree(path, ops.get(), alloc, tree),
             Command::Freeze { path, value } => freeze(path, *value, alloc, tree),
-            Command::Cpus { path, cpus } => apply::cpus(path, cpus.boxed(), alloc, tree),
+            Command::LowCpus { path, cpus } => apply::cpus(path, &cpus.boxed(), alloc, tree),
+            Command::WideCpus { path, cpus } => apply::cpus(path, cpus.boxed(), alloc, tree),
             Command::Show { path, file } => show(path, *file, alloc, tree),
             Command::Online { cpus } => online(&cpus.cpus, alloc, tree),
             Command::MaxDescendants { path, limit } => max_descendants(path, *limit, alloc, tree),

@@ -19,7 +19,11 @@ pub fn commands_can_be_asked_for(command: &Command)
         Command::Migrate { path, .. } => tell(path),
         Command::Subtree { path, .. } => tell(path),
         Command::Freeze { path, .. } => tell(path),
-        Command::Cpus { path, cpus } => {
+        Command::LowCpus { path, cpus } => {
+            tell(path);
+            tell_cpus(&cpus.get());
+        }
+        Command::WideCpus { path, cpus } => {
             tell(path);
             tell_cpus(&cpus.get());
         }

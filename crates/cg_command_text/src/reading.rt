@@ -18,7 +18,7 @@ ghost use Rattle.cg_command_text.specs.Read.{ReadsCommand};
 
 use crate::keyword::is_keyword;
 use cg_boxed::BoxedCpus;
-use cg_command::{Command, CompactOps, OnlineCpus, Pid, SharedCpus};
+use cg_command::{Command, CompactOps, OnlineCpus, Pid};
 use cg_cpus::CpuSet;
 use cg_name::{Controller, Path, Refusal};
 use cg_text::{ControlOps, FileName, read_flag, read_limit, read_pid};
@@ -138,10 +138,11 @@ fn read_cpus(alloc: Global, words: &[&str]) -> Result<Command, Refusal>
     ensures { ReadsCommand (codes "cpus" ∷ map (λ w. w.now) words.now) result }
 {
     match words {
-        [path, list @ ..] => Ok(Command::Cpus {
-            cpus: SharedCpus::new(alloc, read_cpu_words(list)?)?,
-            path: Path::read(alloc, path)?,
-        }),
+        [path, list @ ..] => {
+            let cpus = read_cpu_words(list)?;
+            let path = Path::read(alloc, path)?;
+            Ok(Command::of_cpus(alloc, path, cpus)?)
+        }
         _ => Err(Refusal::Syntax),
     }
 }

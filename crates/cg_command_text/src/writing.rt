@@ -40,7 +40,8 @@ fn append_command(command: &Command, out: &mut Vec<u8>) -> Result<(), AllocError
         Command::Migrate { pid, path } => append_migrate(pid.number, path, out),
         Command::Subtree { path, ops } => append_subtree(path, &ops.get(), out),
         Command::Freeze { path, value } => append_freeze(path, *value, out),
-        Command::Cpus { path, cpus } => append_cpus(path, &cpus.get(), out),
+        Command::LowCpus { path, cpus } => append_cpus(path, &cpus.get(), out),
+        Command::WideCpus { path, cpus } => append_cpus(path, &cpus.get(), out),
         Command::Show { path, file } => append_value("show", path, file.word(), out),
         Command::Online { cpus } => append_online(&cpus.cpus.get(), out),
         Command::MaxDescendants { path, limit } => {

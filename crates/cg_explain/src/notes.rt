@@ -99,7 +99,8 @@ fn append_command_notes(
         | Command::Migrate { pid: _, path }
         | Command::Subtree { path, ops: _ }
         | Command::Freeze { path, value: _ }
-        | Command::Cpus { path, cpus: _ }
+        | Command::LowCpus { path, cpus: _ }
+        | Command::WideCpus { path, cpus: _ }
         | Command::Show { path, file: _ }
         | Command::MaxDescendants { path, limit: _ }
         | Command::MaxDepth { path, limit: _ } => {

@@ -68,7 +68,8 @@ fn append_line(
             let value = if *value { b"1" } else { b"0" };
             append_write(alloc, root, path, FileName::Freeze, value, out)
         }
-        Command::Cpus { path, cpus } => append_cpus(alloc, root, path, &cpus.get(), out),
+        Command::LowCpus { path, cpus } => append_cpus(alloc, root, path, &cpus.get(), out),
+        Command::WideCpus { path, cpus } => append_cpus(alloc, root, path, &cpus.get(), out),
         Command::Show { path, file } => append_shown(alloc, root, path, *file, out),
         Command::Online { cpus } => append_online(&cpus.cpus.get(), out),
         Command::MaxDescendants { path, limit } => {

@@ -1,6 +1,6 @@
 //! The commands of a plan, one behind the other.
 use cg_boxed::BoxedCpus;
-use cg_command::{Command, CompactOps, OnlineCpus, Pid, SharedCpus};
+use cg_command::{Command, CompactOps, OnlineCpus, Pid};
 use cg_command_text::write_command;
 use cg_cpus::CpuSet;
 use cg_name::{Controller, Path};
@@ -94,8 +94,7 @@ impl Steps {
         cpus: CpuSet,
     ) -> Result<(), AllocError> {
         let path = path.copy(alloc)?;
-        let cpus = SharedCpus::new(alloc, cpus)?;
-        self.add(Command::Cpus { path, cpus })
+        self.add(Command::of_cpus(alloc, path, cpus)?)
     }
 
     // Sets the limit on descendants.

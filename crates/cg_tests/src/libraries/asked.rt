@@ -1,12 +1,12 @@
 //! Commands that are asked for.
 use cg_boxed::BoxedCpus;
-use cg_command::{Command, CompactOps, OnlineCpus, Pid, SharedCpus};
+use cg_command::{Command, CompactOps, OnlineCpus, Pid};
 use cg_cpus::CpuSet;
 use cg_name::{FileName, Path, Refusal};
 use cg_text::{Limit, read_ops};
 use std::alloc::Global;
 
-/// A command without its path. Where any value is answered alike, it has none.
+/// A command without its path. Where any value is answered and kept alike, it has none.
 #[derive(Clone, Copy)]
 pub(crate) enum Asked {
     Create,
@@ -14,7 +14,7 @@ pub(crate) enum Asked {
     Migrate(u32),
     Subtree(&'static str),
     Freeze,
-    Cpus,
+    Cpus(&'static str),
     Show(FileName),
     Online,
     MaxDescendants,
@@ -35,8 +35,7 @@ fn subtree(path: Path, text: &str) -> Result<Command, Refusal> {
 
 // A write of these CPUs.
 fn cpus(alloc: Global, path: Path, text: &str) -> Result<Command, Refusal> {
-    let cpus = SharedCpus::new(alloc, CpuSet::read(text)?)?;
-    Ok(Command::Cpus { path, cpus })
+    Ok(Command::of_cpus(alloc, path, CpuSet::read(text)?)?)
 }
 
 // That these CPUs are online.
@@ -54,7 +53,7 @@ fn command_at(alloc: Global, asked: Asked, path: Path) -> Result<Command, Refusa
         Asked::Migrate(number) => migrate(number, path),
         Asked::Subtree(text) => subtree(path, text),
         Asked::Freeze => Ok(Command::Freeze { path, value: true }),
-        Asked::Cpus => cpus(alloc, path, "0-1"),
+        Asked::Cpus(text) => cpus(alloc, path, text),
         Asked::Show(file) => Ok(Command::Show { path, file }),
         Asked::Online => online(alloc, "0-1"),
         Asked::MaxDescendants => Ok(Command::MaxDescendants { path, limit }),

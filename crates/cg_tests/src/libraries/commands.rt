@@ -34,7 +34,7 @@ fn answer(alloc: Global, tree: &Tree, asked: Asked, word: &str) -> Result<(), Re
     check_copy(alloc, tree, &command(alloc, asked, word)?)
 }
 
-static ACCEPTED: [(Asked, &str); 14] = [
+static ACCEPTED: [(Asked, &str); 15] = [
     (Asked::Create, "/q"),
     (Asked::Create, "/d/x"),
     (Asked::Remove, "/a/b/c"),
@@ -43,7 +43,8 @@ static ACCEPTED: [(Asked, &str); 14] = [
     (Asked::Subtree("+io -io"), "/a"),
     (Asked::Subtree("+cpuset"), "/a"),
     (Asked::Freeze, "/a"),
-    (Asked::Cpus, "/a"),
+    (Asked::Cpus("0-1"), "/a"),
+    (Asked::Cpus("63-64"), "/a"),
     (Asked::Show(FileName::Procs), "/"),
     (Asked::Online, "/"),
     (Asked::MaxDescendants, "/"),
@@ -110,9 +111,9 @@ static REFUSED: [(Asked, &str, Refusal); 36] = [
     ),
     (Asked::Freeze, "/q", Refusal::NoGroup),
     (Asked::Freeze, "/", Refusal::NoFile),
-    (Asked::Cpus, "/q", Refusal::NoGroup),
-    (Asked::Cpus, "/", Refusal::NoFile),
-    (Asked::Cpus, "/a/b", Refusal::NoFile),
+    (Asked::Cpus("0-1"), "/q", Refusal::NoGroup),
+    (Asked::Cpus("0-1"), "/", Refusal::NoFile),
+    (Asked::Cpus("0-1"), "/a/b", Refusal::NoFile),
     (Asked::Show(FileName::Events), "/q", Refusal::NoGroup),
     (Asked::Show(FileName::Events), "/", Refusal::NoFile),
     (Asked::Show(FileName::Cpus), "/a/b", Refusal::NoFile),
@@ -215,5 +216,5 @@ fn carry_accepted_out(alloc: Global, out: &mut Vec<u8>) -> Result<(), Refusal> {
 fn commands_are_carried_out_and_undone(rt: HostRuntime) {
     let mut out = Vec::new(rt.alloc());
     assert!(rt; carry_accepted_out(rt.alloc(), &mut out) == Ok(()));
-    assert!(rt; out.as_slice() == b".........10\n....".as_slice());
+    assert!(rt; out.as_slice() == b"..........10\n....".as_slice());
 }

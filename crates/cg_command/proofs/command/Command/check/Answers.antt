@@ -9,8 +9,11 @@ use Rattle.cg_command.proofs.command.Command.check.Goals as goal
 pub returns-in-Freeze-clause-refused : goal.returns-in-Freeze-clause-refused
 returns-in-Freeze-clause-refused c = subst (λ m. IfErr c.check_freeze.result (λ e. effect (command_of m) c.args.tree.now.tree ≡ Refuse e)) (sym c.in-Freeze.is) (c.check_freeze.ensures.refused c.in-Freeze.value)
 
-pub returns-in-Cpus-clause-refused : goal.returns-in-Cpus-clause-refused
-returns-in-Cpus-clause-refused c = subst (λ m. IfErr c.check_cpus.result (λ e. effect (command_of m) c.args.tree.now.tree ≡ Refuse e)) (sym c.in-Cpus.is) (c.check_cpus.ensures.refused c.in-Cpus.cpus)
+pub returns-in-LowCpus-clause-refused : goal.returns-in-LowCpus-clause-refused
+returns-in-LowCpus-clause-refused c = subst (λ m. IfErr c.check_cpus.result (λ e. effect (command_of m) c.args.tree.now.tree ≡ Refuse e)) (sym c.in-LowCpus.is) (c.check_cpus.ensures.refused c.in-LowCpus.cpus)
+
+pub returns-in-WideCpus-clause-refused : goal.returns-in-WideCpus-clause-refused
+returns-in-WideCpus-clause-refused c = subst (λ m. IfErr c.check_cpus-in-WideCpus.result (λ e. effect (command_of m) c.args.tree.now.tree ≡ Refuse e)) (sym c.in-WideCpus.is) (c.check_cpus-in-WideCpus.ensures.refused c.in-WideCpus.cpus)
 
 pub returns-in-MaxDescendants-clause-refused : goal.returns-in-MaxDescendants-clause-refused
 returns-in-MaxDescendants-clause-refused c = subst (λ m. IfErr c.check_limit.result (λ e. effect (command_of m) c.args.tree.now.tree ≡ Refuse e)) (sym c.in-MaxDescendants.is) (c.check_limit.ensures.descendants_refused c.in-MaxDescendants.limit)
