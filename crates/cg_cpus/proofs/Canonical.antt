@@ -1,35 +1,18 @@
 -- The canonical text of a set spells the set.
-use Rattle.std.proofs.Common.{◌≡◌, ℕ, zero, suc, ◌+◌, ◌-◌, ◌<◌, ◌≤◌, ◌⊎◌, inl, inr, Bool, true, false, ◌==◌, ◌&&◌, ◌||◌, cond, nat_le, List, [], ◌∷◌, ◌++◌, map, length, get_or, reverse, refl, sym, ap, subst, ◌∙◌, true≢false, arith}
+use Rattle.std.proofs.Common.{◌≡◌, ℕ, suc, ◌+◌, ◌<◌, ◌≤◌, ◌⊎◌, inl, inr, Bool, true, false, ◌==◌, ◌&&◌, ◌||◌, cond, nat_le, List, [], ◌∷◌, ◌++◌, map, length, get_or, refl, sym, ap, subst, ◌∙◌, true≢false, arith, zero}
 use Rattle.std.specs.Fmt.{decimal}
-use Rattle.std.specs.List.{All, Any, AllByRecursion, list_any, slice_split, join_with_byte}
-use Rattle.std.specs.Str.Parse.{AllDigits}
+use Rattle.std.specs.List.{Any, AllByRecursion, list_any, join_with_byte}
 use Rattle.std.proofs.lemmas.Bool.Decides.{nat_tests}
 use Rattle.std.proofs.lemmas.Fmt.{decimal_is_IsNumeral}
-use Rattle.std.proofs.lemmas.List.Splits.{slice_split_none, slice_split_at}
-use Rattle.std.proofs.lemmas.Str.Parse.{digit_from_value}
 use Rattle.cg_maps.specs.FiniteSet.{FiniteSet, has, members, no_members}
 use Rattle.cg_maps.proofs.Sets.{has-members, same_set, has-no_members}
-use Rattle.cg_cpus.specs.CpuList.{IsCpuNumber, SpellsRange, IsElement, StandsFor, SpellsElements, SpellsTrimmed, onto_runs, runs, run_text, cpus_text}
-use Rattle.cg_digits.specs.WhiteSpace.{is_white_space, starts_white, without_leading_white_space, without_trailing_white_space}
+use Rattle.cg_cpus.specs.CpuList.{IsCpuNumber, SpellsRange, IsElement, StandsFor, SpellsElements, SpellsTrimmed, onto_runs, runs, run_text}
 use Rattle.cg_cpus.specs.Laws.{CanonicalSpells}
+use Rattle.cg_cpus.proofs.Bytes.{IsElementByte, all_by_index, cut, element_bytes, element_nonempty, untrimmed}
 use Rattle.cg_cpus.proofs.Ranges.{one_range}
-use Rattle.cg_digits.proofs.Trimmed.{front_end, back_end, last_test}
 use Rattle.cg_cpus.proofs.Grammar.{spelled}
 
 -- ---- lists
-
-all_append : {X : Type 0} (P : X → Type 0) (xs ys : List X) → AllByRecursion P xs → AllByRecursion P ys → AllByRecursion P (xs ++ ys)
-all_append P [] ys h k = k
-all_append P (x ∷ xs) ys h k = (h.0, all_append P xs ys h.1 k)
-
-all_weaker : {X : Type 0} (P Q : X → Type 0) → ((x : X) → P x → Q x) → (xs : List X) → AllByRecursion P xs → AllByRecursion Q xs
-all_weaker P Q f [] h = tt
-all_weaker P Q f (x ∷ xs) h = (f x h.0, all_weaker P Q f xs h.1)
-
-all_by_index : {X : Type 0} (P : X → Type 0) (xs : List X) → AllByRecursion P xs → All P xs
-all_by_index P [] h k d l = absurd (omega arith)
-all_by_index P (x ∷ xs) h zero d l = h.0
-all_by_index P (x ∷ xs) h (suc k) d l = all_by_index P xs h.1 k d (omega arith)
 
 any_none : {X : Type 0} (P : X → Type 0) → Any P [] → ⊥
 any_none P h = omega (arith, h.2)
@@ -135,72 +118,9 @@ from_run n (r ∷ rs) h e = elim (lies_in n r) as (λ b. lies_in n r ≡ b → (
   | false ↦ λ t f. any_later (StandsFor n) (run_text r) (map run_text rs) (from_run n rs h.1 f)
 ] refl e
 
--- ---- the bytes
-
--- a digit or a dash; and, in a list, a comma
-IsRunByte : ℕ → Type 0
-IsRunByte b = (45 ≤ b) × (b ≤ 57)
-
-IsListByte : ℕ → Type 0
-IsListByte b = (44 ≤ b) × (b ≤ 57)
-
-digit_bytes : (ds : List ℕ) → AllDigits 10 ds → AllByRecursion IsRunByte ds
-unfolding IsRunByte
-digit_bytes [] h = tt
-digit_bytes (d ∷ ds) h = let r = digit_from_value d h.0 in ((omega (arith, r.0), r.1), digit_bytes ds h.1)
-
-run_bytes : (r : ℕ × ℕ) → IsRun r → AllByRecursion IsRunByte (run_text r)
-unfolding IsRun IsRunByte
-run_bytes r h =
-    let first = digit_bytes (decimal r.0) (decimal_is_IsNumeral r.0 (omega (arith, h.0, h.1))).0.1 in
-    let last = digit_bytes (decimal r.1) (decimal_is_IsNumeral r.1 (omega (arith, h.1))).0.1 in
-    elim (r.0 == r.1) as (λ b. AllByRecursion IsRunByte (cond b (decimal r.0) (decimal r.0 ++ 45 ∷ decimal r.1))) [
-      | true ↦ first
-      | false ↦ all_append IsRunByte (decimal r.0) (45 ∷ decimal r.1) first ((omega arith, omega arith), last)
-    ]
-
-all_run_bytes : (rs : List (ℕ × ℕ)) → AllByRecursion IsRun rs → AllByRecursion (AllByRecursion IsRunByte) (map run_text rs)
-all_run_bytes [] h = tt
-all_run_bytes (r ∷ rs) h = (run_bytes r h.0, all_run_bytes rs h.1)
-
-wider : (b : ℕ) → IsRunByte b → IsListByte b
-unfolding IsRunByte IsListByte
-wider b h = (omega (arith, h.0), h.1)
-
-list_bytes : (es : List (List ℕ)) → AllByRecursion (AllByRecursion IsRunByte) es → AllByRecursion IsListByte (join_with_byte 44 es)
-unfolding IsListByte
-list_bytes [] h = tt
-list_bytes (e ∷ []) h = all_weaker IsRunByte IsListByte wider e h.0
-list_bytes (e ∷ f ∷ es) h = all_append IsListByte e (44 ∷ join_with_byte 44 (f ∷ es)) (all_weaker IsRunByte IsListByte wider e h.0) ((omega arith, omega arith), list_bytes (f ∷ es) h.1)
-
-no_comma : (bs : List ℕ) → AllByRecursion IsRunByte bs → All (λ b. (b == 44) ≡ false) bs
-unfolding IsRunByte
-no_comma bs h = all_by_index (λ b. (b == 44) ≡ false) bs (all_weaker IsRunByte (λ b. (b == 44) ≡ false) (λ b k. apart b k.0) bs h)
-  where
-    apart : (b : ℕ) → 45 ≤ b → (b == 44) ≡ false
-    apart b l = grind (arith, nat_tests)
-
--- the elements of the row are cut as they were joined
-cut : (e : List ℕ) (es : List (List ℕ)) → AllByRecursion (AllByRecursion IsRunByte) (e ∷ es) → slice_split (λ c. c == 44) (join_with_byte 44 (e ∷ es)) ≡ e ∷ es
-cut e [] h = slice_split_none (λ c. c == 44) e (no_comma e h.0)
-cut e (f ∷ es) h = slice_split_at (λ c. c == 44) e 44 (join_with_byte 44 (f ∷ es)) (no_comma e h.0) refl ∙ ap (λ ps. e ∷ ps) (cut f es h.1)
-
--- ---- no blanks at the ends
-
-not_white : (b : ℕ) → IsListByte b → is_white_space b ≡ false
-unfolding IsListByte
-not_white b h = let l = h.0 in grind (arith, nat_tests)
-
-front : (bs : List ℕ) → AllByRecursion IsListByte bs → starts_white bs ≡ false
-front [] h = refl
-front (b ∷ bs) h = not_white b h.0
-
-back : (bs : List ℕ) → AllByRecursion IsListByte bs → starts_white (reverse bs) ≡ false
-back [] h = refl
-back (b ∷ bs) h = last_test (b ∷ bs) (omega arith) ∙ not_white _ (all_by_index IsListByte (b ∷ bs) h (length (b ∷ bs) - 1) 0 (omega arith))
-
-untrimmed : (bs : List ℕ) → AllByRecursion IsListByte bs → without_trailing_white_space (without_leading_white_space bs) ≡ bs
-untrimmed bs h = ap without_trailing_white_space (front_end bs (front bs h)) ∙ back_end bs (back bs h)
+all_element_bytes : (rs : List (ℕ × ℕ)) → AllByRecursion IsRun rs → AllByRecursion (AllByRecursion IsElementByte) (map run_text rs)
+all_element_bytes [] h = tt
+all_element_bytes (r ∷ rs) h = (element_bytes (run_text r) r.0 r.1 (spells_run r h.0), all_element_bytes rs h.1)
 
 -- ---- the law
 
@@ -216,24 +136,11 @@ nonempty_join e [] l = l
 nonempty_join [] (f ∷ es) l = absurd (omega arith)
 nonempty_join (b ∷ e) (f ∷ es) l = omega arith
 
-run_nonempty : (r : ℕ × ℕ) → IsRun r → 0 < length (run_text r)
-unfolding IsRun
-run_nonempty r h =
-    let some = (decimal_is_IsNumeral r.0 (omega (arith, h.0, h.1))).0.0 in
-    elim (r.0 == r.1) as (λ b. 0 < length (cond b (decimal r.0) (decimal r.0 ++ 45 ∷ decimal r.1))) [
-      | true ↦ some
-      | false ↦ longer (decimal r.0) (45 ∷ decimal r.1) some
-    ]
-  where
-    longer : (xs ys : List ℕ) → 0 < length xs → 0 < length (xs ++ ys)
-    longer [] ys l = absurd (omega arith)
-    longer (x ∷ xs) ys l = omega arith
-
 spells_runs : (rs : List (ℕ × ℕ)) (s : FiniteSet) → AllByRecursion IsRun rs → ((n : ℕ) → has s n ≡ list_any (lies_in n) rs) → SpellsTrimmed (join_with_byte 44 (map run_text rs)) s
 spells_runs [] s h is = same_set s no_members (λ n. is n ∙ sym (has-no_members n))
 spells_runs (r ∷ rs) s h is =
-    spelled (join_with_byte 44 (map run_text (r ∷ rs))) s (nonempty_join (run_text r) (map run_text rs) (run_nonempty r h.0))
-    (subst (λ es. SpellsElements es s) (sym (cut (run_text r) (map run_text rs) (all_run_bytes (r ∷ rs) h))) (
+    spelled (join_with_byte 44 (map run_text (r ∷ rs))) s (nonempty_join (run_text r) (map run_text rs) (element_nonempty (run_text r) r.0 r.1 (spells_run r h.0)))
+    (subst (λ es. SpellsElements es s) (sym (cut (run_text r) (map run_text rs) (all_element_bytes (r ∷ rs) h))) (
       all_by_index IsElement (map run_text (r ∷ rs)) (all_elements (r ∷ rs) h),
       λ n. ((λ t. from_run n (r ∷ rs) h (sym (is n) ∙ t)), (λ a. is n ∙ to_run n (r ∷ rs) h a)),
     ))
@@ -242,5 +149,5 @@ pub canonical_spells : CanonicalSpells
 canonical_spells s below =
     let small = members_below (members s) (λ n e. below n (has-members s n ∙ e)) in
     let valid = are_runs (members s) small in
-    subst (λ bs. SpellsTrimmed bs s) (sym (untrimmed (cpus_text s) (list_bytes (map run_text (runs (members s))) (all_run_bytes (runs (members s)) valid))))
+    subst (λ bs. SpellsTrimmed bs s) (sym (untrimmed (map run_text (runs (members s))) (all_element_bytes (runs (members s)) valid)))
     (spells_runs (runs (members s)) s valid (λ n. has-members s n ∙ sym (in_runs n (members s) small)))

@@ -1,4 +1,5 @@
 pub mod Bits
+pub mod FewDigits
 pub mod Filling
 pub mod Ranges
 pub mod Runs
@@ -6,6 +7,7 @@ pub mod Grammar
 pub mod Members
 pub mod Words
 pub mod Writing
+pub mod Bytes
 pub mod Canonical
 pub mod Equal
 pub mod Intersection

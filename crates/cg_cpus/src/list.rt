@@ -1,5 +1,5 @@
 //! Lists of CPU numbers, as `0-4,6,8-10`.
-ghost use Rattle.std.specs.Prelude.{◌≡◌, ◌++◌, ◌<◌, ◌≤◌, IsTrue, IfOk, IfErr, IfNone, IfSome, OnOk, OnErr, Some, ℕ, length, reverse, take};
+ghost use Rattle.std.specs.Prelude.{◌≡◌, ◌∷◌, ◌++◌, ◌+◌, ◌*◌, ◌<◌, ◌≤◌, ◌⊎◌, IsTrue, IfOk, IfErr, IfNone, IfSome, List, OnOk, OnErr, Some, ℕ, length, reverse, take};
 ghost use Rattle.std.specs.Result.{IsErrOf};
 ghost use Rattle.cg_maps.specs.FiniteSet.{FiniteSet, has};
 ghost use Rattle.cg_name.specs.declared.refusal.Refusal.TheVariants.{Syntax};
@@ -72,7 +72,60 @@ pub(crate) fn read(text: &str) -> Result<CpuSet, Refusal>
     ensures refusals { IfErr result (λ e. e ≡ Syntax) }
     ensures below { IfOk result (λ s. (n : ℕ) → IsTrue (has s n) → n < 1024) }
 {
+    if let Some((first, last)) = plain_range(text.as_bytes()) {
+        let mut set = CpuSet::empty();
+        set.insert_range(first, last);
+        return Ok(set);
+    }
     read_elements(trim(text))
+}
+
+// The first and the last number of a list that is one number or one range, of one to three digits each: most are, and these
+// are read without a search. `None` for any other text, of whatever it spells.
+fn plain_range(text: &[u8]) -> Option<(u16, u16)>
+    ensures { IfSome result (λ r. SpellsRange text.now r.0 r.1) }
+{
+    let (first, rest) = few_digits(text)?;
+    match rest {
+        [] => Some((first, first)),
+        [b'-', others @ ..] => match few_digits(others)? {
+            (last, []) if first <= last => Some((first, last)),
+            _ => None,
+        },
+        _ => None,
+    }
+}
+
+// The number of the digits with which the text begins, three of them at most, and what stands behind these; `None` where it
+// begins with none.
+fn few_digits(text: &[u8]) -> Option<(u16, &[u8])>
+    ensures { IfSome result (λ cut. (digits : List ℕ) × (text.now ≡ digits ++ cut.1.now) × IsCpuNumber digits cut.0) }
+{
+    let (number, rest) = first_digit(text)?;
+    let (number, rest) = with_digit(number, rest);
+    Some(with_digit(number, rest))
+}
+
+// The number with one digit more, and what stands behind that; both as they were where the text begins with none.
+fn with_digit(number: u16, text: &[u8]) -> (u16, &[u8])
+    requires { number < 100 }
+    ensures digit { ((text.now ≡ result.1.now) × (result.0 ≡ number)) ⊎ ((digit : ℕ) × (digit < 10) × (text.now ≡ (48 + digit) ∷ result.1.now) × (result.0 ≡ number * 10 + digit)) }
+    ensures small { result.0 ≤ number * 10 + 9 }
+{
+    match first_digit(text) {
+        Some((digit, rest)) => (number * 10 + digit, rest),
+        None => (number, text),
+    }
+}
+
+// The digit with which the text begins, as a number, and what stands behind it.
+fn first_digit(text: &[u8]) -> Option<(u16, &[u8])>
+    ensures { IfSome result (λ cut. (cut.0 < 10) × (text.now ≡ (48 + cut.0) ∷ cut.1.now)) }
+{
+    match text {
+        [byte @ b'0'..=b'9', rest @ ..] => Some((u16::from(*byte - b'0'), rest)),
+        _ => None,
+    }
 }
 
 // Appends a run, with a comma before it where it stands behind another; a refusal leaves what stood there at the front.
