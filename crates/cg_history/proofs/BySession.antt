@@ -35,7 +35,7 @@ module _ {V : Type 0} where
   or_else_none (Some v) r e = absurd (true≢false (ap is_some e))
 
   -- the parts of a list in which each session stands once
-  parts_once : (xs : List (ℕ × V)) (y : ℕ × V) → IsOnceEach (xs ++ y ∷ []) → IsOnceEach xs × (found y.0 xs ≡ None)
+  pub parts_once : (xs : List (ℕ × V)) (y : ℕ × V) → IsOnceEach (xs ++ y ∷ []) → IsOnceEach xs × (found y.0 xs ≡ None)
   parts_once [] y h = (tt, refl)
   parts_once (x ∷ xs) y h =
       let first : (found x.0 xs ≡ None) × (found x.0 (y ∷ []) ≡ None) = or_else_none (found x.0 xs) (found x.0 (y ∷ [])) (sym (found-append x.0 xs (y ∷ [])) ∙ h.0) in

@@ -1,4 +1,5 @@
 pub mod Alike
 pub mod BySession
 mod Newest
+pub mod Places
 pub mod Records

@@ -2,6 +2,7 @@
 #![tactic(auto)]
 
 mod history;
+mod recent_places;
 mod recent_texts;
 mod record;
 mod session;

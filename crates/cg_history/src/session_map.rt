@@ -1,9 +1,11 @@
 //! Values by sessions.
-ghost use Rattle.std.specs.Prelude.{◌≡◌, ◌∷◌, [], length, map, None, option_copied, option_map, slice_get, OnErr, OnOk};
+ghost use Rattle.std.specs.Prelude.{◌≡◌, ◌==◌, ◌∷◌, [], length, map, None, Some, option_copied, option_map, slice_get, true, IfNone, IfSome, OnErr, OnOk};
 ghost use Rattle.std.specs.Borrow.{sem};
 ghost use Rattle.std.specs.Option.{option_copied_mut};
+ghost use Rattle.indexmap.specs.IndexMap.{get_by, keys};
 ghost use Rattle.cg_history.specs.SessionMap.{found, oldest, without};
 
+use crate::recent_places::RecentPlaces;
 use crate::session::SessionId;
 use indexmap::IndexMap;
 use std::alloc::{AllocError, Global};
@@ -13,6 +15,8 @@ use std::marker::Model;
 #[derive(Drop)]
 pub struct SessionMap<V> {
     entries: IndexMap<SessionId, V>,
+    // Where sessions were found last: that tells nothing but where to look first.
+    recent: RecentPlaces,
 }
 
 impl<V> Model for SessionMap<V> {
@@ -38,6 +42,7 @@ impl<V: Drop> SessionMap<V> {
     {
         SessionMap {
             entries: IndexMap::new(alloc),
+            recent: RecentPlaces::new(),
         }
     }
 
@@ -76,7 +81,10 @@ impl<V: Drop> SessionMap<V> {
     pub fn get(&self, session: SessionId) -> Option<&V>
         ensures { option_copied result ≡ found session.0 self.now }
     {
-        self.entries.get(&session)
+        match self.entries.get_index(self.recent.get(session)) {
+            Some((there, value)) if *there == session => Some(value),
+            _ => self.entries.get(&session),
+        }
     }
 
     /// The value of the session, to be written, if it has one.
@@ -84,7 +92,13 @@ impl<V: Drop> SessionMap<V> {
         ensures* writes_back { sem 𝓛 (lends_value V.row self.entry session.0 result) }
         ensures value { option_copied_mut result ≡ found session.0 self.old }
     {
-        self.entries.get_mut(&session)
+        let recent = self.recent.get(session);
+        if is_at(&self.entries, session, recent) {
+            return self.entries.get_index_mut(recent);
+        }
+        let place = look_up(&self.entries, session)?;
+        self.recent.note(session, place);
+        self.entries.get_index_mut(place)
     }
 
     /// Gives a value to the session, which has none. An error, where there is no memory for it, leaves the map as it was.
@@ -104,4 +118,24 @@ impl<V: Drop> SessionMap<V> {
     {
         self.entries.shift_remove(&session)
     }
+}
+
+// Whether the session stands at this place among the entries.
+#[inline(always)]
+fn is_at<V: Drop>(entries: &IndexMap<SessionId, V>, session: SessionId, place: usize) -> bool
+    ensures { result ≡ true → slice_get (keys entries.now) place ≡ Some session }
+{
+    match entries.get_index(place) {
+        Some((there, _)) => *there == session,
+        None => false,
+    }
+}
+
+// The place of the session among the entries, if it stands there, found by its hash.
+#[inline(never)]
+fn look_up<V: Drop>(entries: &IndexMap<SessionId, V>, session: SessionId) -> Option<usize>
+    ensures place { IfSome result (λ place. slice_get (keys entries.now) place ≡ Some session) }
+    ensures none { IfNone result (get_by (λ s. session.0 == s.0) entries.now ≡ None) }
+{
+    entries.get_index_of(&session)
 }
