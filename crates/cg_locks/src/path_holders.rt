@@ -105,8 +105,8 @@ impl PathHolders {
     // Whether the root's node tells of no mark at a path.
     #[inline(always)]
     pub(crate) fn is_quiet(&self) -> bool {
-        match self.nodes.root() {
-            Some(root) => self.nodes.get(root).is_empty(),
+        match self.nodes.root_value() {
+            Some(root) => root.is_empty(),
             None => true,
         }
     }
@@ -154,12 +154,8 @@ impl PathHolders {
         if kind.at_or_below().is_none() {
             return false;
         }
-        self.nodes.laws();
-        match self.nodes.root() {
-            Some(root) => {
-                let held = self.nodes.get(root);
-                held.is_alone(transaction)
-            }
+        match self.nodes.root_value() {
+            Some(root) => root.is_alone(transaction),
             None => false,
         }
     }

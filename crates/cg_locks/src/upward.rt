@@ -231,10 +231,10 @@ fn drop_free(nodes: &mut PathTree<Held>, key: NodeKey, kept_above: usize)
 fn is_free(nodes: &PathTree<Held>) -> bool
     ensures { IsTrue result → (r : Part) (q : List (List ℕ)) (u : ℕ) → held_at (in_part r nodes.now.values) q u ≡ 0 }
 {
-    let Some(root) = nodes.root() else {
+    let Some(root) = nodes.root_value() else {
         return false;
     };
-    nodes.get(root).is_empty() && nodes.all(|held| held.is_empty())
+    root.is_empty() && nodes.all(|held| held.is_empty())
 }
 
 // Takes out what is of no use any more, where there are more nodes than stay beside room for the numbers of so many groups.

@@ -1,5 +1,5 @@
 //! Nodes found by their paths.
-ghost use Rattle.std.specs.Prelude.{◌≡◌, [], ◌↔◌, false, true, ◌<◌, ◌≤◌, ℕ, length, take, IsTrue, IfNone, IfSome, None, Some};
+ghost use Rattle.std.specs.Prelude.{◌≡◌, [], ◌↔◌, false, true, ◌<◌, ◌≤◌, ℕ, length, option_copied, take, IsTrue, IfNone, IfSome, None, Some};
 ghost use Rattle.cg_maps.specs.FiniteMap.{get};
 ghost use Rattle.cg_name.specs.Packed.{names_in, IsPacked};
 ghost use Rattle.cg_name.specs.Path.{is_root};
@@ -201,6 +201,30 @@ impl<V: Drop> PathTree<V> {
             }
         }
         self.find_text("")
+    }
+
+    /// The value of the root's node, if there is any node. Takes no memory.
+    #[inline(always)]
+    pub fn root_value(&self) -> Option<&V>
+        ensures { option_copied result ≡ get self.now.values [] }
+    {
+        if let Some(first) = self.order.first() {
+            let node = &self.nodes[first.number() as usize];
+            if node.depth == 0 {
+                return Some(&node.value);
+            }
+        }
+        self.root_value_anew()
+    }
+
+    // The same, by a look-up.
+    #[cold]
+    fn root_value_anew(&self) -> Option<&V>
+        ensures { option_copied result ≡ get self.now.values [] }
+    {
+        self.laws();
+        let key = self.find_text("")?;
+        Some(self.get(key))
     }
 
     /// The deepest node on the path, and how many names it has, if there is any. Looks at few prefixes, by halving, and

@@ -108,10 +108,9 @@ impl Groups {
         ensures { result ≡ false → HaveSettings self.now.groups }
     {
         self.nodes.laws();
-        let Some(key) = self.nodes.root() else {
+        let Some(root) = self.nodes.root_value() else {
             return true;
         };
-        let root = self.nodes.get(key);
         root.settings.is_none() || self.nodes.len() != root.below as usize + 1
     }
 

@@ -18,9 +18,8 @@ so_then false h = absurd (true≢false h)
 pub returns-else-is_none : goal.returns-else-is_none
 returns-else-is_none c alike =
     let nodes = c.self.inside.nodes in
-    let e = c.get-root.result.now in
-    let key : get nodes.keys [] ≡ Some c.in-Some.key = sym c.in-Some.ensures in
-    let at : get nodes.values [] ≡ Some e = c.get-root.ensures [] key in
+    let e = c.in-Some.root.now in
+    let at : get nodes.values [] ≡ Some e = sym c.in-Some.ensures in
     let below : e.below ≡ group_count (groups_in nodes.values) (is_above []) = (c.self.invariant.counted [] e at).groups.below in
     let many : len (groups_in nodes.values) ≡ len nodes.keys = len-seen settings_of nodes.values ∙ as_many nodes c.laws.ensures.both in
     let same : c.len.result ≡ e.below + 1 = eqb-true c.len.result (e.below + 1) (so_then _ alike) in
