@@ -1,19 +1,24 @@
 -- Sixteen bytes tested at once, each with the one before it.
-use Rattle.std.proofs.Common.{◌≡◌, ℕ, zero, suc, ◌+◌, ◌-◌, ◌<◌, ◌≤◌, ◌/◌, ◌%◌, ◌^◌, ◌==◌, ◌&&◌, ◌||◌, Bool, true, false, cond, leb, ltb, List, [], ◌∷◌, length, map, take, drop, replicate, get_or, bit_and, bit_or, inl, inr, refl, sym, ap, ◌∙◌, arith, length-take, length-drop, ltb-true, ltb-false}
+use Rattle.std.proofs.Common.{◌≡◌, ℕ, zero, suc, ◌+◌, ◌-◌, ◌*◌, ◌<◌, ◌≤◌, ◌/◌, ◌%◌, ◌^◌, ◌==◌, ◌&&◌, ◌||◌, Bool, true, false, not, cond, leb, ltb, List, [], ◌∷◌, length, map, take, drop, replicate, get_or, bit_and, bit_or, inl, inr, refl, sym, ap, ◌∙◌, arith, length-take, length-drop, ltb-true, ltb-false}
 use Rattle.std.specs.Simd.Lanes.{zip2, mask_l, top}
-use Rattle.std.proofs.lemmas.Bool.{cases_Bool}
+use Rattle.std.proofs.lemmas.Bool.{cases_Bool, not-false}
 use Rattle.std.proofs.lemmas.Bool.Decides.{nat_tests}
 use Rattle.std.proofs.lemmas.List.{drop-drop, get_or-drop, get_or-take, take_all}
-use Rattle.std.proofs.lemmas.Simd.{bit_mask_l, mask_l-mod}
-use Rattle.cg_name.specs.Simple.{may_follow, GoesOn}
+use Rattle.std.proofs.lemmas.Nat.{mod-pow-add, pow_pos, shl-shr}
+use Rattle.std.proofs.lemmas.Simd.{bit_mask_l, get_or-zip2, length-zip2, mask_l-mod}
+use Rattle.cg_name.specs.Simple.{may_follow, misplaced, GoesOn}
 use Rattle.cg_name.proofs.Lanes.{equal_lanes, either_lanes, or_lanes, and_lanes, top_lane}
 
 -- a byte that may not stand behind that one
 abbrev bad : ℕ → ℕ → Bool
 bad before b = ((ltb b 45 || (b == 46)) || ((b == 92) || leb 128 b)) || ((b == 47) && (before == 47))
 
-follows : (before b : ℕ) → bad before b ≡ false → may_follow before b ≡ true
-follows before b h = grind (arith, nat_tests)
+is_misplaced : (before b : ℕ) → bad before b ≡ not (may_follow before b)
+is_misplaced before b = grind (arith, nat_tests)
+
+unset : (b : Bool) → ◌≡◌ {A = ℕ} (cond b 1 0) 0 → b ≡ false
+unset true h = absurd (omega (arith, h))
+unset false h = refl
 
 -- ---- the lanes
 
@@ -29,52 +34,63 @@ bad_lanes n bs ps =
     let high = either_lanes (equal_lanes n bs 92) (zip2 (λ x y. cond (leb x y) 255 0) (replicate n 128) bs) in
     either_lanes (either_lanes low high) (zip2 bit_and (equal_lanes n bs 47) (equal_lanes n ps 47))
 
-abbrev bads : List ℕ → List ℕ → List Bool
-bads (b ∷ bs) (p ∷ ps) = bad p b ∷ bads bs ps
-bads bs ps = []
+lanes_are : (bs ps : List ℕ) (n : ℕ) → length bs ≡ n → length ps ≡ n → map (top 7) (bad_lanes n bs ps) ≡ misplaced bs ps
+lanes_are [] [] n e h = refl
+lanes_are [] (p ∷ ps) n e h = refl
+lanes_are (b ∷ bs) [] n e h = absurd (omega (arith, e, h))
+lanes_are (b ∷ bs) (p ∷ ps) zero e h = absurd (omega (arith, e))
+lanes_are (b ∷ bs) (p ∷ ps) (suc n) e h =
+    λ i. (lane (ltb b 45) (b == 46) (b == 92) (leb 128 b) (b == 47) (p == 47) ∙ is_misplaced p b) i ∷ lanes_are bs ps n (omega (arith, e)) (omega (arith, h)) i
 
-lanes_are_bad : (bs ps : List ℕ) (n : ℕ) → length bs ≡ n → length ps ≡ n → map (top 7) (bad_lanes n bs ps) ≡ bads bs ps
-lanes_are_bad [] [] n e h = refl
-lanes_are_bad [] (p ∷ ps) n e h = absurd (omega (arith, e, h))
-lanes_are_bad (b ∷ bs) [] n e h = absurd (omega (arith, e, h))
-lanes_are_bad (b ∷ bs) (p ∷ ps) zero e h = absurd (omega (arith, e))
-lanes_are_bad (b ∷ bs) (p ∷ ps) (suc n) e h =
-    λ i. lane (ltb b 45) (b == 46) (b == 92) (leb 128 b) (b == 47) (p == 47) i ∷ lanes_are_bad bs ps n (omega (arith, e)) (omega (arith, h)) i
+-- the bits of sixteen lanes
+pub misplaced_lanes : (bs ps : List ℕ) → length bs ≡ 16 → length ps ≡ 16 → mask_l (map (top 7) (bad_lanes 16 bs ps)) % 2 ^ 64 ≡ mask_l (misplaced bs ps)
+misplaced_lanes bs ps e h =
+    ap (λ ms. mask_l ms % 2 ^ 64) (lanes_are bs ps 16 e h)
+    ∙ mask_l-mod (misplaced bs ps) 64 (omega (arith, e, length-zip2 (λ b before. not (may_follow before b)) bs ps (e ∙ sym h)))
 
-bad_at : (bs ps : List ℕ) (k : ℕ) → k < length bs → length ps ≡ length bs → get_or (bads bs ps) k false ≡ bad (get_or ps k 0) (get_or bs k 0)
-bad_at [] ps k low e = absurd (omega (arith, low))
-bad_at (b ∷ bs) [] k low e = absurd (omega (arith, e))
-bad_at (b ∷ bs) (p ∷ ps) zero low e = refl
-bad_at (b ∷ bs) (p ∷ ps) (suc k) low e = bad_at bs ps k (omega (arith, low)) (omega (arith, e))
+none_of_product : (b p : ℕ) → 0 < p → b * p ≡ 0 → b ≡ 0
+none_of_product zero p some e = refl
+none_of_product (suc b) p some e = absurd (omega (arith, some, e))
 
-length-bads : (bs ps : List ℕ) → length ps ≡ length bs → length (bads bs ps) ≡ length bs
-length-bads [] ps e = refl
-length-bads (b ∷ bs) [] e = absurd (omega (arith, e))
-length-bads (b ∷ bs) (p ∷ ps) e = ap suc (length-bads bs ps (omega (arith, e)))
+none_of_sum : (a b : ℕ) → a + b ≡ 0 → (a ≡ 0) × (b ≡ 0)
+none_of_sum a b e = (omega (arith, e), omega (arith, e))
 
-unset : (b : Bool) → ◌≡◌ {A = ℕ} (cond b 1 0) 0 → b ≡ false
-unset true h = absurd (omega (arith, h))
-unset false h = refl
+-- where the lowest bits are none, each of them is
+low_bit : (m n k : ℕ) → k < n → m % 2 ^ n ≡ 0 → m / 2 ^ k % 2 ≡ 0
+low_bit m n k low none =
+    let j : ℕ = n - suc k in
+    let cut : j + suc k ≡ n = omega (arith, low) in
+    let next : 1 + k ≡ suc k = omega arith in
+    let whole : m % 2 ^ (j + suc k) ≡ 0 = ap (λ i. m % 2 ^ i) cut ∙ none in
+    let lower = none_of_sum ((m / 2 ^ suc k % 2 ^ j) * 2 ^ suc k) (m % 2 ^ suc k) (sym (mod-pow-add m j (suc k)) ∙ whole) in
+    let one = none_of_sum ((m / 2 ^ k % 2 ^ 1) * 2 ^ k) (m % 2 ^ k) (sym (mod-pow-add m 1 k) ∙ ap (λ i. m % 2 ^ i) next ∙ lower.1) in
+    none_of_product (m / 2 ^ k % 2) (2 ^ k) (pow_pos k) one.0
 
--- where no lane is set, each byte may stand behind the one before it
-none_bad : (bs ps : List ℕ) → length bs ≡ 16 → length ps ≡ 16 → mask_l (map (top 7) (bad_lanes 16 bs ps)) % 2 ^ 64 ≡ 0 → (k : ℕ) → k < 16 → may_follow (get_or ps k 0) (get_or bs k 0) ≡ true
-none_bad bs ps e h zero_mask k low =
-    let same : length ps ≡ length bs = h ∙ sym e in
-    let mask : mask_l (bads bs ps) ≡ 0 =
-    sym (mask_l-mod (bads bs ps) 64 (omega (arith, e, length-bads bs ps same))) ∙ ap (λ ms. mask_l ms % 2 ^ 64) (sym (lanes_are_bad bs ps 16 e h)) ∙ zero_mask in
-    let bit : ◌≡◌ {A = ℕ} (cond (get_or (bads bs ps) k false) 1 0) 0 = sym (bit_mask_l (bads bs ps) k) ∙ ap (λ m. m / 2 ^ k % 2) mask ∙ omega arith in
-    follows (get_or ps k 0) (get_or bs k 0) (sym (bad_at bs ps k (omega (arith, low, e)) same) ∙ unset (get_or (bads bs ps) k false) bit)
+-- where nothing is left of a number that was shifted up, its lowest bits are none
+pub none_shifted : (m n k : ℕ) → m * 2 ^ k % 2 ^ (n + k) ≡ 0 → m % 2 ^ n ≡ 0
+none_shifted m n k none =
+    let high = none_of_sum ((m * 2 ^ k / 2 ^ k % 2 ^ n) * 2 ^ k) (m * 2 ^ k % 2 ^ k) (sym (mod-pow-add (m * 2 ^ k) n k) ∙ none) in
+    ap (λ i. i % 2 ^ n) (sym (shl-shr m k)) ∙ none_of_product (m * 2 ^ k / 2 ^ k % 2 ^ n) (2 ^ k) (pow_pos k) high.0
+
+-- where none of so many bits is set, each of these bytes may stand behind the one before it
+pub none_misplaced : (bs ps : List ℕ) (n k : ℕ) → k < n → n ≤ length bs → length ps ≡ length bs → mask_l (misplaced bs ps) % 2 ^ n ≡ 0 → may_follow (get_or ps k 0) (get_or bs k 0) ≡ true
+none_misplaced bs ps n k low within same none =
+    let bit : ◌≡◌ {A = ℕ} (cond (get_or (misplaced bs ps) k false) 1 0) 0 = sym (bit_mask_l (misplaced bs ps) k) ∙ low_bit (mask_l (misplaced bs ps)) n k low none in
+    let here : get_or (misplaced bs ps) k false ≡ not (may_follow (get_or ps k 0) (get_or bs k 0)) = get_or-zip2 (λ b before. not (may_follow before b)) bs ps k 0 0 false (omega (arith, low, within)) (omega (arith, low, within, same)) in
+    not-false (may_follow (get_or ps k 0) (get_or bs k 0)) (sym here ∙ unset (get_or (misplaced bs ps) k false) bit)
 
 -- the same of seventeen bytes
-pub front_follows : (front : List ℕ) → length front ≡ 17 → mask_l (map (top 7) (bad_lanes 16 (take 16 (take 16 (drop 1 front))) (take 16 (take 16 front)))) % 2 ^ 64 ≡ 0 → GoesOn front
+pub front_follows : (front : List ℕ) → length front ≡ 17 → mask_l (misplaced (take 16 (take 16 (drop 1 front))) (take 16 (take 16 front))) ≡ 0 → GoesOn front
 front_follows front e none k low =
     let bs = take 16 (take 16 (drop 1 front)) in
     let ps = take 16 (take 16 front) in
     let few : k < 16 = omega (arith, low, e) in
     let here : get_or bs k 0 ≡ get_or front (suc k) 0 = get_or-take 16 (take 16 (drop 1 front)) k 0 few ∙ get_or-take 16 (drop 1 front) k 0 few ∙ get_or-drop 1 front k 0 ∙ ap (λ i. get_or front i 0) (omega arith) in
     let before : get_or ps k 0 ≡ get_or front k 0 = get_or-take 16 (take 16 front) k 0 few ∙ get_or-take 16 front k 0 few in
+    let many : length bs ≡ 16 = omega (arith, e, length-take 16 (take 16 (drop 1 front)), length-take 16 (drop 1 front), length-drop 1 front) in
+    let many_before : length ps ≡ 16 = omega (arith, e, length-take 16 (take 16 front), length-take 16 front) in
     (λ i. may_follow (sym before i) (sym here i))
-    ∙ none_bad bs ps (omega (arith, e, length-take 16 (take 16 (drop 1 front)), length-take 16 (drop 1 front), length-drop 1 front)) (omega (arith, e, length-take 16 (take 16 front), length-take 16 front)) none k few
+    ∙ none_misplaced bs ps 16 k few (omega (arith, many)) (many_before ∙ sym many) (ap (λ m. m % 2 ^ 16) none)
 
 -- ---- one step over a text
 

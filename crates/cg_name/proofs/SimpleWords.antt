@@ -1,14 +1,12 @@
 -- Words of slashes and simple bytes, and the paths that they spell.
-use Rattle.std.proofs.Common.{◌≡◌, ◌≢◌, ◌⊎◌, ℕ, suc, ◌+◌, ◌-◌, ◌*◌, ◌<◌, ◌≤◌, ◌==◌, ◌&&◌, ◌||◌, Bool, true, false, not, cond, List, [], ◌∷◌, ◌++◌, length, map, take, drop, get_or, replicate, inl, inr, refl, sym, ap, subst, ◌∙◌, arith, length-append, length-take}
+use Rattle.std.proofs.Common.{◌≡◌, ℕ, suc, ◌+◌, ◌-◌, ◌*◌, ◌<◌, ◌≤◌, ◌==◌, ◌&&◌, ◌||◌, Bool, true, false, not, cond, List, [], ◌∷◌, length, map, get_or, inl, inr, refl, sym, ap, subst, ◌∙◌, arith}
 use Rattle.std.proofs.lemmas.List.Sums.{count_by-le-length, sum_by-cons}
 use Rattle.std.proofs.lemmas.List.Splits.{length-slice_split}
 use Rattle.std.specs.List.{count_by, AllByRecursion, Contains, list_all, list_any, onto_first}
 use Rattle.std.specs.Str.{IsAscii}
-use Rattle.std.proofs.lemmas.Bool.{ne_eqb, and_parts, and_from, cases_Bool, cond-true, cond-false, not-true, eqb-true, false≢true}
+use Rattle.std.proofs.lemmas.Bool.{and_parts, and_from, cases_Bool, cond-true, cond-false, not-true, eqb-true, false≢true}
 use Rattle.std.proofs.lemmas.Bool.Decides.{nat_tests}
-use Rattle.std.proofs.Math.ListN.{set, length-map}
-use Rattle.std.proofs.Math.Seq.{take-append_seam}
-use Rattle.std.proofs.lemmas.List.{drop_more, nil_from_length, length-replicate, get_or-set_same, drop_all, map-append, take_all, take_more}
+use Rattle.std.proofs.lemmas.List.{nil_from_length}
 use Rattle.std.proofs.lemmas.List.Recursion.{and_at}
 use Rattle.std.proofs.lemmas.Str.{IsUtf8-from_ascii}
 use Rattle.std.proofs.lemmas.Str.Ascii.{IsAscii-nil, IsAscii-cons}
@@ -18,7 +16,6 @@ use Rattle.cg_name.specs.Path.{Path, IsPath, SpellsPath}
 use Rattle.cg_name.specs.Simple.{is_simple_byte, is_slash, simple_text, may_follow, GoesOn}
 use Rattle.cg_name.specs.Pieces.{pieces, marked}
 use Rattle.cg_name.specs.Word.{is_bare_byte, IsBare}
-use Rattle.cg_name.proofs.Filling.{filled_more}
 use Rattle.cg_name.proofs.Pieces.{path_text-pieces}
 use Rattle.cg_name.proofs.Slashes.{kept_packed}
 
@@ -35,9 +32,6 @@ is_low b h = grind (arith, nat_tests)
 
 no_slash : (b : ℕ) → is_simple_byte b ≡ true → (b == 47) ≡ false
 no_slash b h = grind (arith, nat_tests)
-
-no_zero : (b : ℕ) → is_simple_byte b ≡ true → (b == 0) ≡ false
-no_zero b h = grind (arith, nat_tests)
 
 no_dot : (b : ℕ) → is_simple_byte b ≡ true → (b == 46) ≡ false
 no_dot b h = grind (arith, nat_tests)
@@ -136,51 +130,10 @@ bare_bytes w (b ∷ bs) h = elim (cases_Bool (is_simple_byte b)) [
       and_from (is_bare_byte b) (list_all is_bare_byte bs) (ap is_bare_byte slash) (bare_bytes true bs front.1)
 ]
 
--- ---- the loop over a short word
-
--- what is kept for a byte behind another
-abbrev KeptFor : ℕ → ℕ → ℕ → Type 0
-KeptFor b before kept = ((is_simple_byte b ≡ true) × (kept ≡ b)) ⊎ ((b ≡ 47) × (before ≢ 0) × (kept ≡ 0))
-
-is_marked : (b before kept : ℕ) → KeptFor b before kept → kept ≡ marked b
-is_marked b before kept (inl h) = h.1 ∙ sym (cond-false _ _ _ (no_slash b h.0))
-is_marked b before kept (inr h) = h.2 ∙ sym (ap marked h.0)
-
--- the array has the first bytes, and zeros behind them
-abbrev Holds : List ℕ → ℕ → List ℕ → Type 0
-Holds text i bytes = bytes ≡ (0 ∷ map marked (take i text)) ++ replicate (12 - (i + 1)) 0
-
-kept_length : (text : List ℕ) (i : ℕ) → i < length text → length (0 ∷ map marked (take i text)) ≡ i + 1
-kept_length text i low = omega (arith, low, length-map (take i text) marked, length-take i text)
-
--- one byte more is kept
-pub one_kept : (text bytes : List ℕ) (i before kept : ℕ) → i < length text → length text < 12 → KeptFor (get_or text i 0) before kept → Holds text i bytes → Holds text (i + 1) (set bytes (i + 1) kept)
-one_kept text bytes i before kept low few k h =
-    let b : ℕ = get_or text i 0 in
-    let more : map marked (take (i + 1) text) ≡ map marked (take i text) ++ marked b ∷ [] = ap (map marked) (take_more text i 0 low) ∙ map-append marked (take i text) (b ∷ []) in
-    let same : (0 ∷ map marked (take i text)) ++ kept ∷ [] ≡ 0 ∷ map marked (take (i + 1) text) = (λ j. 0 ∷ (map marked (take i text) ++ is_marked b before kept k j ∷ [])) ∙ ap (λ z. 0 ∷ z) (sym more) in
-    filled_more (0 ∷ map marked (take i text)) bytes 12 (i + 1) kept (kept_length text i low) (omega (arith, low, few)) h ∙ ap (λ z. z ++ replicate (12 - (i + 1 + 1)) 0) same
-
-pub read_on : (b before kept : ℕ) (bs : List ℕ) → KeptFor b before kept → simple_text (before == 0) (b ∷ bs) ≡ simple_text (kept == 0) bs
-read_on b before kept bs (inl h) = cond-true _ _ _ h.0 ∙ ap (λ z. simple_text z bs) (sym (ap (λ k. k == 0) h.1 ∙ no_zero b h.0))
-read_on b before kept bs (inr h) = rw (h.0, h.2, ne_eqb before 0 h.1) refl
-
--- and what is left decides
-pub one_read : (text bytes : List ℕ) (i before kept : ℕ) (all : Bool) → i < length text → length text < 12 → before ≡ get_or bytes i 0 → KeptFor (get_or text i 0) before kept → Holds text i bytes → simple_text (get_or bytes i 0 == 0) (drop i text) ≡ all
-    → simple_text (get_or (set bytes (i + 1) kept) (i + 1) 0 == 0) (drop (i + 1) text) ≡ all
-one_read text bytes i before kept all low few eb k h e =
-    let zeros : List ℕ = replicate (12 - (i + 1)) 0 in
-    let room : i + 1 < length bytes = omega (arith, low, few, ap length h, length-append (0 ∷ map marked (take i text)) zeros, kept_length text i low, length-replicate {A = ℕ} (12 - (i + 1)) 0) in
-    let here : get_or (set bytes (i + 1) kept) (i + 1) 0 ≡ kept = get_or-set_same bytes (i + 1) kept 0 room in
-    ap (λ z. simple_text (z == 0) (drop (i + 1) text)) here
-    ∙ sym (read_on (get_or text i 0) before kept (drop (i + 1) text) k)
-    ∙ (λ j. simple_text (eb j == 0) (sym (drop_more text i 0 low) j))
-    ∙ e
-
--- ---- a longer word
+-- ---- a word that goes on
 
 -- behind a byte of a text that goes on, and ends with no slash, what is left is simple
-rest_simple : (b : ℕ) (bs : List ℕ) → GoesOn (b ∷ bs) → is_slash (get_or (b ∷ bs) (length bs) 0) ≡ false → simple_text (is_slash b) bs ≡ true
+pub rest_simple : (b : ℕ) (bs : List ℕ) → GoesOn (b ∷ bs) → is_slash (get_or (b ∷ bs) (length bs) 0) ≡ false → simple_text (is_slash b) bs ≡ true
 rest_simple b [] on last = ap not last
 rest_simple b (c ∷ cs) on last =
     let more : simple_text (is_slash c) cs ≡ true = rest_simple c cs (λ k low. on (suc k) (omega (arith, low))) last in
@@ -224,10 +177,6 @@ few_in_short text low h = omega (arith, low, slashes_apart true text h)
 
 -- ---- the path
 
--- at the end what was read is simple
-simple_so : (text : List ℕ) (i : ℕ) (w : Bool) → length text ≤ i → w ≡ false → simple_text w (drop i text) ≡ simple_text true text → simple_text true text ≡ true
-simple_so text i w past none tested = sym tested ∙ (λ j. simple_text (none j) (drop_all i text past j))
-
 pub simple_names : (text : List ℕ) → length text ≤ 255 → 0 < length text → is_simple_byte (get_or text 0 0) ≡ true → GoesOn text → is_slash (get_or text (length text - 1) 0) ≡ false → (simple_text true text ≡ true → count_by is_slash text < 64)
     → IsPath (pieces text) × (list_all is_bare_byte text ≡ true)
 simple_names text low some first on last few =
@@ -241,18 +190,13 @@ spells_itself text bare path = (path, inl (record { nonempty = omega arith; byte
 pub names_spelled : (word text : List ℕ) (p : Path) → word ≡ 47 ∷ text → IsPath (pieces text) × (list_all is_bare_byte text ≡ true) → p ≡ pieces text → SpellsPath word p
 names_spelled word text p ew h e = subst (λ v. SpellsPath v p) (sym ew) (subst (SpellsPath (47 ∷ text)) (sym e) (spells_itself text h.1 h.0))
 
-pub simple_spelled : (word text bytes : List ℕ) (i : ℕ) (w : Bool) → word ≡ 47 ∷ text → length text < 12 → i ≡ length text → w ≡ false → simple_text w (drop i text) ≡ simple_text true text → Holds text i bytes
-    → IsPacked (take (length text + 1) bytes) × SpellsPath word (names_in (take (length text + 1) bytes))
-simple_spelled word text bytes i w ew few ei none tested kept =
-    let simple = simple_so text i w (omega (arith, ei)) none tested in
+-- a short word that is simple is kept as the path that it spells
+pub short_spelled : (word text bytes : List ℕ) → word ≡ 47 ∷ text → length text < 12 → simple_text true text ≡ true → bytes ≡ 0 ∷ map marked text → IsPacked bytes × SpellsPath word (names_in bytes)
+short_spelled word text bytes ew few simple is =
     let path : IsPath (pieces text) = simple_path text (omega (arith, few)) (omega (arith, few, count_by-le-length is_slash text)) simple in
-    let whole : take i text ≡ text = take_all i text (omega (arith, ei)) in
-    let long : length text + 1 ≡ length (0 ∷ map marked text) = omega (arith, length-map text marked) in
-    let is : take (length text + 1) bytes ≡ 0 ∷ map marked text =
-    (λ j. take (long j) ((kept ∙ ap (λ z. (0 ∷ map marked z) ++ replicate (12 - (i + 1)) 0) whole) j)) ∙ take-append_seam (0 ∷ map marked text) (replicate (12 - (i + 1)) 0) in
     let packed = kept_packed text path in
-    let names : names_in (take (length text + 1) bytes) ≡ pieces text = ap names_in is ∙ packed.1 in
-    (subst IsPacked (sym is) packed.0, names_spelled word text (names_in (take (length text + 1) bytes)) ew (path, bare_bytes true text simple) names)
+    let names : names_in bytes ≡ pieces text = ap names_in is ∙ packed.1 in
+    (subst IsPacked (sym is) packed.0, names_spelled word text (names_in bytes) ew (path, bare_bytes true text simple) names)
 
 -- the root is a slash alone
 pub root_spelled : (word text : List ℕ) → word ≡ 47 ∷ text → length text ≡ 0 → IsPacked [] × SpellsPath word (names_in [])

@@ -1,5 +1,6 @@
 -- The bytes of words of paths that are read in one pass.
 use Rattle.std.specs.Prelude.{◌≡◌, ℕ, suc, ◌<◌, ◌==◌, ◌&&◌, ◌||◌, Bool, true, false, not, nat_le, cond, List, [], ◌∷◌, length, get_or}
+use Rattle.std.specs.Simd.Lanes.{zip2}
 
 -- a byte of ASCII that may stand in a bare word and in a name, and is no dot: so bytes like it are UTF-8, and no reserved
 -- name, since each of those has a dot
@@ -17,6 +18,10 @@ simple_text w (b ∷ bs) = cond (is_simple_byte b) (simple_text false bs) ((b ==
 -- a byte that may stand behind another in such a text
 abbrev pub may_follow : ℕ → ℕ → Bool
 may_follow before b = is_simple_byte b || (is_slash b && not (is_slash before))
+
+-- which of some bytes may not, each behind one of the others
+abbrev pub misplaced : List ℕ → List ℕ → List Bool
+misplaced bs ps = zip2 (λ b before. not (may_follow before b)) bs ps
 
 -- each byte behind the first may
 abbrev pub GoesOn : List ℕ → Type 0

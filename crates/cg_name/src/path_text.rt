@@ -1,11 +1,11 @@
 // The text of a path, in 16 bytes.
-ghost use Rattle.std.specs.Prelude.{◌≡◌, ◌≤◌, ◌+◌, ◌∷◌, ◌++◌, [], IfOk, IfSome, IsTrue, map, slice_range};
+ghost use Rattle.std.specs.Prelude.{◌≡◌, ◌≤◌, ◌+◌, ◌∷◌, ◌++◌, [], IfOk, IfSome, IsTrue, length, map, slice_range, take};
 ghost use Rattle.std.specs.Int.{w32, w64, from_le_bytes};
 ghost use Rattle.cg_name.specs.Packed.{names_in, IsPacked};
 ghost use Rattle.cg_name.specs.Path.{SpellsPath};
 ghost use Rattle.cg_name.specs.Pieces.{marked};
 
-use crate::simple::kept_byte;
+use crate::simple::{LANES, marked_few, marked_word};
 use crate::slashed::mark_names;
 use smallvec::SmallVec;
 use std::alloc::{AllocError, Global};
@@ -18,6 +18,9 @@ const SHORT: usize = 12;
 
 // And of one that lies in the allocation that its copies share. A longer one lies behind that.
 const SHARED: usize = 40;
+
+// The fewest bytes of a word that are looked at at once.
+const FEWEST: usize = 4;
 
 // The text of a path. A copy of it takes no memory.
 #[derive(Drop)]
@@ -90,7 +93,7 @@ impl PathText {
         })
     }
 
-    // The text of the path that a short word spells, read in one pass. `None` for every word that is longer or has other
+    // The text of the path that a short word spells, its bytes all at once. `None` for every word that is longer or has other
     // bytes than slashes and simple ones, and of such a word nothing is told.
     #[inline]
     pub(crate) fn read_simple(word: &[u8]) -> Option<PathText>
@@ -103,17 +106,25 @@ impl PathText {
         if rest.is_empty() {
             return Some(PathText::empty());
         }
-        // The zero byte that stands for the first slash is there already.
-        let mut short = [0u8; SHORT];
-        for i in 0..rest.len() {
-            short[i + 1] = kept_byte(rest[i], short[i])?;
+        if word.len() < FEWEST {
+            return Some(PathText::short(word.len(), &marked_few(rest)?));
         }
-        if short[rest.len()] == 0 {
-            return None;
+        Some(PathText::short(word.len(), &marked_word(word)?))
+    }
+
+    // The first bytes of these, as many as told.
+    #[inline(always)]
+    fn short(len: usize, bytes: &[u8; LANES]) -> PathText
+        requires few { len ≤ 12 }
+        requires whole { length bytes.now ≡ 16 }
+        ensures { result ≡ take len bytes.now }
+    {
+        match bytes.first_chunk::<SHORT>() {
+            Some(short) => PathText {
+                kept: Kept::Short(len as u16, *short),
+            },
+            None => unreachable!(),
         }
-        Some(PathText {
-            kept: Kept::Short(rest.len() as u16 + 1, short),
-        })
     }
 
     // This text, a zero byte and the name; an error where there is no memory for it.

@@ -1,9 +1,11 @@
 // Words of paths that are read in one pass: slashes and, behind each, letters, digits and other simple bytes.
-ghost use Rattle.std.specs.Prelude.{◌≡◌, ◌≢◌, ◌⊎◌, ◌<◌, ◌≤◌, cond, length, IfSome, IsTrue, true};
+ghost use Rattle.std.specs.Prelude.{◌≡◌, ◌<◌, ◌≤◌, ◌+◌, ◌-◌, ◌∷◌, ◌++◌, cond, drop, false, length, map, replicate, take, IfSome, IsTrue, true};
+ghost use Rattle.std.specs.Int.{w32, from_le_bytes};
 ghost use Rattle.std.specs.List.{count_by, list_all};
+ghost use Rattle.std.specs.Simd.Lanes.{mask_l};
 ghost use Rattle.cg_name.specs.Path.{IsPath};
-ghost use Rattle.cg_name.specs.Simple.{is_simple_byte, is_slash, simple_text, GoesOn};
-ghost use Rattle.cg_name.specs.Pieces.{pieces};
+ghost use Rattle.cg_name.specs.Simple.{is_simple_byte, is_slash, misplaced, simple_text, GoesOn};
+ghost use Rattle.cg_name.specs.Pieces.{marked, pieces};
 ghost use Rattle.cg_name.specs.Word.{is_bare_byte};
 
 use crate::slashed::MAX_DEPTH;
@@ -13,28 +15,9 @@ use std::simd::prelude::*;
 const LONGEST: usize = 255;
 
 // How many bytes are looked at at once, and with the one before them.
-const LANES: usize = 16;
+pub(crate) const LANES: usize = 16;
 
 const FRONT: usize = 17;
-
-// What is kept for this byte of a word, where `before` is kept for the byte before it: the byte itself where it is simple,
-// a zero byte for a slash that ends a name, and nothing for each other one.
-pub(crate) fn kept_byte(byte: u8, before: u8) -> Option<u8>
-    ensures { IfSome result (λ kept. ((is_simple_byte byte ≡ true) × (kept ≡ byte)) ⊎ ((byte ≡ 47) × (before ≢ 0) × (kept ≡ 0))) }
-{
-    // Most bytes are letters and digits, which come first.
-    if byte > b'/' && byte < 128 {
-        if byte == b'\\' {
-            return None;
-        }
-        return Some(byte);
-    }
-    match byte {
-        b'-' => Some(byte),
-        b'/' if before != 0 => Some(0),
-        _ => None,
-    }
-}
 
 // Whether what stands behind the first slash of a word is simple: then it is bare, and between its slashes are the names
 // of a path. Of what is not simple nothing is told.
@@ -93,11 +76,112 @@ fn front_goes_on(front: &[u8; FRONT]) -> bool
 {
     let bytes = u8x16::from_slice(&front[1..]);
     let before = u8x16::from_slice(&front[..LANES]);
+    misplaced_in(bytes, before) == 0
+}
+
+// The bytes that are neither simple nor a slash, and the slashes that stand behind one, each as a bit.
+#[inline(always)]
+fn misplaced_in(bytes: u8x16, before: u8x16) -> u64
+    requires whole { length bytes ≡ 16 }
+    requires behind { length before ≡ 16 }
+    ensures { result ≡ mask_l (misplaced bytes before) }
+{
     let slash = u8x16::splat(b'/');
     let low = bytes.simd_lt(u8x16::splat(b'-')) | bytes.simd_eq(u8x16::splat(b'.'));
     let high = bytes.simd_eq(u8x16::splat(b'\\')) | bytes.simd_ge(u8x16::splat(128));
     let twice = bytes.simd_eq(slash) & before.simd_eq(slash);
-    (low | high | twice).to_bitmask() == 0
+    (low | high | twice).to_bitmask()
+}
+
+// A word of few bytes with a zero byte for each slash, and zero bytes behind it. `None` for each word that has other bytes
+// than slashes and simple ones, two slashes in a row or one at its end.
+#[inline(always)]
+pub(crate) fn marked_word(word: &[u8]) -> Option<[u8; LANES]>
+    requires some { 4 ≤ length word.now }
+    requires few { length word.now ≤ 12 }
+    ensures { IfSome result (λ bytes. (simple_text false word.now ≡ true) × (bytes ≡ map marked word.now ++ replicate (16 - length word.now) 0)) }
+{
+    let bytes = padded(word);
+    let zeros = u8x16::splat(0);
+    let before = zeros.shuffle(
+        bytes,
+        [
+            15, 16, 17, 18, 19, 20, 21, 22, 23, 24, 25, 26, 27, 28, 29, 30,
+        ],
+    );
+    // The bits of the zero bytes behind the word are shifted out.
+    if misplaced_in(bytes, before) << (64 - word.len()) != 0 || word[word.len() - 1] == b'/' {
+        return None;
+    }
+    let slashes = bytes.simd_eq(u8x16::splat(b'/'));
+    Some(slashes.select(zeros, bytes).to_array())
+}
+
+// The same of a slash and one byte or two behind it, of which none is a slash.
+#[inline(always)]
+pub(crate) fn marked_few(rest: &[u8]) -> Option<[u8; LANES]>
+    requires some { 0 < length rest.now }
+    requires few { length rest.now < 3 }
+    ensures { IfSome result (λ bytes. (simple_text true rest.now ≡ true) × (bytes ≡ 0 ∷ map marked rest.now ++ replicate (15 - length rest.now) 0)) }
+{
+    let first = rest[0];
+    if !begins_name(first) {
+        return None;
+    }
+    match rest.get(1) {
+        None => Some(one_or_two(first, 0)),
+        Some(second) if begins_name(*second) => Some(one_or_two(first, *second)),
+        _ => None,
+    }
+}
+
+// A zero byte, these two, and zero bytes behind them.
+#[inline(always)]
+fn one_or_two(first: u8, second: u8) -> [u8; LANES]
+    ensures { result ≡ 0 ∷ first ∷ second ∷ replicate 13 0 }
+{
+    u8x16::from_array([0, first, second, 0, 0, 0, 0, 0, 0, 0, 0, 0, 0, 0, 0, 0]).to_array()
+}
+
+// A word of few bytes, and zero bytes behind it, put together of numbers of four bytes.
+#[inline(always)]
+fn padded(word: &[u8]) -> u8x16
+    requires some { 4 ≤ length word.now }
+    requires few { length word.now ≤ 12 }
+    ensures { result ≡ word.now ++ replicate (16 - length word.now) 0 }
+{
+    let first = four_at(word, 0);
+    if word.len() < 8 {
+        return u32x4::from_array([first, last_from(word, 4), 0, 0]).to_le_bytes();
+    }
+    u32x4::from_array([first, four_at(word, 4), last_from(word, 8), 0]).to_le_bytes()
+}
+
+// The number that the four bytes from a place on spell, the least first.
+#[inline(always)]
+fn four_at(word: &[u8], from: usize) -> u32
+    requires within { from + 4 ≤ length word.now }
+    ensures { result ≡ from_le_bytes w32 (take 4 (drop from word.now)) }
+{
+    match word[from..].first_chunk::<4>() {
+        Some(bytes) => u32::from_le_bytes(*bytes),
+        None => unreachable!(),
+    }
+}
+
+// The same of all bytes from a place on, of which there are at most four: the last four, with those before that place shifted out.
+#[inline(always)]
+fn last_from(word: &[u8], from: usize) -> u32
+    requires some { 4 ≤ from }
+    requires within { from ≤ length word.now }
+    requires few { length word.now ≤ from + 4 }
+    ensures { result ≡ from_le_bytes w32 (drop from word.now ++ replicate (from + 4 - length word.now) 0) }
+{
+    let last = match word.last_chunk::<4>() {
+        Some(bytes) => u64::from(u32::from_le_bytes(*bytes)),
+        None => unreachable!(),
+    };
+    (last >> (8 * (from + 4 - word.len()))) as u32
 }
 
 // Whether there are fewer slashes than a path has names at most, where none stands behind another: so it is where there are few

@@ -1,25 +1,12 @@
 -- A number of eight bytes and one of four tell twelve bytes.
-use Rattle.std.proofs.Common.{◌≡◌, ℕ, zero, suc, ◌<◌, List, [], ◌∷◌, ◌++◌, length, take, drop, get_or, refl, sym, ap, ◌∙◌, arith}
+use Rattle.std.proofs.Common.{◌≡◌, ℕ, List, ◌++◌, length, take, drop, refl, sym, ap, ◌∙◌, arith}
 use Rattle.std.specs.Int.{w32, w64, from_le_bytes, to_le_bytes}
 use Rattle.std.proofs.Math.Seq.{take-add}
 use Rattle.std.proofs.lemmas.Bool.{eqb-true}
 use Rattle.std.proofs.lemmas.List.{take_all, length-take-le, length-drop}
 use Rattle.std.proofs.lemmas.Nat.{le_bytes_4, le_bytes_8}
+use Rattle.cg_name.proofs.FewBytes.{AreBytes, bytes_behind, first_bytes}
 use Rattle.cg_name.proofs.path_text.are_same.Goals as goal
-
-abbrev AreBytes : List ℕ → Type 0
-AreBytes xs = (i : ℕ) → get_or xs i 0 < 256
-
-bytes_behind : (n : ℕ) (xs : List ℕ) → AreBytes xs → AreBytes (drop n xs)
-bytes_behind zero xs h = h
-bytes_behind (suc n) [] h = h
-bytes_behind (suc n) (x ∷ xs) h = bytes_behind n xs (λ i. h (suc i))
-
-first_bytes : (n : ℕ) (xs : List ℕ) → AreBytes xs → AreBytes (take n xs)
-first_bytes zero xs h i = omega arith
-first_bytes (suc n) [] h i = h i
-first_bytes (suc n) (x ∷ xs) h zero = h 0
-first_bytes (suc n) (x ∷ xs) h (suc i) = first_bytes n xs (λ j. h (suc j)) i
 
 -- eight bytes by their number
 eight : (xs ys : List ℕ) → length xs ≡ 8 → length ys ≡ 8 → AreBytes xs → AreBytes ys → from_le_bytes w64 xs ≡ from_le_bytes w64 ys → xs ≡ ys
