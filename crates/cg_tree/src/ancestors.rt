@@ -1,5 +1,5 @@
 //! The way from a path up to the root, one group after another.
-ghost use Rattle.std.specs.Prelude.{◌≡◌, ◌∷◌, [], MatchOption, length, option_copied, suc};
+ghost use Rattle.std.specs.Prelude.{◌≡◌, ◌≤◌, ◌∷◌, [], MatchOption, length, option_copied, suc};
 ghost use Rattle.std.specs.Iterator.{item_count, YieldsFirstBy};
 ghost use Rattle.cg_tree.specs.Ancestors.{ancestors, ancestors_above};
 ghost use Rattle.cg_tree.specs.Upward.{going_up, IsBelow, IsDeepest};
@@ -145,12 +145,22 @@ fn next_up<'a>(
     })
 }
 
-// The deepest node on the path, if there is any.
-pub(crate) fn deepest(nodes: &PathTree<Entry>, path: &Path) -> Option<NodeKey>
-    ensures { IsDeepest nodes.now path.now (suc (length path.now)) result }
+// The deepest node on the path, if there is any, and how many names the path has. Most often it has a node, which knows that.
+pub(crate) fn deepest(nodes: &PathTree<Entry>, path: &Path) -> (Option<NodeKey>, u32)
+    ensures node { IsDeepest nodes.now path.now (suc (length path.now)) result.0 }
+    ensures depth { result.1 ≡ length path.now }
+    ensures few { result.1 ≤ 64 }
 {
-    let (key, _) = nodes.deepest(path)?;
-    Some(key)
+    // The path tells that it has few names.
+    let _ = path.names();
+    if let Some(key) = nodes.find(path) {
+        return (Some(key), nodes.depth(key));
+    }
+    let at = match nodes.deepest_above(path) {
+        Some((key, _)) => Some(key),
+        None => None,
+    };
+    (at, path.depth())
 }
 
 // The deepest node above the path, if there is any.

@@ -251,8 +251,8 @@ impl Groups {
         ensures { result ≡ downward (ancestor_in self.now.groups path.now) (suc (length path.now)) }
     {
         self.nodes.laws();
-        let at = deepest(&self.nodes, path);
-        Ancestors::new(&self.nodes, at, path.depth() + 1)
+        let (at, depth) = deepest(&self.nodes, path);
+        Ancestors::new(&self.nodes, at, depth + 1)
     }
 
     // What the map has at each path above.

@@ -10,15 +10,15 @@ pub new-requires : goal.new-requires
 new-requires c =
     let nodes = c.self.inside.nodes in
     let p = c.args.path.now in
-    let all : c.depth.result + 1 ≡ suc (length p) = omega (arith, c.depth.ensures.value) in
-    starts_below nodes c.laws.ensures.one_path p (c.depth.result + 1) (omega (arith, all)) c.deepest-at.result (subst (λ n. IsDeepest nodes p n c.deepest-at.result) (sym all) c.deepest-at.ensures)
+    let all : c.deepest-at.result.1 + 1 ≡ suc (length p) = omega (arith, c.deepest-at.ensures.depth) in
+    starts_below nodes c.laws.ensures.one_path p (c.deepest-at.result.1 + 1) (omega (arith, all)) c.deepest-at.result.0 (subst (λ n. IsDeepest nodes p n c.deepest-at.result.0) (sym all) c.deepest-at.ensures.node)
 
 pub returns : goal.returns
 returns c =
     let nodes = c.self.inside.nodes in
     let p = c.args.path.now in
-    let all : c.depth.result + 1 ≡ suc (length p) = omega (arith, c.depth.ensures.value) in
+    let all : c.deepest-at.result.1 + 1 ≡ suc (length p) = omega (arith, c.deepest-at.ensures.depth) in
     c.new.ensures
-    ∙ ap (going_up nodes c.deepest-at.result) all
-    ∙ all_told nodes c.laws.ensures.closed c.laws.ensures.one_path c.laws.ensures.both c.self.invariant.counted p (suc (length p)) (omega arith) c.deepest-at.result c.deepest-at.ensures
+    ∙ ap (going_up nodes c.deepest-at.result.0) all
+    ∙ all_told nodes c.laws.ensures.closed c.laws.ensures.one_path c.laws.ensures.both c.self.invariant.counted p (suc (length p)) (omega arith) c.deepest-at.result.0 c.deepest-at.ensures.node
     ∙ ap (λ (v : Contents). downward (ancestor_in v.groups p) (suc (length p))) c.self.view_is
