@@ -1,13 +1,14 @@
 //! What each accepted command changes, and the inverse of that.
+ghost use Rattle.std.specs.Prelude.{◌≡◌, IfOk, Ok, is_ok, true};
 ghost use Rattle.cg_command.specs.Applied.{IsCarriedOut};
 ghost use Rattle.cg_model.specs.Command as model;
 ghost use Rattle.cg_model.specs.Command.{IsAccepted};
 ghost use Rattle.cg_model.specs.Effect.{effect};
+ghost use Rattle.cg_model.specs.File.{file};
 
-use crate::boxed_text::BoxedText;
 use crate::command::Outcome;
-use cg_boxed::{BoxedCpus, BoxedSettings, CompactSettings};
-use cg_derive::{fixed_text, text_of_file};
+use cg_boxed::{BoxedCpus, BoxedSettings, BoxedText, CompactSettings};
+use cg_derive::{fixed_text, write_file};
 use cg_inverse::{Change, Inverse};
 use cg_name::Path;
 use cg_text::{FileName, Limit};
@@ -220,14 +221,34 @@ pub(crate) fn show(
     path: &Path,
     file: FileName,
     alloc: Global,
-    tree: &Tree,
+    tree: &mut Tree,
 ) -> Result<(Outcome, Inverse), AllocError>
-    requires { IsAccepted (effect (model.Show path.now file) tree.now.tree) }
-    ensures { IsCarriedOut (model.Show path.now file) tree.now result tree.now }
+    requires { IsAccepted (effect (model.Show path.now file) tree.old.tree) }
+    ensures { IsCarriedOut (model.Show path.now file) tree.old result tree.new }
 {
-    let text = match fixed_text(tree, path, file) {
-        Some(text) => BoxedText::new(alloc, text)?,
-        None => BoxedText::new(alloc, text_of_file(alloc, tree, path, file)?.as_slice())?,
+    let text = match fixed_text(&*tree, path, file) {
+        Some(text) => tree.text(alloc, text)?,
+        None => made_text(path, file, alloc, tree)?,
     };
     Ok((Outcome::Text(text), Inverse::new(alloc)))
+}
+
+// The text of the file, which is none of a few: it is written where the one before was, and kept where none equals it.
+fn made_text(
+    path: &Path,
+    name: FileName,
+    alloc: Global,
+    tree: &mut Tree,
+) -> Result<BoxedText, AllocError>
+    requires present { is_ok (file tree.old.tree path.now name) ≡ true }
+    ensures text { IfOk result (λ text. file tree.old.tree path.now name ≡ Ok text) }
+    ensures same { tree.new ≡ tree.old }
+{
+    let mut room = tree.take_room();
+    let text = match write_file(alloc, &*tree, path, name, &mut room) {
+        Ok(()) => tree.text(alloc, room.as_slice()),
+        Err(error) => Err(error),
+    };
+    tree.give_room(room);
+    text
 }

@@ -15,7 +15,6 @@ ghost use Rattle.cg_tree.specs.Room.{has_entry};
 
 use crate::apply;
 use crate::apply::{create, freeze, max_depth, max_descendants, migrate, online, remove, show};
-use crate::boxed_text::BoxedText;
 use crate::checks::{
     check_cpus, check_create, check_freeze, check_limit, check_migrate, check_remove, check_show,
     check_subtree,
@@ -25,7 +24,7 @@ use crate::online_cpus::OnlineCpus;
 use crate::pid::Pid;
 use crate::shared_cpus::SharedCpus;
 use crate::subtree::subtree;
-use cg_boxed::LowCpus;
+use cg_boxed::{BoxedText, LowCpus};
 use cg_cpus::CpuSet;
 use cg_inverse::Inverse;
 use cg_name::{Path, Refusal};

@@ -2,7 +2,6 @@
 #![tactic(auto)]
 
 mod apply;
-mod boxed_text;
 mod checks;
 mod command;
 mod compact_ops;
@@ -12,7 +11,7 @@ mod pid;
 mod shared_cpus;
 mod subtree;
 
-pub use boxed_text::BoxedText;
+pub use cg_boxed::BoxedText;
 pub use command::{Command, Outcome};
 pub use compact_ops::CompactOps;
 pub use online_cpus::OnlineCpus;

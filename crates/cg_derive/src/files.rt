@@ -1,5 +1,5 @@
 //! The interface files of a group (the kernel's cgroup-v2 page, "Core Interface Files" and "Cpuset Interface Files").
-ghost use Rattle.std.specs.Prelude.{◌≡◌, ◌≢◌, true, None, Ok, Err, is_ok, is_some, IfOk, IfErr, IfSome, OnOk};
+ghost use Rattle.std.specs.Prelude.{◌≡◌, ◌≢◌, [], true, None, Ok, Some, Err, is_ok, is_some, IfOk, IfErr, IfSome, OnOk};
 ghost use Rattle.cg_model.specs.Derived.{available, processes, with_cpuset};
 ghost use Rattle.cg_model.specs.File.{file};
 ghost use Rattle.cg_model.specs.Tree.{group};
@@ -7,6 +7,7 @@ ghost use Rattle.cg_name.specs.declared.file_name.FileName.TheVariants.{Events, 
 ghost use Rattle.cg_name.specs.declared.refusal.Refusal.TheVariants.{Memory, NoGroup};
 
 use crate::values::{available, effective_cpus, is_frozen};
+use cg_boxed::CompactSettings;
 use cg_name::{Path, Refusal};
 use cg_text::{
     FileName, events_bytes, flag_bytes, write_controllers, write_cpus, write_events, write_flag,
@@ -77,12 +78,7 @@ pub fn fixed_text(tree: &Tree, path: &Path, name: FileName) -> Option<&'static [
 {
     match name {
         FileName::Events => Some(events_bytes(tree.is_populated(path), is_frozen(tree, path))),
-        FileName::Freeze => {
-            let Some(settings) = tree.settings(path) else {
-                unreachable!();
-            };
-            Some(flag_bytes(settings.freeze()))
-        }
+        FileName::Freeze => { Some(flag_bytes(own_settings(tree, path).freeze())) }
         _ => None,
     }
 }
@@ -97,36 +93,62 @@ pub fn text_of_file(
     requires present { is_ok (file tree.now.tree path.now name) ≡ true }
     ensures value { IfOk result (λ text. file tree.now.tree path.now name ≡ Ok text.items) }
 {
-    let Some(settings) = tree.settings(path) else {
-        unreachable!();
-    };
     let mut text = Vec::with_capacity(alloc, USUAL_TEXT)?;
-    match name {
-        FileName::Procs => write_procs(tree.processes(alloc, path)?.as_slice(), &mut text)?,
-        FileName::Controllers => {
-            if let Some(controllers) = available(tree, path) {
-                write_controllers(controllers, &mut text)?;
-            }
-        }
-        FileName::SubtreeControl => write_controllers(settings.control(), &mut text)?,
-        FileName::Events => {
-            write_events(tree.is_populated(path), is_frozen(tree, path), &mut text)?
-        }
-        FileName::Freeze => write_flag(settings.freeze(), &mut text)?,
-        FileName::Cpus => write_cpus(settings.cpus().get(), &mut text)?,
-        FileName::EffectiveCpus => write_cpus(effective_cpus(tree, path), &mut text)?,
-        FileName::MaxDescendants => write_limit(settings.max_descendants(), &mut text)?,
-        FileName::MaxDepth => write_limit(settings.max_depth(), &mut text)?,
-    }
+    write_file(alloc, tree, path, name, &mut text)?;
     Ok(text)
 }
 
-// Whether the group has the `cpuset` controller.
+/// Writes the text of the file of the group at the path, which has such a file, into an empty list of bytes. An error, where there is no
+/// memory for it.
+pub fn write_file(
+    alloc: Global,
+    tree: &Tree,
+    path: &Path,
+    name: FileName,
+    out: &mut Vec<u8>,
+) -> Result<(), AllocError>
+    requires present { is_ok (file tree.now.tree path.now name) ≡ true }
+    requires empty { out.old.items ≡ [] }
+    ensures value { OnOk result (file tree.now.tree path.now name ≡ Ok out.new.items) }
+{
+    match name {
+        FileName::Procs => write_procs(tree.processes(alloc, path)?.as_slice(), out),
+        FileName::Controllers => match available(tree, path) {
+            Some(controllers) => write_controllers(controllers, out),
+            None => Ok(()),
+        },
+        FileName::SubtreeControl => write_controllers(own_settings(tree, path).control(), out),
+        FileName::Events => write_events(tree.is_populated(path), is_frozen(tree, path), out),
+        FileName::Freeze => write_flag(own_settings(tree, path).freeze(), out),
+        FileName::Cpus => write_cpus(own_settings(tree, path).cpus().get(), out),
+        FileName::EffectiveCpus => write_cpus(effective_cpus(tree, path), out),
+        FileName::MaxDescendants => write_limit(own_settings(tree, path).max_descendants(), out),
+        FileName::MaxDepth => write_limit(own_settings(tree, path).max_depth(), out),
+    }
+}
+
+// The settings of the group at the path.
+#[inline(always)]
+fn own_settings<'a>(tree: &'a Tree, path: &Path) -> &'a CompactSettings
+    requires present { is_some (group tree.now.tree path.now) ≡ true }
+    ensures { group tree.now.tree path.now ≡ Some result.now }
+{
+    match tree.settings(path) {
+        Some(settings) => settings,
+        None => unreachable!(),
+    }
+}
+
+// Whether the group, which is there, has the `cpuset` controller.
 fn has_cpuset(tree: &Tree, path: &Path) -> bool
+    requires present { is_some (group tree.now.tree path.now) ≡ true }
     ensures { result ≡ with_cpuset (available tree.now.tree path.now) }
 {
-    match available(tree, path) {
-        Some(controllers) => controllers.cpuset,
+    if path.is_root() {
+        return tree.controllers().cpuset;
+    }
+    match tree.parent_settings(path) {
+        Some(parent) => parent.control().cpuset,
         None => false,
     }
 }

@@ -4,5 +4,5 @@
 mod files;
 mod values;
 
-pub use files::{check_file, file, fixed_text, procs, text_of_file};
+pub use files::{check_file, file, fixed_text, procs, text_of_file, write_file};
 pub use values::{available, effective, frozen, populated};

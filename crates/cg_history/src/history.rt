@@ -2,7 +2,6 @@
 ghost use Rattle.std.specs.Prelude.{◌≡◌, ◌+◌, ◌-◌, ◌<◌, ◌≤◌, ◌^◌, ◌∷◌, [], length, OnErr, OnOk};
 ghost use Rattle.cg_model.specs.Opens.{begins, commits};
 
-use crate::recent_texts::RecentTexts;
 use crate::record::{Answer, Record};
 use std::alloc::{AllocError, Global};
 use std::marker::Model;
@@ -14,7 +13,6 @@ pub struct History {
     reserved: usize,
     begun: u32,
     committed: u32,
-    texts: RecentTexts,
 }
 
 // By hand, so that whoever drops one calls this, and doesn't drop each thing in it: that makes proofs shorter.
@@ -25,7 +23,6 @@ impl Drop for History {
             reserved: _,
             begun: _,
             committed: _,
-            texts: _,
         } = self;
     }
 }
@@ -61,7 +58,6 @@ impl History {
             reserved: 0,
             begun: 0,
             committed: 0,
-            texts: RecentTexts::new(alloc),
         }
     }
 
@@ -108,7 +104,6 @@ impl History {
         ensures err { OnErr result (self.new ≡ self.old) }
     {
         let reserved = self.reserved + more;
-        self.texts.make_room()?;
         self.records.reserve(reserved)?;
         self.reserved = reserved;
         Ok(())
@@ -140,7 +135,6 @@ impl History {
                 self.committed += 1;
                 Answer::Committed(number)
             }
-            Answer::Text(text) => Answer::Text(self.texts.shared(text)),
             other => other,
         };
         self.records.push_reserved(Record {

@@ -3,7 +3,6 @@
 
 mod history;
 mod recent_places;
-mod recent_texts;
 mod record;
 mod session;
 mod session_map;

@@ -1,5 +1,5 @@
 //! Groups and processes, and which paths have an entry.
-ghost use Rattle.std.specs.Prelude.{◌≡◌, ◌↔◌, IsTrue, is_some, false, true, Some, IfOk, IfSome, IsOk, IsSome, OnOk, OnErr, slice_get, option_copied, option_map, None};
+ghost use Rattle.std.specs.Prelude.{◌≡◌, ◌↔◌, [], IsTrue, is_some, false, true, Some, IfOk, IfSome, IsOk, IsSome, OnOk, OnErr, slice_get, option_copied, option_map, None};
 ghost use Rattle.cg_maps.specs.FiniteMap.{domain, entries, keys, set_at};
 ghost use Rattle.cg_model.specs.Sound.{Sound};
 ghost use Rattle.cg_model.specs.Key.{replaced};
@@ -18,7 +18,7 @@ use crate::new_value::NewValue;
 use crate::pids::Pids;
 use crate::placed::Placed;
 use crate::worlds::{add_groups, add_places, add_processes, pids_of, with_entries};
-use cg_boxed::CompactSettings;
+use cg_boxed::{BoxedText, CompactSettings, RecentTexts};
 use cg_cpus::CpuSet;
 use cg_name::Path;
 use cg_path_tree::NodeKey;
@@ -26,6 +26,7 @@ use cg_text::Controllers;
 use cg_world::{PlainTree, World};
 use std::alloc::{AllocError, Global};
 use std::marker::Model;
+use std::mem::replace;
 
 /// Groups and processes, with an entry for each group and for dead paths: those of groups that were taken away and may
 /// have to be put back.
@@ -38,6 +39,10 @@ pub struct Tree {
     pids: Vec<u32>,
     // Whether a group may have a limit: not as long as none ever had one.
     may_limit: bool,
+    // Texts of files that were shown last, which those that are shown next share.
+    texts: RecentTexts,
+    // Room in which the next text is made.
+    room: Vec<u8>,
 }
 
 // By hand, so that whoever drops one calls this, and doesn't drop each thing in it: that makes proofs shorter.
@@ -49,6 +54,8 @@ impl Drop for Tree {
             groups: _,
             pids: _,
             may_limit: _,
+            texts: _,
+            room: _,
         } = self;
     }
 }
@@ -85,6 +92,8 @@ impl Tree {
             groups,
             pids: pids_of(alloc, places)?,
             may_limit: have_limit(listed),
+            texts: RecentTexts::new(alloc),
+            room: Vec::new(alloc),
         })
     }
 
@@ -229,6 +238,33 @@ impl Tree {
             Some(key) => Some(key.number()),
             None => None,
         }
+    }
+
+    /// The text of these bytes. Where an equal one was made shortly before, it takes no memory.
+    #[inline(always)]
+    pub fn text(&mut self, alloc: Global, bytes: &[u8]) -> Result<BoxedText, AllocError>
+        ensures text { IfOk result (λ t. t ≡ bytes.now) }
+        ensures same { self.new ≡ self.old }
+    {
+        self.texts.text(alloc, bytes)
+    }
+
+    /// An empty list of bytes, with the room of the one that was given back last. Takes no memory.
+    pub fn take_room(&mut self) -> Vec<u8>
+        ensures empty { result.items ≡ [] }
+        ensures same { self.new ≡ self.old }
+    {
+        let alloc = *self.room.allocator();
+        let mut room = replace(&mut self.room, Vec::new(alloc));
+        room.clear();
+        room
+    }
+
+    /// Gives a list's room back, for the next one.
+    pub fn give_room(&mut self, room: Vec<u8>)
+        ensures { self.new ≡ self.old }
+    {
+        self.room = room;
     }
 
     /// Where the path's text is long and it has an entry, it shares the text of that from now on, and lets go of its own: so what

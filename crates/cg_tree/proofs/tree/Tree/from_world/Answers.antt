@@ -28,6 +28,8 @@ invariant_of-result c =
       groups = c.add_processes.new.groups;
       pids = c.in_ok-pids_of.field-0;
       may_limit = c.have_limit.result;
+      texts = c.new.result;
+      room = c.new-2.result;
     } in
     let groups = c.add_processes.ensures.groups in
     record {
